@@ -1,0 +1,191 @@
+//! Times the C interface of the library against plain Rust, in one run and on the same inputs. Fails
+//! where the library takes more than `LIMIT` times as long.
+
+#[path = "../tests/capi.rs"]
+mod capi;
+mod plain;
+#[allow(dead_code)]
+#[path = "../tests/random.rs"]
+mod random;
+
+use capi::{CountAnswer, RunAnswer};
+use random::Random;
+use std::hint::black_box;
+use std::time::Instant;
+
+const LIMIT: f64 = 1.2;
+const ROUNDS: usize = 401;
+const CASCADES: usize = 8;
+/// Gates handled between two readings of the clock.
+const GATES_A_ROUND: usize = 32_768;
+
+// ---- the two sides
+
+type Run = fn(u64, &[u64], u64) -> RunAnswer;
+type Inverse = fn(u64, &[u64], &mut [u64]) -> CountAnswer;
+
+fn library_run(n: u64, words: &[u64], state: u64) -> RunAnswer {
+    unsafe { capi::cascade_run(n, words.as_ptr(), words.len(), state) }
+}
+
+fn library_inverse(n: u64, words: &[u64], out: &mut [u64]) -> CountAnswer {
+    let (start, room) = (out.as_mut_ptr(), out.len());
+    unsafe { capi::cascade_inverse(n, words.as_ptr(), words.len(), start, room) }
+}
+
+// ---- inputs
+
+/// Cascades of one kind, to be called in turn.
+struct Work {
+    name: &'static str,
+    lines: u64,
+    cascades: Vec<Vec<u64>>,
+}
+
+/// Valid gates; `controls` draws the mask of control lines.
+fn work(name: &'static str, lines: u64, gates: usize, controls: fn(&mut Random) -> u64) -> Work {
+    let mut random = Random::new(lines);
+    let mut cascade = || {
+        let mut words = Vec::with_capacity(3 * gates);
+        for _ in 0..gates {
+            let target = random.below(lines);
+            let mask = controls(&mut random) & (u64::MAX >> (64 - lines)) & !(1 << target);
+            let positive = mask & random.word();
+            words.extend([positive, mask & !positive, target]);
+        }
+        words
+    };
+    Work {
+        name,
+        lines,
+        cascades: (0..CASCADES).map(|_| cascade()).collect(),
+    }
+}
+
+fn works() -> Vec<Work> {
+    let none = |_: &mut Random| 0;
+    let few = |random: &mut Random| (1 << random.below(64)) | (1 << random.below(64));
+    let half = |random: &mut Random| random.word();
+    let quarter = |random: &mut Random| random.word() & random.word();
+    vec![
+        work("1,024 gates, 64 lines, few controls", 64, 1024, few),
+        work("1,024 gates, 64 lines, many controls", 64, 1024, half),
+        work("1,024 gates, 64 lines, no controls", 64, 1024, none),
+        work("16 gates, 8 lines, few controls", 8, 16, quarter),
+    ]
+}
+
+// ---- equal answers
+
+/// Equal answers on what is timed, where every call is served, and on refusals of each kind.
+fn check_equal(works: &[Work]) {
+    for work in works {
+        for words in &work.cascades {
+            assert_eq!(plain::run(work.lines, words, 0).number, 0);
+            same(work.lines, words, 0, words.len());
+            let last_state = u64::MAX >> (64 - work.lines);
+            same(work.lines, words, last_state, words.len() + 2);
+        }
+    }
+    let words = &works[0].cascades[0];
+    let mut bad = words.clone();
+    bad[3 * 700] = u64::MAX;
+    bad[3 * 800 + 2] = 64;
+    let too_long = [&words[..], &bad].concat();
+    for n in [0, 1, 63, 64, 65, u64::MAX] {
+        for words in [words, &bad, &too_long, &vec![], &vec![0; 3]] {
+            for cut in 0..3.min(words.len() + 1) {
+                same(n, &words[..words.len() - cut], 1 << 62, words.len());
+                same(n, &words[..words.len() - cut], u64::MAX, words.len() / 2);
+            }
+        }
+    }
+}
+
+/// Both sides give the same answers and the same buffer.
+fn same(n: u64, words: &[u64], state: u64, room: usize) {
+    assert_eq!(library_run(n, words, state), plain::run(n, words, state));
+    let mut outs = [vec![9; room], vec![9; room]];
+    let library = library_inverse(n, words, &mut outs[0]);
+    assert_eq!(library, plain::inverse(n, words, &mut outs[1]));
+    assert_eq!(outs[0], outs[1]);
+}
+
+// ---- time
+
+/// Nanoseconds of one call; each call's state is the one before's output.
+fn time_run(work: &Work, run: Run) -> f64 {
+    let calls = GATES_A_ROUND / (work.cascades[0].len() / 3);
+    let mut state = 1;
+    let start = Instant::now();
+    for call in 0..calls {
+        let words = &work.cascades[call % CASCADES];
+        state = run(work.lines, black_box(words), state).state;
+    }
+    black_box(state);
+    start.elapsed().as_nanos() as f64 / calls as f64
+}
+
+/// Nanoseconds of one call, into a buffer of exactly the answer's length.
+fn time_inverse(work: &Work, inverse: Inverse) -> f64 {
+    let calls = GATES_A_ROUND / (work.cascades[0].len() / 3);
+    let mut out = vec![0; work.cascades[0].len()];
+    let start = Instant::now();
+    for call in 0..calls {
+        let words = &work.cascades[call % CASCADES];
+        black_box(inverse(work.lines, black_box(words), black_box(&mut out)));
+    }
+    start.elapsed().as_nanos() as f64 / calls as f64
+}
+
+fn median(mut numbers: Vec<f64>) -> f64 {
+    numbers.sort_by(f64::total_cmp);
+    numbers[numbers.len() / 2]
+}
+
+/// Prints a row, and tells whether the ratio is within the limit. The sides take turns at being
+/// first in a round, and the ratio is the median of the rounds' ratios.
+fn compare(call: &str, work: &str, library: impl Fn() -> f64, plain: impl Fn() -> f64) -> bool {
+    let (mut ours, mut theirs, mut ratios) = (Vec::new(), Vec::new(), Vec::new());
+    for round in 0..ROUNDS {
+        let (own, other) = if round % 2 == 0 {
+            let own = library();
+            (own, plain())
+        } else {
+            let other = plain();
+            (library(), other)
+        };
+        ours.push(own);
+        theirs.push(other);
+        ratios.push(own / other);
+    }
+    let ratio = median(ratios);
+    let (ours, theirs) = (median(ours), median(theirs));
+    let verdict = if ratio > LIMIT { "  TOO SLOW" } else { "" };
+    println!("{call:<16} {work:<38} {ours:>9.1} {theirs:>9.1} {ratio:>6.2}{verdict}");
+    ratio <= LIMIT
+}
+
+fn main() {
+    let works = works();
+    check_equal(&works);
+    let head = ["call", "cascades", "ns", "plain ns", "ratio"];
+    let [call, work, ours, theirs, ratio] = head;
+    println!("{call:<16} {work:<38} {ours:>9} {theirs:>9} {ratio:>6}");
+    let mut good = true;
+    for work in &works {
+        let library = || time_run(work, library_run);
+        let plain = || time_run(work, plain::run);
+        good &= compare("cascade_run", work.name, library, plain);
+    }
+    for work in &works {
+        let library = || time_inverse(work, library_inverse);
+        let plain = || time_inverse(work, plain::inverse);
+        good &= compare("cascade_inverse", work.name, library, plain);
+    }
+    if !good {
+        println!("bench: a ratio is above {LIMIT}");
+        std::process::exit(1);
+    }
+    println!("bench: no ratio is above {LIMIT}");
+}

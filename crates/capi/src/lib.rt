@@ -1,0 +1,4 @@
+// The C interface: each call of include/cascade.h, over the call of the same name.
+pub mod count;
+pub mod inverse;
+pub mod run;

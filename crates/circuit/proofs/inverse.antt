@@ -1,0 +1,2 @@
+-- `Laws` has the laws of `specs/Inverse.antt`.
+pub mod Laws

@@ -1,0 +1,2 @@
+-- `Laws` has the laws of `specs/Run.antt`.
+pub mod Laws

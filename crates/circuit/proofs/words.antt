@@ -1,0 +1,2 @@
+-- `Laws` has the laws of `specs/Words.antt`.
+pub mod Laws

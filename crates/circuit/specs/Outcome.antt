@@ -1,0 +1,30 @@
+-- What a call answers and leaves, in document 01's numbers and values.
+use mathlib.Core.Path.{_≡_}
+use mathlib.Core.Bool.{Bool, cond}
+use mathlib.Core.List.{List}
+use Prim.Native.Nat.{ℕ}
+use Rattle.bits.specs.Lists.{over}
+
+-- served with a value, or refused with a number and a place
+pub data Outcome (A : Type 0) : Type 0 where
+  served : A → Outcome A
+  refused : ℕ → ℕ → Outcome A
+
+-- the call goes on where the test holds, and is else refused
+abbrev pub demand : {A : Type 0} → Bool → ℕ → ℕ → Outcome A → Outcome A
+demand test number place more = cond test more (refused number place)
+
+-- the call goes on with what was served; a refusal stands
+abbrev pub andThen : {A B : Type 0} → Outcome A → (A → Outcome B) → Outcome B
+andThen (served a) more = more a
+andThen (refused number place) more = refused number place
+
+-- a buffer after the call: the answer at its start and the rest as it was, or untouched by a refusal
+abbrev pub written : {A B : Type 0} → Outcome A → List B → List B → List B
+written (served a) front out = over front out
+written (refused number place) front out = out
+
+-- what a call that writes a buffer owes: its answer and the buffer's last contents
+pub record Yields {R B : Type 0} (told : R) (last : List B) (expected : R) (contents : List B) : Type 0 where
+  pub answer : told ≡ expected
+  pub buffer : last ≡ contents

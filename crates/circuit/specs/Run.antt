@@ -1,0 +1,37 @@
+-- A cascade on a state: the first gate acts first.
+use mathlib.Core.Path.{_≡_}
+use mathlib.Core.List.{List}
+use Prim.Native.Nat.{ℕ, _^_, _<_}
+use lib.Dec.{ltb}
+use Rattle.bits.specs.Lists.{fold}
+use Rattle.circuit.specs.declared.gate.Gate.{Gate}
+use Rattle.circuit.specs.declared.run.RunAnswer.{RunAnswer}
+use Rattle.circuit.specs.declared.run.RunAnswer.the-variants.{State, Refused}
+use Rattle.circuit.specs.Gate.{maxGates, apply}
+use Rattle.circuit.specs.Outcome.{Outcome, served, refused, demand, andThen}
+use Rattle.circuit.specs.Refusal.{badState}
+use Rattle.circuit.specs.Words.{gatesOf, checkOutcome}
+
+-- the output state
+abbrev pub run : List Gate → ℕ → ℕ
+run gates state = fold apply gates state
+
+-- two cascades on n lines give the same output on every state
+abbrev pub Equal : ℕ → List Gate → List Gate → Type 0
+Equal n a b = (x : ℕ) → x < 2 ^ n → run a x ≡ run b x
+
+-- x is a state of n lines on which two cascades give different outputs
+pub record Differs (n : ℕ) (a b : List Gate) (x : ℕ) : Type 0 where
+  pub state : x < 2 ^ n
+  pub outputs : run a x ≡ run b x → ⊥
+
+-- 2, 11, 6, 7, 9
+unfoldable pub runOutcome : ℕ → List ℕ → ℕ → Outcome ℕ
+runOutcome n ws s =
+    andThen (checkOutcome n ws maxGates) (λ k.
+    demand (ltb s (2 ^ n)) badState 0 (served (run (gatesOf ws) s)))
+
+-- the answer in document 01's numbers and values
+abbrev pub ofRun : RunAnswer → Outcome ℕ
+ofRun (State s) = served s
+ofRun (Refused r) = refused (r .number) (r .place)

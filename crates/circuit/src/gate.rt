@@ -1,0 +1,136 @@
+// A gate: the masks of its positive and negative controls, and its target line.
+
+ghost use mathlib.Core.Path.{_≡_};
+ghost use Prim.Native.Nat.{_^_, _<_, _≤_};
+ghost use lib.Dec.{eqb, ltb};
+ghost use lib.Bits.{bitAnd};
+ghost use lib.Count.{ones};
+ghost use Rattle.circuit.specs.Gate.{maxLines, notGate, fires, inverted, apply, valid, controlCount};
+
+#[repr(C)]
+pub struct Gate {
+    pub positive: u64,
+    pub negative: u64,
+    pub target: u64,
+}
+
+// Whether the mask has no bit at n or above.
+pub fn below(mask: u64, n: u64) -> bool
+    ensures { λ r. ⌜ r ≡ ltb mask (2 ^ n) ⌝ }
+{
+    if n < Gate::MAX_LINES {
+        return (mask >> n) == 0;
+    }
+    true
+}
+
+// The mask of line k alone.
+fn line(k: u64) -> u64
+    requires { ⌜ k < maxLines ⌝ }
+    ensures { λ r. ⌜ r ≡ 2 ^ k ⌝ }
+{
+    1 << k
+}
+
+// Whether line k does not stand in the mask.
+fn clear(mask: u64, k: u64) -> bool
+    ensures { λ r. ⌜ r ≡ eqb (bitAnd mask (2 ^ k)) 0 ⌝ }
+{
+    if k < Gate::MAX_LINES {
+        return (mask & line(k)) == 0;
+    }
+    true
+}
+
+// How many bits of the mask are set.
+fn count(mask: u64) -> u64
+    ensures { λ r. ⌜ (r ≡ ones mask) × (r ≤ maxLines) ⌝ }
+{
+    u64::count_ones(mask) as u64
+}
+
+impl Gate {
+    pub const MAX_LINES: u64 = 64;
+
+    // Gates of a cascade.
+    pub const MAX_GATES: usize = 1024;
+
+    // Gates of a miter.
+    pub const MAX_MITER_GATES: usize = 2048;
+
+    // Words of a gate in memory.
+    pub const WORDS: usize = 3;
+
+    // The gate without controls.
+    pub fn not(target: u64) -> Gate
+        ensures { λ r. ⌜ r ≡ notGate target ⌝ }
+    {
+        Gate {
+            positive: 0,
+            negative: 0,
+            target,
+        }
+    }
+
+    // Whether the record is a gate on n lines.
+    pub fn valid(self, n: u64) -> bool
+        ensures { λ r. ⌜ r ≡ valid n self ⌝ }
+    {
+        let positive = self.positive;
+        let negative = self.negative;
+        let target = self.target;
+        if n <= target {
+            return false;
+        }
+        if !below(positive, n) {
+            return false;
+        }
+        if !below(negative, n) {
+            return false;
+        }
+        if (positive & negative) != 0 {
+            return false;
+        }
+        clear(positive | negative, target)
+    }
+
+    // Whether every positive control is 1 and every negative one 0.
+    pub fn fires(self, state: u64) -> bool
+        ensures { λ r. ⌜ r ≡ fires self state ⌝ }
+    {
+        let positive = self.positive;
+        let negative = self.negative;
+        (((state & positive) ^ positive) | (state & negative)) == 0
+    }
+
+    // The state with the target inverted where the gate fires.
+    pub(crate) fn invert(self, state: u64) -> u64
+        requires { ⌜ self .target < maxLines ⌝ }
+        ensures { λ r. ⌜ r ≡ inverted self state ⌝ }
+    {
+        let target = self.target;
+        if self.fires(state) {
+            return state ^ line(target);
+        }
+        state
+    }
+
+    // The state after the gate; the same one if the record is no gate on 64 lines.
+    pub fn apply(self, state: u64) -> u64
+        ensures { λ r. ⌜ r ≡ apply self state ⌝ }
+    {
+        if self.valid(Gate::MAX_LINES) {
+            return self.invert(state);
+        }
+        state
+    }
+
+    // How many controls the gate has.
+    pub fn control_count(self) -> u64
+        ensures { λ r. ⌜ r ≡ controlCount self ⌝ }
+    {
+        let positive = self.positive;
+        let negative = self.negative;
+        count(positive) + count(negative)
+    }
+}

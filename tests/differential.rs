@@ -1,0 +1,47 @@
+//! Calls the exported C functions of the library and compares them with the reference, in answer
+//! and in every buffer. The argument is the seed, where another than the fixed one is wanted.
+//!
+//! A further call is added by its declaration in capi.rs, its rule in reference.rs, its answer in
+//! expected.rs, and a file in calls/ whose `section` stands in the list below.
+
+mod calls {
+    pub mod inverse;
+    pub mod run;
+}
+mod capi;
+mod classes;
+mod expected;
+mod harness;
+mod inputs;
+mod random;
+mod reference;
+mod rows;
+
+use harness::Counts;
+use random::Random;
+
+const SEED: u64 = 20_240_601;
+
+/// One section a call. It checks its cases and returns its table.
+const SECTIONS: &[fn(&mut Random) -> Counts] = &[calls::run::section, calls::inverse::section];
+
+fn main() {
+    let seed = match std::env::args().nth(1) {
+        Some(word) => word.parse().expect("the seed is a number below 2^64"),
+        None => SEED,
+    };
+    println!("seed {seed}");
+    rows::check();
+    let mut cases = 0;
+    let mut complete = true;
+    for (index, section) in SECTIONS.iter().enumerate() {
+        let counts = section(&mut Random::new(seed.wrapping_add(index as u64)));
+        complete &= counts.report();
+        cases += counts.cases();
+    }
+    if !complete {
+        println!("differential: a class that must occur is missing");
+        std::process::exit(1);
+    }
+    println!("differential: {cases} cases, 0 mismatches");
+}

@@ -1,0 +1,35 @@
+//! The reference's answers in the numbers of the C interface: number 0 for a served call, and 0 for
+//! each value that a case does not have.
+
+use crate::capi::{CountAnswer, RunAnswer};
+use crate::reference::Refusal;
+
+pub fn run_answer(answer: Result<u64, Refusal>) -> RunAnswer {
+    match answer {
+        Ok(state) => RunAnswer {
+            number: 0,
+            place: 0,
+            state,
+        },
+        Err(Refusal { number, place }) => RunAnswer {
+            number,
+            place,
+            state: 0,
+        },
+    }
+}
+
+pub fn count_answer(answer: Result<u64, Refusal>) -> CountAnswer {
+    match answer {
+        Ok(gates) => CountAnswer {
+            number: 0,
+            place: 0,
+            gates,
+        },
+        Err(Refusal { number, place }) => CountAnswer {
+            number,
+            place,
+            gates: 0,
+        },
+    }
+}

@@ -1,0 +1,336 @@
+//! Inputs of the calls: line counts, gates, cascades good and damaged, states, buffer lengths.
+
+use crate::random::Random;
+
+/// A line count and words as a call gets them, good or bad, and a state to start from.
+#[derive(Clone, Debug)]
+pub struct Cascade {
+    pub lines: u64,
+    pub words: Vec<u64>,
+    pub state: u64,
+}
+
+// ---- lines and states
+
+const BAD_LINE_COUNTS: [u64; 12] = [
+    0,
+    65,
+    66,
+    127,
+    128,
+    (1 << 8) + 8,
+    1 << 32,
+    (1 << 32) + 8,
+    (1 << 32) + 64,
+    1 << 63,
+    u64::MAX - 63,
+    u64::MAX,
+];
+
+fn good_line_count(random: &mut Random) -> u64 {
+    match random.below(4) {
+        0 => random.pick(&[1, 2, 31, 32, 33, 62, 63, 64]),
+        1 => 1 + random.below(64),
+        _ => 1 + random.below(8),
+    }
+}
+
+fn bad_line_count(random: &mut Random) -> u64 {
+    if random.one_in(4) {
+        65 + random.below(u64::MAX - 65)
+    } else {
+        random.pick(&BAD_LINE_COUNTS)
+    }
+}
+
+/// The mask of the lines below n that a word has: 2^n - 1, or 2^64 - 1.
+pub fn all_lines(n: u64) -> u64 {
+    if n >= 64 {
+        u64::MAX
+    } else {
+        (1 << n) - 1
+    }
+}
+
+/// The states around the limit for n lines; all up to it where n is small.
+pub fn edge_states(n: u64) -> Vec<u64> {
+    let last = all_lines(n);
+    let mut states: Vec<u64> = if n <= 3 {
+        (0..last).collect()
+    } else {
+        vec![0, 1, last / 2]
+    };
+    states.push(last);
+    if n < 64 {
+        states.extend([last + 1, last + 2, u64::MAX]);
+    }
+    states
+}
+
+/// A state for the cascade: mostly its own, else one around the limit or any word.
+pub fn state(random: &mut Random, cascade: &Cascade) -> u64 {
+    let last = all_lines(cascade.lines);
+    match random.below(10) {
+        0 => last,
+        1 => last.wrapping_add(1),
+        2 => last & random.word(),
+        3 => random.word(),
+        _ => cascade.state,
+    }
+}
+
+// ---- gates
+
+/// A gate on n lines; its controls are often met in the given state, or all but one.
+fn gate(random: &mut Random, n: u64, state: u64) -> [u64; 3] {
+    let target = match random.below(8) {
+        0 => 0,
+        1 => n - 1,
+        _ => random.below(n),
+    };
+    let controls = control_lines(random, n) & all_lines(n) & !(1 << target);
+    let met = match random.below(5) {
+        0 => random.word(),
+        1 => state ^ (1 << random.below(n)),
+        _ => state,
+    };
+    [controls & met, controls & !met, target]
+}
+
+/// No line, one, few, half, or all.
+fn control_lines(random: &mut Random, n: u64) -> u64 {
+    match random.below(7) {
+        0 => 0,
+        1 | 2 => 1 << random.below(n),
+        3 => random.word() & random.word() & random.word(),
+        4 => random.word() & random.word(),
+        5 => random.word(),
+        _ => u64::MAX,
+    }
+}
+
+/// Changes a gate on n lines in one of the ways that 01 forbids.
+fn damage_gate(random: &mut Random, n: u64, gate: &mut [u64]) {
+    let target_bit = 1u64.wrapping_shl(gate[2] as u32);
+    let mask = random.index(2);
+    match random.below(6) {
+        0 => gate[2] = n,
+        1 => gate[2] = n + random.below(70),
+        2 => gate[2] = gate[2].wrapping_add(random.word() << 6),
+        3 => gate[mask] |= line_from(random, n),
+        4 => {
+            let line = (1 << random.below(n)) & !target_bit;
+            gate[0] |= line;
+            gate[1] |= line;
+        }
+        _ => gate[mask] |= target_bit,
+    }
+}
+
+/// The bit of line n or of one above it; none where n is 64.
+fn line_from(random: &mut Random, n: u64) -> u64 {
+    match 64 - n {
+        0 => 0,
+        _ if random.one_in(2) => 1 << n,
+        above => 1 << (n + random.below(above)),
+    }
+}
+
+// ---- cascades
+
+/// A cascade as a caller may pass it, mostly good. Each kind of damage comes alone and with others.
+pub fn cascade(random: &mut Random, limit: usize) -> Cascade {
+    if random.one_in(30) {
+        return small_words(random);
+    }
+    let lines = good_line_count(random);
+    let gates = gate_count(random, limit);
+    let mut cascade = good_cascade(random, lines, gates);
+    if random.one_in(5) {
+        damage_gates(random, lines, &mut cascade.words);
+    }
+    if random.one_in(12) {
+        damage_word_count(random, &mut cascade.words);
+    }
+    if random.one_in(12) {
+        cascade.lines = bad_line_count(random);
+    } else if random.one_in(20) {
+        cascade.lines = good_line_count(random);
+    }
+    cascade
+}
+
+/// A cascade of valid gates, many of which fire when it starts from its state.
+pub fn good_cascade(random: &mut Random, lines: u64, gates: usize) -> Cascade {
+    let start = random.word() & all_lines(lines);
+    let mut state = start;
+    let mut words = Vec::with_capacity(3 * gates);
+    for _ in 0..gates {
+        let [positive, negative, target] = gate(random, lines, state);
+        if (state ^ positive) & (positive | negative) == 0 {
+            state ^= 1 << target;
+        }
+        words.extend([positive, negative, target]);
+    }
+    Cascade {
+        lines,
+        words,
+        state: start,
+    }
+}
+
+/// Small numbers as words; many of them are gates.
+fn small_words(random: &mut Random) -> Cascade {
+    let lines = random.below(6);
+    let len = random.index(13);
+    let words = (0..len).map(|_| random.below(8)).collect();
+    Cascade {
+        lines,
+        words,
+        state: random.below(16),
+    }
+}
+
+fn gate_count(random: &mut Random, limit: usize) -> usize {
+    match random.below(100) {
+        0 => random.pick(&[limit - 1, limit, limit, limit + 1, limit + 2, 2 * limit]),
+        1..=7 => 0,
+        8..=20 => 1,
+        _ => 2 + random.index(12),
+    }
+}
+
+/// Damages up to three gates, the first and the last often among them.
+fn damage_gates(random: &mut Random, lines: u64, words: &mut [u64]) {
+    let gates = words.len() / 3;
+    if gates == 0 {
+        return;
+    }
+    for _ in 0..1 + random.below(3) {
+        let any = random.index(gates);
+        let index = random.pick(&[0, gates - 1, any, any]);
+        damage_gate(random, lines, &mut words[3 * index..3 * index + 3]);
+    }
+}
+
+fn damage_word_count(random: &mut Random, words: &mut Vec<u64>) {
+    if random.one_in(2) {
+        words.truncate(words.len().saturating_sub(1 + random.index(2)));
+    } else {
+        words.extend([0, 0].iter().take(1 + random.index(2)));
+    }
+}
+
+// ---- every edge of the rules
+
+/// Hands over cascades of one gate at every edge of the rules, and long ones around the limit.
+pub fn each_edge(random: &mut Random, limit: usize, check: &mut impl FnMut(Cascade)) {
+    each_small_gate(check);
+    each_control(check);
+    each_target(check);
+    each_long_cascade(random, limit, check);
+}
+
+fn one_gate(lines: u64, gate: [u64; 3]) -> Cascade {
+    Cascade {
+        lines,
+        words: gate.to_vec(),
+        state: 0,
+    }
+}
+
+/// All words of one gate that go at most one line over n, for n up to 3.
+fn each_small_gate(check: &mut impl FnMut(Cascade)) {
+    for lines in 0..=3 {
+        for positive in 0..2 << lines {
+            for negative in 0..2 << lines {
+                for target in 0..lines + 2 {
+                    check(one_gate(lines, [positive, negative, target]));
+                }
+            }
+        }
+    }
+}
+
+/// One control at each line of a word, in each mask, for each n.
+fn each_control(check: &mut impl FnMut(Cascade)) {
+    for lines in 1..=64 {
+        for control in 0..64 {
+            let target = if control == 0 { 1 } else { 0 };
+            check(one_gate(lines, [1 << control, 0, target]));
+            check(one_gate(lines, [0, 1 << control, target]));
+        }
+    }
+}
+
+/// Each target below 67 for each n, and the same ones with high bits set.
+fn each_target(check: &mut impl FnMut(Cascade)) {
+    for lines in 1..=64 {
+        for target in 0..67 {
+            check(one_gate(lines, [0, 0, target]));
+            check(one_gate(lines, [0, 0, target + (1 << 32)]));
+            check(one_gate(lines, [0, 0, u64::MAX - target]));
+        }
+    }
+}
+
+/// Gate counts around the limit with good and bad n, left-over words and bad gates.
+fn each_long_cascade(random: &mut Random, limit: usize, check: &mut impl FnMut(Cascade)) {
+    for gates in [0, 1, 2, limit - 1, limit, limit + 1, 2 * limit] {
+        for lines in [0, 1, 8, 63, 64, 65, u64::MAX] {
+            let gates_on = if (1..=64).contains(&lines) { lines } else { 8 };
+            let good = good_cascade(random, gates_on, gates);
+            for left_over in 0..3 {
+                each_bad_place(&good, |mut cascade| {
+                    cascade.lines = lines;
+                    cascade.words.extend(&[0, 0][..left_over]);
+                    check(cascade);
+                });
+            }
+        }
+    }
+}
+
+/// The cascade itself, then with a bad gate first, in the middle, last, and both first and last.
+fn each_bad_place(good: &Cascade, mut check: impl FnMut(Cascade)) {
+    let gates = good.words.len() / 3;
+    check(good.clone());
+    if gates == 0 {
+        return;
+    }
+    for places in [
+        [0, 0],
+        [gates / 2, gates / 2],
+        [gates - 1, gates - 1],
+        [0, gates - 1],
+    ] {
+        let mut cascade = good.clone();
+        for place in places {
+            cascade.words[3 * place + 2] = 64;
+        }
+        check(cascade);
+    }
+}
+
+// ---- buffers
+
+/// The lengths around what an answer needs.
+pub fn edge_lengths(needed: usize) -> Vec<usize> {
+    let mut lengths = vec![needed, needed + 1, needed + 3];
+    if needed > 0 {
+        lengths.extend([0, needed - 1]);
+    }
+    lengths
+}
+
+/// A buffer's length: mostly enough for an answer, else too short.
+pub fn buffer_length(random: &mut Random, needed: usize) -> usize {
+    match random.below(10) {
+        0 => needed.saturating_sub(1),
+        1 => random.index(needed + 1),
+        2 => 0,
+        3 => needed + 1,
+        4 | 5 => needed + random.index(20),
+        _ => needed,
+    }
+}

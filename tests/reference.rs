@@ -1,0 +1,207 @@
+//! The rules of document 01, a second time. Every rule is spelled line by line and in 01's order,
+//! so that it can be held against the text. No code is shared with the crates, and speed is no aim.
+//! A call of 01 is a function here: it answers its values, or the refusal.
+
+/// The most gates of one cascade.
+pub const CASCADE_GATES: usize = 1024;
+
+/// The number and the place of a refusal.
+#[derive(Clone, Copy, Debug, PartialEq)]
+pub struct Refusal {
+    pub number: u64,
+    pub place: u64,
+}
+
+fn refuse<T>(number: u64, place: u64) -> Result<T, Refusal> {
+    Err(Refusal { number, place })
+}
+
+// ---- gate
+
+/// Three words: positive mask, negative mask, target number.
+#[derive(Clone, Copy, Debug, PartialEq)]
+pub struct Gate {
+    pub positive: u64,
+    pub negative: u64,
+    pub target: u64,
+}
+
+/// Whether the word has a 1 at the line, which is below 64.
+pub fn has(word: u64, line: u64) -> bool {
+    (word >> line) % 2 == 1
+}
+
+impl Gate {
+    /// The words form a gate on n lines.
+    pub fn valid(self, n: u64) -> bool {
+        if self.target >= n {
+            return false;
+        }
+        for line in 0..64 {
+            let positive = has(self.positive, line);
+            let negative = has(self.negative, line);
+            if (positive || negative) && line >= n {
+                return false;
+            }
+            if positive && negative {
+                return false;
+            }
+            if (positive || negative) && line == self.target {
+                return false;
+            }
+        }
+        true
+    }
+
+    /// All positive controls are 1 and all negative ones 0.
+    pub fn fires(self, state: u64) -> bool {
+        for line in 0..64 {
+            if has(self.positive, line) && !has(state, line) {
+                return false;
+            }
+            if has(self.negative, line) && has(state, line) {
+                return false;
+            }
+        }
+        true
+    }
+
+    /// The new state; the same one if the record is no gate on 64 lines.
+    pub fn apply(self, state: u64) -> u64 {
+        if !self.valid(64) {
+            return state;
+        }
+        let fires = self.fires(state);
+        let mut new_state = 0;
+        for line in 0..64 {
+            let inverted = fires && line == self.target;
+            if has(state, line) != inverted {
+                new_state += 1 << line;
+            }
+        }
+        new_state
+    }
+}
+
+/// The whole gates of the words; up to two words that are left over form none.
+pub fn gates_of(words: &[u64]) -> Vec<Gate> {
+    let mut gates = Vec::new();
+    let mut at = 0;
+    while at + 3 <= words.len() {
+        gates.push(Gate {
+            positive: words[at],
+            negative: words[at + 1],
+            target: words[at + 2],
+        });
+        at += 3;
+    }
+    gates
+}
+
+// ---- what is wrong with a call, each test by itself
+
+/// 2: n outside 1 to 64.
+pub fn bad_line_count(n: u64) -> bool {
+    n == 0 || n > 64
+}
+
+/// 11: word count not a multiple of three.
+pub fn bad_word_count(words: &[u64]) -> bool {
+    words.len() % 3 != 0
+}
+
+/// 6: more gates than the limit.
+pub fn too_many_gates(words: &[u64], limit: usize) -> bool {
+    words.len() / 3 > limit
+}
+
+/// 7: the index of the first gate that is none on n lines.
+pub fn first_bad_gate(n: u64, words: &[u64]) -> Option<u64> {
+    for (index, gate) in gates_of(words).iter().enumerate() {
+        if !gate.valid(n) {
+            return Some(index as u64);
+        }
+    }
+    None
+}
+
+/// 9: a state of 2^n or more, that is, with a 1 at line n or above.
+pub fn bad_state(n: u64, state: u64) -> bool {
+    for line in 0..64 {
+        if has(state, line) && line >= n {
+            return true;
+        }
+    }
+    false
+}
+
+/// 10: the buffer is shorter than the answer.
+pub fn short_buffer<T>(out: &[T], answer: usize) -> bool {
+    out.len() < answer
+}
+
+// ---- the tests in order
+
+/// 2, 11, 6, 7 for one cascade; its gates where none holds.
+pub fn test_cascade(n: u64, words: &[u64], limit: usize) -> Result<Vec<Gate>, Refusal> {
+    if bad_line_count(n) {
+        return refuse(2, 0);
+    }
+    if bad_word_count(words) {
+        return refuse(11, 0);
+    }
+    if too_many_gates(words, limit) {
+        return refuse(6, 0);
+    }
+    if let Some(index) = first_bad_gate(n, words) {
+        return refuse(7, index);
+    }
+    Ok(gates_of(words))
+}
+
+/// The tests of the first cascade, those of the second, then 8.
+pub fn test_pair(
+    na: u64,
+    a: &[u64],
+    nb: u64,
+    b: &[u64],
+) -> Result<(Vec<Gate>, Vec<Gate>), Refusal> {
+    let first = test_cascade(na, a, CASCADE_GATES)?;
+    let second = test_cascade(nb, b, CASCADE_GATES)?;
+    if na != nb {
+        return refuse(8, 0);
+    }
+    Ok((first, second))
+}
+
+// ---- run
+
+/// The output state.
+pub fn run(n: u64, words: &[u64], state: u64) -> Result<u64, Refusal> {
+    let gates = test_cascade(n, words, CASCADE_GATES)?;
+    if bad_state(n, state) {
+        return refuse(9, 0);
+    }
+    let mut state = state;
+    for gate in gates {
+        state = gate.apply(state);
+    }
+    Ok(state)
+}
+
+// ---- inverse
+
+/// The gate count; the gates in reverse order are at the buffer's start.
+pub fn inverse(n: u64, words: &[u64], out: &mut [u64]) -> Result<u64, Refusal> {
+    let gates = test_cascade(n, words, CASCADE_GATES)?;
+    if short_buffer(out, words.len()) {
+        return refuse(10, 0);
+    }
+    for i in 0..gates.len() {
+        let gate = gates[gates.len() - 1 - i];
+        out[3 * i] = gate.positive;
+        out[3 * i + 1] = gate.negative;
+        out[3 * i + 2] = gate.target;
+    }
+    Ok(gates.len() as u64)
+}

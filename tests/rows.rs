@@ -1,0 +1,92 @@
+//! Checks of the reference itself: the starred rows of document 01 and small cases worked by hand.
+
+use crate::reference::{self, Gate, Refusal};
+
+pub fn check() {
+    starred_runs();
+    validity();
+    apply_of_no_gate();
+    inverse();
+    pairs();
+}
+
+fn refusal<T>(number: u64, place: u64) -> Result<T, Refusal> {
+    Err(Refusal { number, place })
+}
+
+/// The five starred rows about runs.
+fn starred_runs() {
+    let t2_with_0_and_1 = [3, 0, 2];
+    let t2_with_0_not_1 = [1, 2, 2];
+    let t0 = [0, 0, 0];
+    assert_eq!(reference::run(3, &t2_with_0_and_1, 3), Ok(7));
+    assert_eq!(reference::run(3, &t2_with_0_and_1, 1), Ok(1));
+    assert_eq!(reference::run(3, &t2_with_0_not_1, 1), Ok(5));
+    assert_eq!(reference::run(3, &t2_with_0_not_1, 3), Ok(3));
+    assert_eq!(reference::run(1, &t0, 0), Ok(1));
+}
+
+/// Line counts from 0 to 2^64 - 1. Only 1 to 64 serve a call, and valid has an answer for each.
+fn validity() {
+    let valid = |positive, negative, target, n| {
+        Gate {
+            positive,
+            negative,
+            target,
+        }
+        .valid(n)
+    };
+    assert!(!valid(0, 0, 0, 0));
+    assert!(valid(0, 0, 0, 1) && !valid(0, 0, 1, 1));
+    assert!(valid(2, 0, 0, 2) && !valid(4, 0, 0, 2) && !valid(0, 4, 0, 2));
+    assert!(!valid(2, 2, 0, 2) && !valid(1, 0, 0, 2) && !valid(0, 1, 0, 2));
+    assert!(valid(!1, 0, 0, 64) && !valid(!1, 0, 0, 63));
+    assert!(!valid(0, 0, 64, 64) && valid(0, 0, 64, 65));
+    assert!(valid(u64::MAX, 0, u64::MAX - 1, u64::MAX) && !valid(0, 0, u64::MAX, u64::MAX));
+}
+
+fn apply_of_no_gate() {
+    let no_gate = Gate {
+        positive: 1,
+        negative: 0,
+        target: 0,
+    };
+    assert_eq!(no_gate.apply(1), 1);
+    let no_line = Gate {
+        positive: 0,
+        negative: 0,
+        target: 64,
+    };
+    assert_eq!(no_line.apply(5), 5);
+    let last_line = Gate {
+        positive: 0,
+        negative: 0,
+        target: 63,
+    };
+    assert_eq!(last_line.apply(1), 1 + (1 << 63));
+}
+
+/// The answer is at the start, and the rest stays. A refusal leaves all.
+fn inverse() {
+    let words = [0, 0, 0, 1, 0, 1];
+    let mut out = [9; 7];
+    assert_eq!(reference::inverse(2, &words, &mut out), Ok(2));
+    assert_eq!(out, [1, 0, 1, 0, 0, 0, 9]);
+    let mut short = [9; 5];
+    assert_eq!(reference::inverse(2, &words, &mut short), refusal(10, 0));
+    assert_eq!(reference::inverse(1, &words, &mut short), refusal(7, 1));
+    assert_eq!(short, [9; 5]);
+}
+
+/// The first cascade's refusals, the second's, then 8.
+fn pairs() {
+    let not = [0, 0, 0];
+    let no_gate = [0, 0, 9];
+    let test = reference::test_pair;
+    assert_eq!(test(2, &no_gate, 0, &not), refusal(7, 0));
+    assert_eq!(test(2, &not, 0, &no_gate), refusal(2, 0));
+    assert_eq!(test(2, &not, 3, &no_gate[..2]), refusal(11, 0));
+    assert_eq!(test(2, &not, 3, &no_gate), refusal(7, 0));
+    assert_eq!(test(2, &not, 3, &not), refusal(8, 0));
+    assert!(test(2, &not, 2, &not).is_ok());
+}
