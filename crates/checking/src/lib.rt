@@ -1,0 +1,3 @@
+// Miter, reduction step and full reduction of cascades.
+
+pub mod step;
