@@ -1,2 +1,4 @@
--- The laws of `specs/Step.antt`: `Matching` has those of two gates.
+-- The laws of `specs/Step.antt`: `Matching` has those of two gates, `Searching` those of the search, `Moving` those of the words that move.
 pub mod Matching
+pub mod Searching
+pub mod Moving
