@@ -2,3 +2,4 @@
 pub mod Matching
 pub mod Searching
 pub mod Moving
+pub mod Lines
