@@ -3,3 +3,4 @@ pub mod Matching
 pub mod Searching
 pub mod Moving
 pub mod Lines
+pub mod Verdicts
