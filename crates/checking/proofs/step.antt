@@ -4,3 +4,4 @@ pub mod Searching
 pub mod Moving
 pub mod Lines
 pub mod Verdicts
+pub mod Relation
