@@ -5,3 +5,4 @@ pub mod Moving
 pub mod Lines
 pub mod Verdicts
 pub mod Relation
+pub mod Calls

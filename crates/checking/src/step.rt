@@ -217,3 +217,56 @@ fn merge_pair(words: &mut [u64], i: usize, j: usize, r: Gate)
     circuit::words::put_gate(&mut words[at..], r);
     close_gap(words, Gate::WORDS * j, Gate::WORDS * (j + 1));
 }
+
+// Makes a step on the words of gates.
+pub(crate) fn step_gates(words: &mut [u64]) -> Stepped
+    requires { ⌜ length (now words) % 3 ≡ 0 ⌝ }
+    ensures { λ r. ⌜ Yields (ofStepped r) (now (words .exit)) (counted (stepGates (gatesOf (now (words .entry))))) (stepWords (stepGates (gatesOf (now (words .entry)))) (now (words .entry))) ⌝ }
+{
+    let gates = words.len() / Gate::WORDS;
+    match search_gates(words) {
+        Search::Nothing => Stepped::Nothing,
+        Search::At { i, j, by } => match by {
+            Match::Cancel => {
+                remove_pair(words, i, j);
+                Stepped::Found {
+                    i,
+                    j,
+                    kind: Kind::Cancel,
+                    gates: gates - 2,
+                }
+            }
+            Match::RemoveControl(r) => {
+                merge_pair(words, i, j, r);
+                Stepped::Found {
+                    i,
+                    j,
+                    kind: Kind::RemoveControl,
+                    gates: gates - 1,
+                }
+            }
+            Match::InvertControl(r) => {
+                merge_pair(words, i, j, r);
+                Stepped::Found {
+                    i,
+                    j,
+                    kind: Kind::InvertControl,
+                    gates: gates - 1,
+                }
+            }
+        },
+    }
+}
+
+// Makes a step on a caller's words; else 2, 11, 6 or 7.
+pub fn step(n: u64, words: &mut [u64]) -> StepAnswer
+    ensures { λ r. ⌜ Yields (ofStep r) (now (words .exit)) (stepOutcome n (now (words .entry))) (stepBuffer n (now (words .entry))) ⌝ }
+{
+    match circuit::words::check_cascade(n, words, Gate::MAX_MITER_GATES) {
+        CountAnswer::Refused(why) => StepAnswer::Refused(why),
+        CountAnswer::Gates(_) => match step_gates(words) {
+            Stepped::Nothing => StepAnswer::Nothing,
+            Stepped::Found { i, j, kind, gates } => StepAnswer::Found { i, j, kind, gates },
+        },
+    }
+}
