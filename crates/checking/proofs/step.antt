@@ -6,3 +6,4 @@ pub mod Lines
 pub mod Verdicts
 pub mod Relation
 pub mod Calls
+pub mod Keeping
