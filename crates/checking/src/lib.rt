@@ -1,0 +1,4 @@
+// Miter, reduction step and full reduction of cascades.
+
+pub mod reduce;
+pub mod step;
