@@ -1,0 +1,1 @@
+-- The laws of each module are in its own folder.

@@ -1,0 +1,5 @@
+pub mod Clauses
+pub mod Satisfaction
+pub mod Stored
+pub mod ClauseLaws
+pub mod Laws

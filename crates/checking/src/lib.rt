@@ -1,0 +1,10 @@
+// Checks of cascades: the clause list of a cascade.
+
+ghost use Rattle.checking.specs.Laws.{CheckingLaws};
+
+pub mod clauses;
+
+// Has no effect: its contract is the record of this crate's laws.
+pub fn laws()
+    ensures { λ _. ⌜ CheckingLaws ⌝ }
+{}
