@@ -6,4 +6,5 @@ pub mod Bounds
 pub mod Meaning
 pub mod Reading
 pub mod StandIns
+pub mod Sums
 pub mod Laws

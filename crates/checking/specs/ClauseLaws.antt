@@ -14,6 +14,7 @@ use Rattle.circuit.specs.Run.{run}
 use Rattle.checking.specs.Clauses.{Clause, OR, plus, inputOf, gatesClauses, usedAfter, currentAfter, targeted, upFrom, differenceClauses, clausesOf, variablesOf}
 use Rattle.checking.specs.Satisfaction.{variable, satisfies, spelled, traced, forced, Tells}
 use Rattle.checking.specs.Stored.{stored, clausesIn, clausesRead, AllFit}
+use Rattle.checking.specs.Sizes.{totals, sizesOf}
 
 -- a clause list for each cascade tells on which states its run is not the identity
 abbrev pub ListsTell : (ℕ → List Gate → ℕ) → (ℕ → List Gate → List Clause) → Type 0
@@ -49,3 +50,6 @@ pub record ClauseLaws : Type 0 where
   pub read-stored : (ws : List ℤ) (cs : List Clause) → clausesIn ws ≡ clausesRead cs → ws ≡ stored cs
   -- every word of a list fits 16 bits
   pub words-fit : (n : ℕ) (gs : List Gate) → n ≤ maxLines → length gs ≤ maxMiterGates → allValid n gs ≡ true → AllFit (stored (clausesOf n gs))
+  -- the sums gate by gate are the variables, clauses and words of the list
+  pub sizes-list : (n : ℕ) (gs : List Gate) → n ≤ maxLines → allValid n gs ≡ true
+      → sizesOf n gs ≡ totals (variablesOf n gs) (length (clausesOf n gs)) (length (stored (clausesOf n gs)))

@@ -1,5 +1,6 @@
 pub mod Clauses
 pub mod Satisfaction
 pub mod Stored
+pub mod Sizes
 pub mod ClauseLaws
 pub mod Laws

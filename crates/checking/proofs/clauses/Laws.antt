@@ -5,6 +5,7 @@ use Rattle.checking.proofs.clauses.Meaning.{list-tells}
 use Rattle.checking.proofs.clauses.StandIns.{contradiction-fails, without-later-fails}
 use Rattle.checking.proofs.clauses.Reading.{read-back, read-stored}
 use Rattle.checking.proofs.clauses.Bounds.{words-fit}
+use Rattle.checking.proofs.clauses.Sums.{sizes-list}
 
 pub clause-laws : ClauseLaws
 clause-laws =
@@ -19,4 +20,5 @@ clause-laws =
       read-back = read-back;
       read-stored = read-stored;
       words-fit = words-fit;
+      sizes-list = sizes-list;
     }
