@@ -7,4 +7,5 @@ pub mod Meaning
 pub mod Reading
 pub mod StandIns
 pub mod Sums
+pub mod Loop
 pub mod Laws

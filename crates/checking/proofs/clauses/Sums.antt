@@ -44,8 +44,14 @@ many-words : (p w v : ℕ) (ls : List ℤ) → length (stored (manyClauses p w v
 unfolding stored
 many-words p w v ls =
     let end = XOR (minus w ∷ plus v ∷ plus p ∷ []) ∷ [] in
-    omega (arith, length-append (map negℤ ls) (stored (implied p ls ++ end)), length-map ls negℤ, ap length (stored-append (implied p ls) end),
-           length-append (stored (implied p ls)) (stored end), implied-words p ls)
+    omega (
+      arith,
+      length-append (map negℤ ls) (stored (implied p ls ++ end)),
+      length-map ls negℤ,
+      ap length (stored-append (implied p ls) end),
+      length-append (stored (implied p ls)) (stored end),
+      implied-words p ls,
+    )
 
 gate-sizes : (used v : ℕ) (ls : List ℤ) → sizesIn (gateSizes (length ls) .variables) (gateClauses used v ls) ≡ gateSizes (length ls)
 unfolding stored
@@ -79,8 +85,12 @@ unfolding usedAfter gatesSizes allValid
 used-sizes n used [] few v = omega arith
 used-sizes n used (g ∷ gs) few v =
     let (a, b) = and-parts (valid n g) (allValid n gs) v in
-    omega (arith, used-sizes n (usedBy used g) gs few b, new-added used (length (controlsOf g)),
-           ap (λ (k : ℕ). gateSizes k .variables) (controls-count g (valid-more n maxLines g few a)))
+    omega (
+      arith,
+      used-sizes n (usedBy used g) gs few b,
+      new-added used (length (controlsOf g)),
+      ap (λ (k : ℕ). gateSizes k .variables) (controls-count g (valid-more n maxLines g few a)),
+    )
 
 -- ---- the lines
 
