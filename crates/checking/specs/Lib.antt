@@ -2,5 +2,6 @@ pub mod Clauses
 pub mod Satisfaction
 pub mod Stored
 pub mod Sizes
+pub mod Emitter
 pub mod ClauseLaws
 pub mod Laws
