@@ -16,6 +16,16 @@ pub struct CountAnswer {
     pub gates: u64,
 }
 
+#[repr(C)]
+#[derive(Clone, Copy, Debug, PartialEq)]
+pub struct SizesAnswer {
+    pub number: u64,
+    pub place: u64,
+    pub variables: u64,
+    pub clauses: u64,
+    pub words: u64,
+}
+
 extern "C" {
     pub fn cascade_run(lines: u64, words: *const u64, words_len: usize, state: u64) -> RunAnswer;
     pub fn cascade_inverse(
@@ -25,4 +35,5 @@ extern "C" {
         out: *mut u64,
         out_len: usize,
     ) -> CountAnswer;
+    pub fn cascade_sizes(lines: u64, words: *const u64, words_len: usize) -> SizesAnswer;
 }

@@ -7,6 +7,7 @@
 mod calls {
     pub mod inverse;
     pub mod run;
+    pub mod sizes;
 }
 mod capi;
 mod classes;
@@ -23,7 +24,11 @@ use random::Random;
 const SEED: u64 = 20_240_601;
 
 /// One section a call. It checks its cases and returns its table.
-const SECTIONS: &[fn(&mut Random) -> Counts] = &[calls::run::section, calls::inverse::section];
+const SECTIONS: &[fn(&mut Random) -> Counts] = &[
+    calls::run::section,
+    calls::inverse::section,
+    calls::sizes::section,
+];
 
 fn main() {
     let seed = match std::env::args().nth(1) {

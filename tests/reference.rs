@@ -5,6 +5,9 @@
 /// The most gates of one cascade.
 pub const CASCADE_GATES: usize = 1024;
 
+/// The most gates of a miter: for step, reduction, sizes and emission.
+pub const MITER_GATES: usize = 2048;
+
 /// The number and the place of a refusal.
 #[derive(Clone, Copy, Debug, PartialEq)]
 pub struct Refusal {
@@ -204,4 +207,105 @@ pub fn inverse(n: u64, words: &[u64], out: &mut [u64]) -> Result<u64, Refusal> {
         out[3 * i + 2] = gate.target;
     }
     Ok(gates.len() as u64)
+}
+
+// ---- clause list
+
+/// A literal is its variable's number, negative for the negated variable.
+#[derive(Clone, Debug, PartialEq)]
+pub enum Clause {
+    Or(Vec<i64>),
+    Xor(Vec<i64>),
+}
+
+/// The clauses, and how many variables are numbered.
+#[derive(Debug, PartialEq)]
+pub struct ClauseList {
+    pub variables: i64,
+    pub clauses: Vec<Clause>,
+}
+
+/// The clauses of one gate. The new variables count on from `variables`.
+fn gate_clauses(gate: Gate, variables: &mut i64, current: &mut [i64], clauses: &mut Vec<Clause>) {
+    let target = gate.target as usize;
+    let v = current[target];
+    let mut controls = Vec::new();
+    for line in 0..64 {
+        if has(gate.positive, line) {
+            controls.push(current[line as usize]);
+        }
+        if has(gate.negative, line) {
+            controls.push(-current[line as usize]);
+        }
+    }
+    let w;
+    if controls.is_empty() {
+        w = *variables + 1;
+        clauses.push(Clause::Xor(vec![w, v]));
+    } else if controls.len() == 1 {
+        w = *variables + 1;
+        clauses.push(Clause::Xor(vec![-w, v, controls[0]]));
+    } else {
+        let p = *variables + 1;
+        w = p + 1;
+        let mut first = vec![p];
+        for c in &controls {
+            first.push(-c);
+        }
+        clauses.push(Clause::Or(first));
+        for c in &controls {
+            clauses.push(Clause::Or(vec![-p, *c]));
+        }
+        clauses.push(Clause::Xor(vec![-w, v, p]));
+    }
+    *variables = w;
+    current[target] = w;
+}
+
+/// The clause list of gates on n lines.
+pub fn clause_list(n: u64, gates: &[Gate]) -> ClauseList {
+    let lines = n as usize;
+    let inputs: Vec<i64> = (1..=n as i64).collect();
+    let mut current = inputs.clone();
+    let mut variables = n as i64;
+    let mut clauses = Vec::new();
+    for gate in gates {
+        gate_clauses(*gate, &mut variables, &mut current, &mut clauses);
+    }
+    let mut all_d = Vec::new();
+    for line in 0..lines {
+        variables += 1;
+        let d = variables;
+        all_d.push(d);
+        if gates.iter().any(|gate| gate.target == line as u64) {
+            clauses.push(Clause::Xor(vec![-d, inputs[line], current[line]]));
+        } else {
+            clauses.push(Clause::Or(vec![-d]));
+        }
+    }
+    clauses.push(Clause::Or(all_d));
+    ClauseList { variables, clauses }
+}
+
+#[derive(Debug, PartialEq)]
+pub struct Sizes {
+    pub variables: u64,
+    pub clauses: u64,
+    pub words: u64,
+}
+
+/// The sizes of the clause list, counted on the list itself.
+pub fn sizes(n: u64, words: &[u64]) -> Result<Sizes, Refusal> {
+    let gates = test_cascade(n, words, MITER_GATES)?;
+    let list = clause_list(n, &gates);
+    let mut total = 0;
+    for clause in &list.clauses {
+        let (Clause::Or(literals) | Clause::Xor(literals)) = clause;
+        total += 2 + literals.len() as u64;
+    }
+    Ok(Sizes {
+        variables: list.variables as u64,
+        clauses: list.clauses.len() as u64,
+        words: total,
+    })
 }

@@ -1,6 +1,6 @@
 //! Checks of the reference itself: the starred rows of document 01 and small cases worked by hand.
 
-use crate::reference::{self, Gate, Refusal};
+use crate::reference::{self, Clause, ClauseList, Gate, Refusal, Sizes};
 
 pub fn check() {
     starred_runs();
@@ -8,6 +8,8 @@ pub fn check() {
     apply_of_no_gate();
     inverse();
     pairs();
+    clauses();
+    sizes();
 }
 
 fn refusal<T>(number: u64, place: u64) -> Result<T, Refusal> {
@@ -89,4 +91,44 @@ fn pairs() {
     assert_eq!(test(2, &not, 3, &no_gate), refusal(7, 0));
     assert_eq!(test(2, &not, 3, &not), refusal(8, 0));
     assert!(test(2, &not, 2, &not).is_ok());
+}
+
+/// The printed example of 01, and gates with controls of both polarities.
+fn clauses() {
+    let list = |n, words: &[u64]| reference::clause_list(n, &reference::gates_of(words));
+    let or = |literals: &[i64]| Clause::Or(literals.to_vec());
+    let xor = |literals: &[i64]| Clause::Xor(literals.to_vec());
+    let printed = ClauseList {
+        variables: 5,
+        clauses: vec![xor(&[-3, 2, 1]), or(&[-4]), xor(&[-5, 2, 3]), or(&[4, 5])],
+    };
+    assert_eq!(list(2, &[1, 0, 1]), printed);
+    let not_then_two = ClauseList {
+        variables: 9,
+        clauses: vec![
+            xor(&[4, 1]),
+            or(&[5, -4, 3]),
+            or(&[-5, 4]),
+            or(&[-5, -3]),
+            xor(&[-6, 2, 5]),
+            xor(&[-7, 1, 4]),
+            xor(&[-8, 2, 6]),
+            or(&[-9]),
+            or(&[7, 8, 9]),
+        ],
+    };
+    assert_eq!(list(3, &[0, 0, 0, 1, 4, 1]), not_then_two);
+}
+
+/// The starred rows on sizes: the miter of a cascade and an empty one is its own gates.
+fn sizes() {
+    let sizes = |variables, clauses, words| {
+        Ok(Sizes {
+            variables,
+            clauses,
+            words,
+        })
+    };
+    assert_eq!(reference::sizes(1, &[]), sizes(2, 2, 6));
+    assert_eq!(reference::sizes(3, &[3, 0, 2]), sizes(8, 8, 34));
 }

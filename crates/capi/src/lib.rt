@@ -2,3 +2,4 @@
 pub mod count;
 pub mod inverse;
 pub mod run;
+pub mod sizes;

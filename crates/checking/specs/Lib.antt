@@ -1,3 +1,10 @@
 pub mod Step
 pub mod Reduce
 pub mod StepLaws
+pub mod Clauses
+pub mod Satisfaction
+pub mod Stored
+pub mod Sizes
+pub mod Emitter
+pub mod ClauseLaws
+pub mod Laws

@@ -1,4 +1,14 @@
-// Miter, reduction step and full reduction of cascades.
+// Checks of cascades: miter, reduction and clause list.
 
+ghost use Rattle.checking.specs.Laws.{CheckingLaws};
+
+pub mod clauses;
+mod emitter;
 pub mod reduce;
 pub mod step;
+
+// Has no effect: its contract is the record of this crate's laws.
+pub fn laws()
+    ensures { λ _. ⌜ CheckingLaws ⌝ }
+{
+}

@@ -51,7 +51,7 @@ pub fn clear(mask: u64, k: u64) -> bool
 }
 
 // How many bits of the mask are set.
-fn count(mask: u64) -> u64
+pub fn count(mask: u64) -> u64
     ensures { λ r. ⌜ (r ≡ ones mask) × (r ≤ maxLines) ⌝ }
 {
     u64::count_ones(mask) as u64

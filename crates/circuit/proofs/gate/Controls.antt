@@ -2,8 +2,9 @@
 use mathlib.Core.Path.{_≡_, refl, sym, ap, ap₂, _∙_}
 use mathlib.Core.Bool.{Bool, true, false, not, cond, _&&_, false≢true, true≢false}
 use mathlib.Core.Logic.{⊎-elim}
-use mathlib.Core.List.{List, [], _∷_, _++_}
+use mathlib.Core.List.{List, [], _∷_, _++_, append-nil}
 use Prim.Native.Nat.{ℕ, zero, suc, _+_, _<_, _≤_}
+use native.Mathlib.Decide.{le-ind}
 use native.Mathlib.Omega.{arith}
 use lib.Count.{ones}
 use lib.Dec.{ltb}
@@ -115,3 +116,16 @@ controls-count g e =
     let v = valid-facts maxLines g e in
     below-count g (valid-apart maxLines g v) maxLines
     ∙ ap₂ _+_ (lines-ones maxLines (g .positive) (v .positive-below)) (lines-ones maxLines (g .negative) (v .negative-below))
+
+-- a line at n or above has no control
+no-control : (n : ℕ) (g : Gate) (k : ℕ) → Valid n g → n ≤ k → controlsBelow (suc k) g ≡ controlsBelow k g
+unfolding controlsBelow
+no-control n g k v h =
+    ap₂ (λ (p q : Bool). controlsBelow k g ++ onLine k p q) (bit-above n (g .positive) k (v .positive-below) h) (bit-above n (g .negative) k (v .negative-below) h)
+    ∙ append-nil (controlsBelow k g)
+
+-- so the controls of a gate on n lines are those below n
+pub controls-below : (n : ℕ) (g : Gate) → n ≤ maxLines → valid n g ≡ true → controlsOf g ≡ controlsBelow n g
+controls-below n g l e =
+    let v = valid-facts n g e in
+    le-ind (λ (k : ℕ). controlsBelow k g ≡ controlsBelow n g) refl (λ k h ih. no-control n g k v h ∙ ih) maxLines l

@@ -1,0 +1,24 @@
+-- The laws of the clause list, put together. Assumes nothing.
+use Rattle.checking.specs.ClauseLaws.{ClauseLaws}
+use Rattle.checking.proofs.clauses.Forced.{spelled-line, spelled-below, gates-forced, list-forced}
+use Rattle.checking.proofs.clauses.Meaning.{list-tells}
+use Rattle.checking.proofs.clauses.StandIns.{contradiction-fails, without-later-fails}
+use Rattle.checking.proofs.clauses.Reading.{read-back, read-stored}
+use Rattle.checking.proofs.clauses.Bounds.{words-fit}
+use Rattle.checking.proofs.clauses.Sums.{sizes-list}
+
+pub clause-laws : ClauseLaws
+clause-laws =
+    record {
+      spelled-line = spelled-line;
+      spelled-below = spelled-below;
+      gates-forced = gates-forced;
+      list-forced = list-forced;
+      lists-tell = list-tells;
+      contradiction-fails = contradiction-fails;
+      without-later-fails = without-later-fails;
+      read-back = read-back;
+      read-stored = read-stored;
+      words-fit = words-fit;
+      sizes-list = sizes-list;
+    }

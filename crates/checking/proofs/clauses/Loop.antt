@@ -1,0 +1,221 @@
+-- What a turn over the gates adds to the totals, and the totals at the end. Assumes nothing.
+use mathlib.Core.Path.{_≡_, refl, sym, ap, ap₂, _∙_, subst}
+use mathlib.Core.Bool.{Bool, true, false, _&&_, _||_, cond}
+use mathlib.Core.List.{List, [], _∷_, _++_}
+use Prim.Native.Nat.{ℕ, zero, suc, _+_, _*_, _/_, _^_, _≤_, _<_}
+use native.Mathlib.Omega.{arith}
+use native.Mathlib.Numerals.{add-one}
+use lib.Dec.{eqb}
+use lib.Bits.{bitOr}
+use lib.Count.{ones}
+use lib.ListN.{length, drop, length-append}
+use borrow.Author.Tests.{ne-eqb}
+use Rattle.bits.specs.Digits.{bit, linesIn}
+use Rattle.bits.proofs.Bools.{and-parts, either, cond-true, cond-false}
+use Rattle.bits.proofs.Digits.{bit-none, bit-or, bit-pow, below-of-bits, lines-ones}
+use Rattle.circuit.specs.declared.gate.Gate.{Gate}
+use Rattle.circuit.specs.Gate.{maxLines, maxMiterGates, valid, controlCount, controlsOf}
+use Rattle.circuit.specs.Outcome.{Outcome, served, refused}
+use Rattle.circuit.specs.Words.{gatesOf, gateAt, allValid, checkOutcome, Cascade}
+use Rattle.circuit.proofs.Outcome.{then-served, then-refused}
+use Rattle.circuit.proofs.gate.Laws.{Valid, valid-facts, valid-more}
+use Rattle.circuit.proofs.gate.Controls.{controls-count}
+use Rattle.circuit.proofs.words.Laws.{gates-next, gates-end, gates-length}
+use Rattle.checking.specs.declared.clauses.Totals.{Totals}
+use Rattle.checking.specs.Clauses.{targeted, upFrom}
+use Rattle.checking.specs.Sizes.{totals, added, manySizes, gateSizes, gatesSizes, lineSizes, linesSizes, sizesOf, sizesOutcome}
+use Rattle.checking.proofs.clauses.Bounds.{few-controls}
+use Rattle.checking.proofs.clauses.Tests.{or-false, or-none}
+use Rattle.checking.proofs.clauses.Forced.{length-upFrom}
+
+-- a gate of two controls or more, as the code counts its words
+pub sizes-many : (k : ℕ) → (k ≡ 0 → ⊥) → (k ≡ 1 → ⊥) → gateSizes k ≡ totals 2 (k + 2) (5 * k + 8)
+sizes-many zero a b = absurd (a refl)
+sizes-many (suc zero) a b = absurd (b refl)
+sizes-many (suc (suc k)) a b =
+    let e : suc (suc k) + 3 + 4 * suc (suc k) + 5 ≡ 5 * suc (suc k) + 8 = omega arith in
+    ap (totals 2 (suc (suc k) + 2)) e
+
+-- a gate on at most 64 lines has at most 64 controls
+pub controls-few : (n : ℕ) (g : Gate) → n ≤ maxLines → valid n g ≡ true → controlCount g ≤ maxLines
+controls-few n g few v = omega (arith, controls-count g (valid-more n maxLines g few v), few-controls maxLines g)
+
+-- the sums stay small
+pub record Small (t : Totals) (m : ℕ) : Type 0 where
+  pub few-variables : t .variables ≤ 2 * m
+  pub few-clauses : t .clauses ≤ 66 * m
+  pub few-words : t .words ≤ 328 * m
+
+gate-small : (k : ℕ) → k ≤ maxLines → Small (gateSizes k) 1
+gate-small zero h = record { few-variables = omega arith; few-clauses = omega arith; few-words = omega arith }
+gate-small (suc zero) h = record { few-variables = omega arith; few-clauses = omega arith; few-words = omega arith }
+gate-small (suc (suc k)) h = record { few-variables = omega arith; few-clauses = omega arith; few-words = omega arith }
+
+pub sizes-small : (k : ℕ) (t : Totals) → k ≤ maxLines → t ≡ gateSizes k → Small t 1
+sizes-small k t h e = subst (λ (x : Totals). Small x 1) (sym e) (gate-small k h)
+
+gates-small : (n : ℕ) (gs : List Gate) → n ≤ maxLines → allValid n gs ≡ true → Small (gatesSizes gs) (length gs)
+unfolding gatesSizes allValid
+gates-small n [] few v = record { few-variables = omega arith; few-clauses = omega arith; few-words = omega arith }
+gates-small n (g ∷ gs) few v =
+    let (a, b) = and-parts (valid n g) (allValid n gs) v in
+    let one = gate-small (controlCount g) (controls-few n g few a) in
+    let more = gates-small n gs few b in
+    record { few-variables = omega arith; few-clauses = omega arith; few-words = omega arith }
+
+-- ---- the lines that gates target, as a mask
+
+targeted-below : (n : ℕ) (gs : List Gate) (k : ℕ) → allValid n gs ≡ true → n ≤ k → targeted gs k ≡ false
+unfolding targeted allValid
+targeted-below n [] k v h = refl
+targeted-below n (g ∷ gs) k v h =
+    let (a, b) = and-parts (valid n g) (allValid n gs) v in
+    let below = valid-facts n g a .target-below in
+    ap₂ _||_ (ne-eqb k (g .target) (λ e. omega arith)) (targeted-below n gs k b h)
+
+upFrom-more : (i m : ℕ) → upFrom i (suc m) ≡ upFrom i m ++ ((i + m) ∷ [])
+unfolding upFrom
+upFrom-more i zero = let e : i ≡ i + 0 = omega arith in ap (λ (j : ℕ). j ∷ []) e
+upFrom-more i (suc m) =
+    let e : suc i + m ≡ i + suc m = omega arith in
+    ap (λ (l : List ℕ). i ∷ l) (upFrom-more (suc i) m ∙ ap (λ (j : ℕ). upFrom (suc i) m ++ (j ∷ [])) e)
+
+lines-append : (hit : ℕ → Bool) (xs ys : List ℕ) → linesSizes hit (xs ++ ys) .words ≡ linesSizes hit xs .words + linesSizes hit ys .words
+unfolding linesSizes
+lines-append hit [] ys = omega arith
+lines-append hit (x ∷ xs) ys = omega (arith, lines-append hit xs ys)
+
+lines-count : (hit : ℕ → Bool) (ks : List ℕ) → (linesSizes hit ks .variables ≡ length ks) × (linesSizes hit ks .clauses ≡ length ks)
+unfolding linesSizes
+lines-count hit [] = (refl, refl)
+lines-count hit (k ∷ ks) = let (a, b) = lines-count hit ks in (omega arith, omega arith)
+
+line-words : (mask n : ℕ) (b : Bool) → cond b 5 3 + 0 ≡ 3 + 2 * length (cond b (n ∷ []) [])
+line-words mask n true = refl
+line-words mask n false = refl
+
+lines-words : (mask : ℕ) (hit : ℕ → Bool) → ((k : ℕ) → bit mask k ≡ hit k) → (n : ℕ) → linesSizes hit (upFrom 0 n) .words ≡ 3 * n + 2 * length (linesIn mask n)
+unfolding linesSizes linesIn upFrom
+lines-words mask hit same zero = refl
+lines-words mask hit same (suc n) =
+    let e : 0 + n ≡ n = omega arith in
+    let last : linesSizes hit ((0 + n) ∷ []) .words ≡ 3 + 2 * length (cond (bit mask n) (n ∷ []) []) =
+    ap (λ (j : ℕ). cond (hit j) 5 3 + 0) e ∙ ap (λ (b : Bool). cond b 5 3 + 0) (sym (same n)) ∙ line-words mask n (bit mask n) in
+    omega (
+      arith,
+      ap (λ (l : List ℕ). linesSizes hit l .words) (upFrom-more 0 n),
+      lines-append hit (upFrom 0 n) ((0 + n) ∷ []),
+      last,
+      lines-words mask hit same n,
+      length-append (linesIn mask n) (cond (bit mask n) (n ∷ []) []),
+    )
+
+-- ---- the loop
+
+-- gates below i are summed up, and the others are left
+pub record Summed (n : ℕ) (ws : List ℕ) (variables clauses words hit i : ℕ) : Type 0 where
+  pub inside : i ≤ length ws / 3
+  pub good : allValid n (gatesOf (drop (3 * i) ws)) ≡ true
+  pub variables-left : variables + gatesSizes (gatesOf (drop (3 * i) ws)) .variables ≡ n + n + gatesSizes (gatesOf ws) .variables
+  pub clauses-left : clauses + gatesSizes (gatesOf (drop (3 * i) ws)) .clauses ≡ n + 1 + gatesSizes (gatesOf ws) .clauses
+  pub words-left : words + gatesSizes (gatesOf (drop (3 * i) ws)) .words ≡ 4 * n + 2 + gatesSizes (gatesOf ws) .words
+  pub lines-left : (k : ℕ) → (bit hit k || targeted (gatesOf (drop (3 * i) ws)) k) ≡ targeted (gatesOf ws) k
+
+pub summed-start : (n : ℕ) (ws : List ℕ) → allValid n (gatesOf ws) ≡ true → Summed n ws (n + n) (n + 1) (4 * n + 2) 0 0
+summed-start n ws v =
+    record {
+      inside = omega arith;
+      good = v;
+      variables-left = refl;
+      clauses-left = refl;
+      words-left = refl;
+      lines-left = λ k. ap (λ (b : Bool). b || targeted (gatesOf ws) k) (bit-none k);
+    }
+
+-- what was summed up stays small
+pub summed-small : (n : ℕ) (ws : List ℕ) (v c w hit i : ℕ) → n ≤ maxLines → length ws ≤ 3 * maxMiterGates → allValid n (gatesOf ws) ≡ true
+    → Summed n ws v c w hit i → (v ≤ 4224) × ((c ≤ 135234) × (w ≤ 672002))
+summed-small n ws v c w hit i few short good s =
+    let b = gates-small n (gatesOf ws) few good in
+    let l = gates-length ws in
+    let p = s .variables-left in
+    let q = s .clauses-left in
+    let r = s .words-left in
+    (omega (arith, b .few-variables), (omega (arith, b .few-clauses), omega (arith, b .few-words)))
+
+module _ (n : ℕ) (ws : List ℕ) (v c w hit i : ℕ) (g : Gate) (few : n ≤ maxLines) (s : Summed n ws v c w hit i) (inside : i < length ws / 3) (is : g ≡ gateAt ws i) where
+  valid-both : (valid n g ≡ true) × (allValid n (gatesOf (drop (3 * (i + 1)) ws)) ≡ true)
+  unfolding allValid
+  valid-both =
+      let (a, b) =
+      and-parts (valid n (gateAt ws i)) (allValid n (gatesOf (drop (3 * (i + 1)) ws))) (sym (ap (allValid n) (gates-next ws i inside)) ∙ s .good) in
+      (ap (valid n) is ∙ a, b)
+
+  pub turn-target : g .target < maxLines
+  turn-target = let t = valid-facts n g (valid-both .0) .target-below in omega arith
+
+  pub turn-controls : controlCount g ≤ maxLines
+  turn-controls = controls-few n g few (valid-both .0)
+
+  module _ (t : Totals) (sizes : t ≡ gateSizes (controlCount g)) where
+    turn-sizes : gatesSizes (gatesOf (drop (3 * i) ws)) ≡ added t (gatesSizes (gatesOf (drop (3 * (i + 1)) ws)))
+    unfolding gatesSizes
+    turn-sizes =
+        ap gatesSizes (gates-next ws i inside)
+        ∙ ap (λ (x : Totals). added x (gatesSizes (gatesOf (drop (3 * (i + 1)) ws)))) (ap (λ (h : Gate). gateSizes (controlCount h)) (sym is) ∙ sym sizes)
+
+    turn-lines : (k : ℕ) → (bit (bitOr hit (2 ^ g .target)) k || targeted (gatesOf (drop (3 * (i + 1)) ws)) k) ≡ targeted (gatesOf ws) k
+    unfolding targeted
+    turn-lines k =
+        ap (λ (b : Bool). b || targeted (gatesOf (drop (3 * (i + 1)) ws)) k) (bit-or hit (2 ^ g .target) k ∙ ap (λ (b : Bool). bit hit k || b) (bit-pow (g .target) k))
+        ∙ or-assoc (bit hit k) (eqb k (g .target)) (targeted (gatesOf (drop (3 * (i + 1)) ws)) k)
+        ∙ ap (λ (h : Gate). bit hit k || (eqb k (h .target) || targeted (gatesOf (drop (3 * (i + 1)) ws)) k)) is
+        ∙ ap (λ (gs : List Gate). bit hit k || targeted gs k) (sym (gates-next ws i inside))
+        ∙ s .lines-left k
+      where
+        or-assoc : (a b d : Bool) → ((a || b) || d) ≡ (a || (b || d))
+        or-assoc true b d = refl
+        or-assoc false b d = refl
+
+    pub summed-next : Summed n ws (v + t .variables) (c + t .clauses) (w + t .words) (bitOr hit (2 ^ g .target)) (i + 1)
+    summed-next =
+        record {
+          inside = omega arith;
+          good = valid-both .1;
+          variables-left = omega (arith, s .variables-left, ap (λ (x : Totals). x .variables) turn-sizes);
+          clauses-left = omega (arith, s .clauses-left, ap (λ (x : Totals). x .clauses) turn-sizes);
+          words-left = omega (arith, s .words-left, ap (λ (x : Totals). x .words) turn-sizes);
+          lines-left = turn-lines;
+        }
+
+-- at the end
+pub summed-all : (n : ℕ) (ws : List ℕ) (v c w hit i : ℕ) → allValid n (gatesOf ws) ≡ true → length ws / 3 ≤ i → Summed n ws v c w hit i
+    → totals v c (w + 2 * ones hit) ≡ sizesOf n (gatesOf ws)
+unfolding sizesOf gatesSizes targeted
+summed-all n ws v c w hit i good past s =
+    let gs = gatesOf ws in
+    let none = gates-end ws i past in
+    let same : (k : ℕ) → bit hit k ≡ targeted gs k =
+    λ k. sym (or-false (bit hit k)) ∙ ap (λ (hs : List Gate). bit hit k || targeted hs k) (sym none) ∙ s .lines-left k in
+    let below : hit < 2 ^ n = below-of-bits n hit (λ k h. same k ∙ targeted-below n gs k good h) in
+    let empty : gatesSizes (gatesOf (drop (3 * i) ws)) ≡ totals 0 0 0 = ap gatesSizes none in
+    let counts = lines-count (targeted gs) (upFrom 0 n) in
+    let long = length-upFrom 0 n in
+    let a : v ≡ n + (gatesSizes gs .variables + (linesSizes (targeted gs) (upFrom 0 n) .variables + 0)) =
+    omega (arith, s .variables-left, ap (λ (x : Totals). x .variables) empty) in
+    let b : c ≡ 0 + (gatesSizes gs .clauses + (linesSizes (targeted gs) (upFrom 0 n) .clauses + 1)) =
+    omega (arith, s .clauses-left, ap (λ (x : Totals). x .clauses) empty) in
+    let d : w + 2 * ones hit ≡ 0 + (gatesSizes gs .words + (linesSizes (targeted gs) (upFrom 0 n) .words + (n + 2))) =
+    omega (arith, s .words-left, ap (λ (x : Totals). x .words) empty, lines-words hit (targeted gs) same n, lines-ones n hit below) in
+    ap₂ (λ (x y : ℕ). totals x y (w + 2 * ones hit)) a b ∙ ap (totals _ _) d
+
+-- ---- what the call answers
+
+module _ (n : ℕ) (ws : List ℕ) where
+  pub sizes-refused : (number place : ℕ) → checkOutcome n ws maxMiterGates ≡ refused number place → sizesOutcome n ws ≡ refused number place
+  unfolding sizesOutcome
+  sizes-refused number place e = then-refused _ _ number place e
+
+  pub sizes-served : (k : ℕ) → checkOutcome n ws maxMiterGates ≡ served k → sizesOutcome n ws ≡ served (sizesOf n (gatesOf ws))
+  unfolding sizesOutcome
+  sizes-served k e = then-served _ _ k e

@@ -1,0 +1,87 @@
+-- Stored words are read back, and only the words of clauses are read. Assumes nothing.
+use mathlib.Core.Path.{_≡_, refl, sym, ap, ap₂, _∙_}
+use mathlib.Core.Bool.{Bool, true, false, cond}
+use mathlib.Core.List.{List, [], _∷_, _++_, append-assoc}
+use mathlib.Core.Option.{Option, none, some}
+use Prim.Native.Nat.{ℕ, zero, suc, _+_, _≤_, _<_}
+use native.Mathlib.Omega.{arith}
+use lib.Dec.{leb}
+use lib.IntN.{ℤ, pos, negsuc}
+use lib.ListN.{length, take, drop, length-append, length-drop, take-append-drop}
+use lib.Seq.{take-append-seam, drop-append-seam, length-take-le}
+use borrow.Author.Tests.{le-leb, leb-true}
+use Rattle.bits.proofs.Bools.{either, cond-true, cond-false}
+use Rattle.checking.specs.Clauses.{Clause, OR, XOR}
+use Rattle.checking.specs.Stored.{storedClause, stored, Reading, clausesRead, badRecord, clauseOf, countOf, joined, readRecord, readFrom, clausesIn}
+
+pub stored-append : (xs ys : List Clause) → stored (xs ++ ys) ≡ stored xs ++ stored ys
+unfolding stored
+stored-append [] ys = refl
+stored-append (x ∷ xs) ys = ap (λ (r : List ℤ). storedClause x ++ r) (stored-append xs ys) ∙ sym (append-assoc (storedClause x) (stored xs) (stored ys))
+
+-- one whole record, where its literals are followed by more words
+record-read : (i : ℕ) (kind : ℤ) (ls more : List ℤ) (later : List ℤ → Reading)
+    → readRecord i kind (some (length ls)) (ls ++ more) later ≡ joined i (clauseOf kind ls) (later more)
+record-read i kind ls more later =
+    cond-true (leb (length ls) (length (ls ++ more))) _ _ (le-leb (length ls) (length (ls ++ more)) (omega (arith, length-append ls more)))
+    ∙ ap₂ (λ (a b : List ℤ). joined i (clauseOf kind a) (later b)) (take-append-seam ls more) (drop-append-seam ls more)
+
+read-all : (cs : List Clause) (i most : ℕ) → length (stored cs) ≤ most → readFrom i most (stored cs) ≡ clausesRead cs
+unfolding stored readFrom
+read-all [] i zero h = refl
+read-all [] i (suc most) h = refl
+read-all (OR ls ∷ cs) i zero h = absurd (omega arith)
+read-all (XOR ls ∷ cs) i zero h = absurd (omega arith)
+read-all (OR ls ∷ cs) i (suc most) h =
+    record-read i (pos 0) ls (stored cs) (λ (rest : List ℤ). readFrom (suc i) most rest)
+    ∙ ap (joined i (some (OR ls))) (read-all cs (suc i) most (omega (arith, length-append ls (stored cs))))
+read-all (XOR ls ∷ cs) i (suc most) h =
+    record-read i (pos 1) ls (stored cs) (λ (rest : List ℤ). readFrom (suc i) most rest)
+    ∙ ap (joined i (some (XOR ls))) (read-all cs (suc i) most (omega (arith, length-append ls (stored cs))))
+
+pub read-back : (cs : List Clause) (rest : List ℤ) → clausesIn (take (length (stored cs)) (stored cs ++ rest)) ≡ clausesRead cs
+unfolding clausesIn
+read-back cs rest = ap clausesIn (take-append-seam (stored cs) rest) ∙ read-all cs 0 (length (stored cs)) (omega arith)
+
+-- ---- only the words of clauses are read
+
+bad : {i : ℕ} {cs : List Clause} → badRecord i ≡ clausesRead cs → ⊥
+bad e = let z : _≡_ {A = ℕ} 0 1 = cc in omega arith
+
+-- a record joined with what is read after it
+joined-read : (i : ℕ) (c : Option Clause) (later : Reading) (cs : List Clause) → joined i c later ≡ clausesRead cs
+    → (d : Clause) × (ds : List Clause) × (c ≡ some d) × (later ≡ clausesRead ds) × (cs ≡ d ∷ ds)
+joined-read i none later cs e = absurd (bad e)
+joined-read i (some d) (clausesRead ds) cs e = let f : cs ≡ d ∷ ds = cc in (d, ds, refl, refl, f)
+joined-read i (some d) (badRecord j) cs e = absurd (bad e)
+
+-- a kind word with literals stores their clause
+kind-stored : (kind : ℤ) (ls : List ℤ) (c : Clause) → clauseOf kind ls ≡ some c → kind ∷ pos (length ls) ∷ ls ≡ storedClause c
+kind-stored (pos zero) ls c e = let f : OR ls ≡ c = cc in ap storedClause f
+kind-stored (pos (suc zero)) ls c e = let f : XOR ls ≡ c = cc in ap storedClause f
+kind-stored (pos (suc (suc k))) ls c e = let z : _≡_ {A = ℕ} 0 1 = cc in absurd (omega arith)
+kind-stored (negsuc k) ls c e = let z : _≡_ {A = ℕ} 0 1 = cc in absurd (omega arith)
+
+read-words : (most i : ℕ) (ws : List ℤ) (cs : List Clause) → readFrom i most ws ≡ clausesRead cs → ws ≡ stored cs
+unfolding readFrom stored
+read-words zero i [] cs e = let f : cs ≡ [] = cc in ap stored (sym f)
+read-words zero i (kind ∷ ws) cs e = absurd (bad e)
+read-words (suc most) i [] cs e = let f : cs ≡ [] = cc in ap stored (sym f)
+read-words (suc most) i (kind ∷ []) cs e = absurd (bad e)
+read-words (suc most) i (kind ∷ negsuc k ∷ ws) cs e = absurd (bad e)
+read-words (suc most) i (kind ∷ pos k ∷ ws) cs e =
+    either (leb k (length ws))
+    (λ t.
+    let h : k ≤ length ws = leb-true k (length ws) t in
+    let f = sym (cond-true (leb k (length ws)) (joined i (clauseOf kind (take k ws)) (readFrom (suc i) most (drop k ws))) (badRecord i) t) ∙ e in
+    let (d, ds, p, q, r) = joined-read i (clauseOf kind (take k ws)) (readFrom (suc i) most (drop k ws)) cs f in
+    let l : length (take k ws) ≡ k = length-take-le k ws h in
+    ap (λ (x : List ℤ). kind ∷ pos k ∷ x) (sym (take-append-drop k ws))
+    ∙ ap (λ (x : ℕ). (kind ∷ pos x ∷ take k ws) ++ drop k ws) (sym l)
+    ∙ ap₂ (λ (x y : List ℤ). x ++ y) (kind-stored kind (take k ws) d p) (read-words most (suc i) (drop k ws) ds q)
+    ∙ ap stored (sym r))
+    (λ t. absurd (bad (sym (cond-false (leb k (length ws)) (joined i (clauseOf kind (take k ws)) (readFrom (suc i) most (drop k ws))) (badRecord i) t) ∙ e)))
+
+pub read-stored : (ws : List ℤ) (cs : List Clause) → clausesIn ws ≡ clausesRead cs → ws ≡ stored cs
+unfolding clausesIn
+read-stored ws cs e = read-words (length ws) 0 ws cs e

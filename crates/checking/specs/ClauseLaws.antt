@@ -1,0 +1,55 @@
+-- What is proved of the clause list.
+use mathlib.Core.Path.{_≡_}
+use mathlib.Core.Logic.{_↔_}
+use mathlib.Core.Bool.{Bool, true}
+use mathlib.Core.List.{List, [], _∷_, _++_, map}
+use Prim.Native.Nat.{ℕ, suc, _+_, _^_, _<_, _≤_}
+use lib.IntN.{ℤ}
+use lib.ListN.{length, take}
+use Rattle.bits.specs.Digits.{bit}
+use Rattle.circuit.specs.declared.gate.Gate.{Gate}
+use Rattle.circuit.specs.Gate.{maxLines, maxMiterGates}
+use Rattle.circuit.specs.Words.{allValid}
+use Rattle.circuit.specs.Run.{run}
+use Rattle.checking.specs.Clauses.{Clause, OR, plus, inputOf, gatesClauses, usedAfter, currentAfter, targeted, upFrom, differenceClauses, clausesOf, variablesOf}
+use Rattle.checking.specs.Satisfaction.{variable, satisfies, spelled, traced, forced, Tells}
+use Rattle.checking.specs.Stored.{stored, clausesIn, clausesRead, AllFit}
+use Rattle.checking.specs.Sizes.{totals, sizesOf}
+
+-- a clause list for each cascade tells on which states its run is not the identity
+abbrev pub ListsTell : (ℕ → List Gate → ℕ) → (ℕ → List Gate → List Clause) → Type 0
+ListsTell variables clauses =
+    (n : ℕ) (gs : List Gate) → n ≤ maxLines → allValid n gs ≡ true → Tells n (variables n gs) (clauses n gs) (run gs) (λ (x : ℕ). x)
+
+-- 01's stand-ins: one fixed contradiction; and the clauses of gates after the first dropped
+unfoldable pub contradiction : ℕ → List Gate → List Clause
+contradiction n gs = OR [] ∷ []
+
+unfoldable pub withoutLater : ℕ → List Gate → List Clause
+withoutLater n gs =
+    gatesClauses n inputOf (take 1 gs)
+    ++ (differenceClauses (targeted gs) inputOf (currentAfter n inputOf gs) (usedAfter n gs) (upFrom 0 n)
+    ++ (OR (map plus (upFrom (suc (usedAfter n gs)) n)) ∷ []))
+
+pub record ClauseLaws : Type 0 where
+  -- the first n variables spell the state whose bit k is 1 exactly when variable k + 1 is true
+  pub spelled-line : (n : ℕ) (σ : List Bool) (k : ℕ) → k < n → bit (spelled n σ) k ≡ variable σ (suc k)
+  pub spelled-below : (n : ℕ) (σ : List Bool) → spelled n σ < 2 ^ n
+  -- an assignment satisfies the gates' clauses exactly when it is the one that its own inputs force
+  pub gates-forced : (n : ℕ) (gs : List Gate) → n ≤ maxLines → allValid n gs ≡ true → (σ : List Bool) → length σ ≡ usedAfter n gs
+      → (satisfies σ (gatesClauses n inputOf gs) ≡ true) ↔ (σ ≡ traced n (spelled n σ) gs)
+  -- and the whole list exactly when besides the run changes the state that it spells
+  pub list-forced : (n : ℕ) (gs : List Gate) → n ≤ maxLines → allValid n gs ≡ true → (σ : List Bool) → length σ ≡ variablesOf n gs
+      → (satisfies σ (clausesOf n gs) ≡ true) ↔ ((σ ≡ forced n (spelled n σ) gs) × (run gs (spelled n σ) ≡ spelled n σ → ⊥))
+  -- so the list tells on which states the run is not the identity, and the stand-ins do not
+  pub lists-tell : ListsTell variablesOf clausesOf
+  pub contradiction-fails : ListsTell variablesOf contradiction → ⊥
+  pub without-later-fails : ListsTell variablesOf withoutLater → ⊥
+  -- stored words are read back by their own length, whatever follows them, and only the words of clauses are read
+  pub read-back : (cs : List Clause) (rest : List ℤ) → clausesIn (take (length (stored cs)) (stored cs ++ rest)) ≡ clausesRead cs
+  pub read-stored : (ws : List ℤ) (cs : List Clause) → clausesIn ws ≡ clausesRead cs → ws ≡ stored cs
+  -- every word of a list fits 16 bits
+  pub words-fit : (n : ℕ) (gs : List Gate) → n ≤ maxLines → length gs ≤ maxMiterGates → allValid n gs ≡ true → AllFit (stored (clausesOf n gs))
+  -- the sums gate by gate are the variables, clauses and words of the list
+  pub sizes-list : (n : ℕ) (gs : List Gate) → n ≤ maxLines → allValid n gs ≡ true
+      → sizesOf n gs ≡ totals (variablesOf n gs) (length (clausesOf n gs)) (length (stored (clausesOf n gs)))

@@ -1,0 +1,5 @@
+-- What this crate proves, one record of laws a group.
+use Rattle.checking.specs.ClauseLaws.{ClauseLaws}
+
+pub record CheckingLaws : Type 0 where
+  pub clauses : ClauseLaws

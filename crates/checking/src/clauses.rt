@@ -1,0 +1,100 @@
+// The clause list of a cascade: its sizes.
+
+use circuit::gate::Gate;
+use circuit::refusal::Refusal;
+use circuit::words::CountAnswer;
+ghost use mathlib.Core.Bool.{true};
+ghost use mathlib.Core.Path.{_≡_};
+ghost use Prim.Native.Nat.{_*_, _^_, _<_, _≤_};
+ghost use lib.Bits.{bitOr};
+ghost use lib.ListN.{length};
+ghost use Rattle.circuit.specs.Gate.{maxLines, maxMiterGates};
+ghost use Rattle.circuit.specs.Words.{gatesOf, allValid};
+ghost use Rattle.checking.specs.Sizes.{gateSizes, sizesOf, sizesOutcome, ofSizes};
+
+// The variables, clauses and words of a clause list.
+pub struct Totals {
+    pub variables: u64,
+    pub clauses: u64,
+    pub words: u64,
+}
+
+// The totals, or a refusal.
+pub enum SizesAnswer {
+    Sizes(Totals),
+    Refused(Refusal),
+}
+
+// The sizes of the clauses of a gate with k controls.
+fn gate_sizes(k: u64) -> Totals
+    requires { ⌜ k ≤ maxLines ⌝ }
+    ensures { λ r. ⌜ r ≡ gateSizes k ⌝ }
+{
+    if k == 0 {
+        return Totals {
+            variables: 1,
+            clauses: 1,
+            words: 4,
+        };
+    }
+    if k == 1 {
+        return Totals {
+            variables: 1,
+            clauses: 1,
+            words: 5,
+        };
+    }
+    Totals {
+        variables: 2,
+        clauses: k + 2,
+        words: 5 * k + 8,
+    }
+}
+
+// The lines of the mask, and line k.
+fn with_line(mask: u64, k: u64) -> u64
+    requires { ⌜ k < maxLines ⌝ }
+    ensures { λ r. ⌜ r ≡ bitOr mask (2 ^ k) ⌝ }
+{
+    mask | (1 << k)
+}
+
+// The sizes of the clause list of a cascade.
+pub(crate) fn list_sizes(n: u64, words: &[u64]) -> Totals
+    requires { ⌜ n ≤ maxLines ⌝ }
+    requires { ⌜ length (now words) ≤ 3 * maxMiterGates ⌝ }
+    requires { ⌜ allValid n (gatesOf (now words)) ≡ true ⌝ }
+    ensures { λ r. ⌜ r ≡ sizesOf n (gatesOf (now (words .entry))) ⌝ }
+{
+    let gates = words.len() / Gate::WORDS;
+    let mut variables = n + n;
+    let mut clauses = n + 1;
+    let mut total = 4 * n + 2;
+    let mut hit = 0;
+    let mut i = 0;
+    while i < gates {
+        let g = circuit::words::gate_at(words, i);
+        let target = g.target;
+        let t = gate_sizes(g.control_count());
+        variables += t.variables;
+        clauses += t.clauses;
+        total += t.words;
+        hit = with_line(hit, target);
+        i += 1;
+    }
+    Totals {
+        variables,
+        clauses,
+        words: total + 2 * circuit::gate::count(hit),
+    }
+}
+
+// The sizes of the clause list of a cascade; else 2, 11, 6 or 7.
+pub fn sizes(n: u64, words: &[u64]) -> SizesAnswer
+    ensures { λ r. ⌜ ofSizes r ≡ sizesOutcome n (now (words .entry)) ⌝ }
+{
+    match circuit::words::check_cascade(n, words, Gate::MAX_MITER_GATES) {
+        CountAnswer::Refused(why) => SizesAnswer::Refused(why),
+        CountAnswer::Gates(_) => SizesAnswer::Sizes(list_sizes(n, words)),
+    }
+}
