@@ -6,5 +6,6 @@ pub mod Satisfaction
 pub mod Stored
 pub mod Sizes
 pub mod Emitter
+pub mod Compare
 pub mod ClauseLaws
 pub mod Laws

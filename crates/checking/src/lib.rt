@@ -3,6 +3,7 @@
 ghost use Rattle.checking.specs.Laws.{CheckingLaws};
 
 pub mod clauses;
+pub mod compare;
 mod emitter;
 pub mod reduce;
 pub mod step;
@@ -10,5 +11,4 @@ pub mod step;
 // Has no effect: its contract is the record of this crate's laws.
 pub fn laws()
     ensures { λ _. ⌜ CheckingLaws ⌝ }
-{
-}
+{}

@@ -16,6 +16,20 @@ pub enum RunAnswer {
     Refused(Refusal),
 }
 
+// The state after all gates of the words; a record that is no gate on 64 lines does nothing.
+pub fn run_words(words: &[u64], state: u64) -> u64
+    ensures { λ r. ⌜ r ≡ run (gatesOf (now (words .entry))) state ⌝ }
+{
+    let gates = words.len() / Gate::WORDS;
+    let mut s = state;
+    let mut i = 0;
+    while i < gates {
+        s = crate::words::gate_at(words, i).apply(s);
+        i += 1;
+    }
+    s
+}
+
 // The state after all gates of the words, which are tested on the way; else 7.
 fn run_gates(n: u64, words: &[u64], state: u64) -> RunAnswer
     requires { ⌜ n ≤ maxLines ⌝ }

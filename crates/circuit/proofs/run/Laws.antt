@@ -22,13 +22,11 @@ use Rattle.circuit.proofs.gate.Laws.{apply-gate, apply-below}
 use Rattle.circuit.proofs.words.Laws.{gates-next, gates-end, check-lines, check-gates, gates-refused, gates-sized}
 
 -- a turn over the words: gate i acts, and the others after it
-pub run-turn : (ws : List ℕ) (i : ℕ) (g : Gate) (s : ℕ) → i < length ws / 3 → g ≡ gateAt ws i → valid maxLines g ≡ true
-    → run (gatesOf (drop (3 * i) ws)) s ≡ run (gatesOf (drop (3 * (i + 1)) ws)) (inverted g s)
+pub run-turn : (ws : List ℕ) (i : ℕ) (g : Gate) (s : ℕ) → i < length ws / 3 → g ≡ gateAt ws i
+    → run (gatesOf (drop (3 * i) ws)) s ≡ run (gatesOf (drop (3 * (i + 1)) ws)) (apply g s)
 unfolding fold
-run-turn ws i g s inside is v =
-    ap (λ (gs : List Gate). run gs s) (gates-next ws i inside)
-    ∙ ap (λ (f : Gate). run (gatesOf (drop (3 * (i + 1)) ws)) (apply f s)) (sym is)
-    ∙ ap (run (gatesOf (drop (3 * (i + 1)) ws))) (apply-gate g s v)
+run-turn ws i g s inside is =
+    ap (λ (gs : List Gate). run gs s) (gates-next ws i inside) ∙ ap (λ (f : Gate). run (gatesOf (drop (3 * (i + 1)) ws)) (apply f s)) (sym is)
 
 pub run-end : (ws : List ℕ) (i s : ℕ) → length ws / 3 ≤ i → run (gatesOf (drop (3 * i) ws)) s ≡ s
 unfolding fold

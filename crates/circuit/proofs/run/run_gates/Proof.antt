@@ -9,7 +9,7 @@ use Rattle.circuit.specs.Outcome.{served}
 use Rattle.circuit.specs.Words.{gatesOf, validFrom}
 use Rattle.circuit.specs.Run.{run}
 use Rattle.circuit.proofs.Outcome.{why, then-served, then-refused}
-use Rattle.circuit.proofs.gate.Laws.{valid-more}
+use Rattle.circuit.proofs.gate.Laws.{valid-more, apply-gate}
 use Rattle.circuit.proofs.words.Laws.{next-good, next-bad, none-left}
 use Rattle.circuit.proofs.run.Laws.{run-turn, run-end}
 use Rattle.circuit.proofs.run.run_gates.Statement.{statement}
@@ -63,8 +63,8 @@ loop-again c =
       omega arith,
       l .loop .inv .1 ∙ next-good _ _ _ _ (omega arith) (v .before .gate-at .ensures) good,
       l .loop .inv .2
-          ∙ run-turn (l .before .before .args .words .now) (l .loop .i) _ (l .loop .s) (omega arith) (v .before .gate-at .ensures) (valid-more _ _ _ (l .before .before .pre) good)
-          ∙ ap (run _) (sym (c .invert .ensures)),
+          ∙ run-turn (l .before .before .args .words .now) (l .loop .i) _ (l .loop .s) (omega arith) (v .before .gate-at .ensures)
+          ∙ ap (run _) (apply-gate _ (l .loop .s) (valid-more _ _ _ (l .before .before .pre) good) ∙ sym (c .invert .ensures)),
     )
 
 returns-2 : tie.Need-returns-2 Inv-loop μ-loop
