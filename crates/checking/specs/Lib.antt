@@ -7,5 +7,6 @@ pub mod Stored
 pub mod Sizes
 pub mod Emitter
 pub mod Compare
+pub mod Faults
 pub mod ClauseLaws
 pub mod Laws

@@ -5,6 +5,7 @@ ghost use Rattle.checking.specs.Laws.{CheckingLaws};
 pub mod clauses;
 pub mod compare;
 mod emitter;
+pub mod faults;
 pub mod reduce;
 pub mod step;
 

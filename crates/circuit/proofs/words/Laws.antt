@@ -124,6 +124,17 @@ valid-all-more m n (g ∷ gs) h v =
     let (a, b) = and-parts (valid m g) (allValid m gs) v in
     both (valid-more m n g h a) (valid-all-more m n gs h b)
 
+-- gate i of valid gates, and those after it
+pub valid-next : (n : ℕ) (ws : List ℕ) (i : ℕ) (g : Gate) → i < length ws / 3 → g ≡ gateAt ws i → allValid n (gatesOf (drop (3 * i) ws)) ≡ true → valid n g ≡ true
+unfolding allValid
+valid-next n ws i g h is v =
+    ap (valid n) is ∙ and-parts (valid n (gateAt ws i)) (allValid n (gatesOf (drop (3 * (i + 1)) ws))) (sym (ap (allValid n) (gates-next ws i h)) ∙ v) .0
+
+pub valid-later : (n : ℕ) (ws : List ℕ) (i : ℕ) → i < length ws / 3 → allValid n (gatesOf (drop (3 * i) ws)) ≡ true → allValid n (gatesOf (drop (3 * (i + 1)) ws)) ≡ true
+unfolding allValid
+valid-later n ws i h v =
+    and-parts (valid n (gateAt ws i)) (allValid n (gatesOf (drop (3 * (i + 1)) ws))) (sym (ap (allValid n) (gates-next ws i h)) ∙ v) .1
+
 -- ---- the test of each gate
 
 pub from-good : (n i : ℕ) (g : Gate) (gs : List Gate) → valid n g ≡ true → validFrom n i (g ∷ gs) ≡ validFrom n (i + 1) gs
