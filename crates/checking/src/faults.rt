@@ -155,7 +155,14 @@ fn check_faults(na: u64, suspect: &[u64], nb: u64, reference: &[u64], states: &[
 }
 
 // The number of gates of the suspect, whose masks stand at the buffer's start; else what is wrong with the pair, 9, 12 or 10.
-pub fn fault_masks(na: u64, suspect: &[u64], nb: u64, reference: &[u64], states: &[u64], out: &mut [u64]) -> CountAnswer
+pub fn fault_masks(
+    na: u64,
+    suspect: &[u64],
+    nb: u64,
+    reference: &[u64],
+    states: &[u64],
+    out: &mut [u64],
+) -> CountAnswer
     ensures { λ r. ⌜ Yields (ofCount r) (now (out .exit)) (faultOutcome na (now (suspect .entry)) nb (now (reference .entry)) (now (states .entry)) (length (now (out .entry)))) (faultBuffer na (now (suspect .entry)) nb (now (reference .entry)) (now (states .entry)) (now (out .entry))) ⌝ }
 {
     match check_faults(na, suspect, nb, reference, states) {

@@ -142,6 +142,7 @@ free-mask n g l =
   where
     used : ℕ → Bool
     used k = (bit (g .positive) k || bit (g .negative) k) || eqb k (g .target)
+
     digit : (k : ℕ) → bit (bitAnd (2 ^ n - 1) (bitXor (bitOr (bitOr (g .positive) (g .negative)) (2 ^ g .target)) (2 ^ maxLines - 1))) k
         ≡ (ltb k n && xor (used k) (ltb k maxLines))
     digit k =

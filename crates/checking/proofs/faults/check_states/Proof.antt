@@ -57,8 +57,7 @@ loop-again : tie.Need-loop-again Inv-loop μ-loop
 loop-again c =
     let b = c .before in
     let l = b .before .before .before in
-    let a = l .before .before .args in
-    (
+    let a = l .before .before .args in (
       omega arith,
       l .loop .inv .1 ∙ each-next (inside (a .n)) badState (a .states .now) (l .loop .i) _ (omega arith) refl (sym (b .below .ensures) ∙ not-false _ (c .if1 .left)),
     )

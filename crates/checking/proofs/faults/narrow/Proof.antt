@@ -89,15 +89,14 @@ loop-again c =
     let i = l .loop .i in
     let s = l .loop .s in
     let v : ℕ = bitAnd (getD out (2 * i) 0) (p .kept-positive .result) in
-    let w : ℕ = bitAnd (getD (set out (2 * i) v) (2 * i + 1) 0) (n .kept-negative .result) in
-    (
+    let w : ℕ = bitAnd (getD (set out (2 * i) v) (2 * i + 1) 0) (n .kept-negative .result) in (
       omega arith,
       length-set (set out (2 * i) v) (2 * i + 1) w ∙ length-set out (2 * i) v ∙ l .loop .inv .1,
       omega (arith, length-set (set out (2 * i) v) (2 * i + 1) w, length-set out (2 * i) v),
       l .loop .inv .3
-      ∙ narrow-turn ws out i _ (omega arith) (omega arith) (g .gate-at .ensures) s v w (ap (bitAnd (getD out (2 * i) 0)) (p .kept-positive .ensures))
-      (ap₂ bitAnd (getD-set-other out (2 * i) (2 * i + 1) v 0 (λ e. omega arith)) (n .kept-negative .ensures))
-      ∙ ap (λ (t : ℕ). take (2 * (i + 1)) (twoSet out (2 * i) v w) ++ narrowed (gatesOf (drop (3 * (i + 1)) ws)) t (drop (2 * (i + 1)) (twoSet out (2 * i) v w))) (sym (c .apply .ensures)),
+          ∙ narrow-turn ws out i _ (omega arith) (omega arith) (g .gate-at .ensures) s v w (ap (bitAnd (getD out (2 * i) 0)) (p .kept-positive .ensures))
+          (ap₂ bitAnd (getD-set-other out (2 * i) (2 * i + 1) v 0 (λ e. omega arith)) (n .kept-negative .ensures))
+          ∙ ap (λ (t : ℕ). take (2 * (i + 1)) (twoSet out (2 * i) v w) ++ narrowed (gatesOf (drop (3 * (i + 1)) ws)) t (drop (2 * (i + 1)) (twoSet out (2 * i) v w))) (sym (c .apply .ensures)),
     )
 
 same-length : tie.Need-same-length Inv-loop μ-loop

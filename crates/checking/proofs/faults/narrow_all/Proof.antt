@@ -39,8 +39,7 @@ loop-again : tie.Need-loop-again Inv-loop μ-loop
 loop-again c =
     let n = c .before .before in
     let l = n .before .before .before .before in
-    let a = l .before .before .before .before .args in
-    (
+    let a = l .before .before .before .before .args in (
       omega arith,
       n .narrow .kept .1 .1 .0 ∙ l .loop .inv .1,
       l .loop .inv .2 ∙ states-next (gatesOf (a .words .now)) (a .states .now) (l .loop .out) _ (l .loop .i) _ (omega arith) refl (n .narrow .ensures),

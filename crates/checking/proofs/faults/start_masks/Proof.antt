@@ -68,8 +68,7 @@ loop-again c =
     let ws = a .words .now in
     let out = l .loop .out in
     let i = l .loop .i in
-    let m : ℕ = c .free-lines .result in
-    (
+    let m : ℕ = c .free-lines .result in (
       omega arith,
       length-set (set out (2 * i) m) (2 * i + 1) m ∙ length-set out (2 * i) m ∙ l .loop .inv .1,
       omega (arith, length-set (set out (2 * i) m) (2 * i + 1) m, length-set out (2 * i) m),
