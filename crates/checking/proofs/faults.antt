@@ -1,3 +1,6 @@
--- `Masks` has the laws of masks and of one state more, and `Loops` those of the loops over gates and states and of what the call answers.
+-- `Masks` has the laws of masks and of one state more, `Loops` those of the loops over gates and states and of what the call answers,
+-- `Laws` those of candidates, repairs and excluded lines, and `StandIns` what they shut out and the record of them.
 pub mod Masks
 pub mod Loops
+pub mod Laws
+pub mod StandIns

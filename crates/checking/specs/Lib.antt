@@ -8,5 +8,6 @@ pub mod Sizes
 pub mod Emitter
 pub mod Compare
 pub mod Faults
+pub mod FaultLaws
 pub mod ClauseLaws
 pub mod Laws

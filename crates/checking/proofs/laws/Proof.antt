@@ -1,10 +1,11 @@
 -- `checking::laws` meets its contract: the record of the laws. Assumes nothing.
 use Rattle.checking.proofs.clauses.Laws.{clause-laws}
+use Rattle.checking.proofs.faults.StandIns.{fault-laws}
 use Rattle.checking.proofs.laws.Statement.{statement}
 use Rattle.checking.proofs.laws.Tie as tie
 
 returns : tie.Need-returns
-returns c = record { clauses = clause-laws }
+returns c = record { clauses = clause-laws; faults = fault-laws }
 
 pub laws-spec : {M : Type 1} → statement M
 laws-spec = tie.close (tie.spec returns)
