@@ -1,3 +1,5 @@
+pub mod Miter
 pub mod Step
 pub mod Reduce
+pub mod MiterLaws
 pub mod StepLaws

@@ -1,4 +1,5 @@
 // Miter, reduction step and full reduction of cascades.
 
+pub mod miter;
 pub mod reduce;
 pub mod step;
