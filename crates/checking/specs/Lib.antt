@@ -3,3 +3,4 @@ pub mod Step
 pub mod Reduce
 pub mod MiterLaws
 pub mod StepLaws
+pub mod ReduceLaws
