@@ -4,3 +4,5 @@ pub mod Reduce
 pub mod MiterLaws
 pub mod StepLaws
 pub mod ReduceLaws
+pub mod StandIns
+pub mod Laws

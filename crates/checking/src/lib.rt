@@ -1,5 +1,12 @@
 // Miter, reduction step and full reduction of cascades.
 
+ghost use Rattle.checking.specs.Laws.{CheckingLaws};
+
 pub mod miter;
 pub mod reduce;
 pub mod step;
+
+// Has no effect: its contract is the record of this crate's laws.
+pub fn laws()
+    ensures { λ _. ⌜ CheckingLaws ⌝ }
+{}

@@ -1,10 +1,10 @@
 // The full reduction: steps until none.
 
+use crate::step::Kind;
+use crate::step::Stepped;
 use circuit::gate::Gate;
 use circuit::refusal::Refusal;
 use circuit::words::CountAnswer;
-use crate::step::Kind;
-use crate::step::Stepped;
 ghost use mathlib.Core.Path.{_≡_};
 ghost use Prim.Native.Nat.{_%_};
 ghost use lib.ListN.{length};
@@ -22,7 +22,11 @@ pub struct Reduction {
 
 // The same, or a refusal.
 pub enum ReduceAnswer {
-    Reduced { gates: usize, pairs: usize, merges: usize },
+    Reduced {
+        gates: usize,
+        pairs: usize,
+        merges: usize,
+    },
     Refused(Refusal),
 }
 
@@ -44,7 +48,12 @@ fn reduce_gates(words: &mut [u64]) -> Reduction
                     merges,
                 };
             }
-            Stepped::Found { i: _, j: _, kind, gates: left } => {
+            Stepped::Found {
+                i: _,
+                j: _,
+                kind,
+                gates: left,
+            } => {
                 gates = left;
                 match kind {
                     Kind::Cancel => {

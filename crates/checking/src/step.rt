@@ -48,13 +48,23 @@ pub enum Search {
 
 // What a step on gates did: the places, the match and the number of gates left; or nothing.
 pub enum Stepped {
-    Found { i: usize, j: usize, kind: Kind, gates: usize },
+    Found {
+        i: usize,
+        j: usize,
+        kind: Kind,
+        gates: usize,
+    },
     Nothing,
 }
 
 // What a step on a caller's words did, or a refusal.
 pub enum StepAnswer {
-    Found { i: usize, j: usize, kind: Kind, gates: usize },
+    Found {
+        i: usize,
+        j: usize,
+        kind: Kind,
+        gates: usize,
+    },
     Nothing,
     Refused(Refusal),
 }
@@ -201,7 +211,12 @@ fn remove_pair(words: &mut [u64], i: usize, j: usize)
     requires { ⌜ length (now words) % 3 ≡ 0 ⌝ }
     ensures { λ _. ⌜ now (words .exit) ≡ filled (replaced i j [] (gatesOf (now (words .entry)))) (length (now (words .entry))) ⌝ }
 {
-    move_down(words, Gate::WORDS * i, Gate::WORDS * (i + 1), Gate::WORDS * j);
+    move_down(
+        words,
+        Gate::WORDS * i,
+        Gate::WORDS * (i + 1),
+        Gate::WORDS * j,
+    );
     close_gap(words, Gate::WORDS * (j - 1), Gate::WORDS * (j + 1));
 }
 
@@ -212,7 +227,12 @@ fn merge_pair(words: &mut [u64], i: usize, j: usize, r: Gate)
     requires { ⌜ length (now words) % 3 ≡ 0 ⌝ }
     ensures { λ _. ⌜ now (words .exit) ≡ filled (replaced i j (r ∷ []) (gatesOf (now (words .entry)))) (length (now (words .entry))) ⌝ }
 {
-    move_down(words, Gate::WORDS * i, Gate::WORDS * (i + 1), Gate::WORDS * j);
+    move_down(
+        words,
+        Gate::WORDS * i,
+        Gate::WORDS * (i + 1),
+        Gate::WORDS * j,
+    );
     let at = Gate::WORDS * (j - 1);
     circuit::words::put_gate(&mut words[at..], r);
     close_gap(words, Gate::WORDS * j, Gate::WORDS * (j + 1));

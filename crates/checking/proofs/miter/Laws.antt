@@ -23,7 +23,7 @@ use Rattle.circuit.proofs.words.Laws.{gates-length, gates-words, words-gates, w
 use Rattle.circuit.proofs.run.Laws.{run-append}
 use Rattle.circuit.proofs.inverse.Laws.{run-inverse, inverse-run, inverse-valid, inverse-written}
 use Rattle.checking.specs.Miter.{miterGates, miterOutcome, miterBuffer}
-use Rattle.checking.specs.MiterLaws.{MiterServed, MiterStands}
+use Rattle.checking.specs.MiterLaws.{MiterServed, MiterStands, MiterLaws}
 
 -- ---- the identity exactly where the two agree
 
@@ -137,3 +137,11 @@ module _ (na : ℕ) (a : List ℕ) (nb : ℕ) (b : List ℕ) where
               };
           rest = ap (drop (3 * k)) written-out ∙ drop-at front _ (3 * k) front-length ∙ ap (λ (n : ℕ). drop n out) front-length;
         }
+
+pub miter-laws : MiterLaws
+miter-laws =
+    record {
+      identity = λ a b s. (identity-agree a b s, agree-identity a b s);
+      miter-served = λ na a nb b room k. (miter-served na a nb b room k, served-miter na a nb b room k);
+      miter-stands = miter-stands;
+    }

@@ -76,8 +76,8 @@ loop-again c =
       omega arith,
       omega arith,
       l .loop .inv .2
-      ∙ words-on _ _ _ _ (m .before .before .loop-test .taken) (m .before .gate-at2 .ensures) (sym (m .match-gates .ensures) ∙ t .enum-told .given .1)
-      (sym (p .may-pass .ensures) ∙ not-false _ (c .if1 .left)),
+          ∙ words-on _ _ _ _ (m .before .before .loop-test .taken) (m .before .gate-at2 .ensures) (sym (m .match-gates .ensures) ∙ t .enum-told .given .1)
+          (sym (p .may-pass .ensures) ∙ not-false _ (c .if1 .left)),
     )
 
 returns-3 : tie.Need-returns-3 Inv-loop μ-loop

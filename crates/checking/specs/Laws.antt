@@ -1,0 +1,11 @@
+-- What this crate proves, one field a group.
+use Rattle.checking.specs.MiterLaws.{MiterLaws}
+use Rattle.checking.specs.StepLaws.{StepLaws}
+use Rattle.checking.specs.ReduceLaws.{ReduceLaws}
+use Rattle.checking.specs.StandIns.{StandInLaws}
+
+pub record CheckingLaws : Type 0 where
+  pub miter : MiterLaws
+  pub steps : StepLaws
+  pub reductions : ReduceLaws
+  pub stand-ins : StandInLaws
