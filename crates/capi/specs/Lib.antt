@@ -1,2 +1,4 @@
 pub mod Count
 pub mod Run
+pub mod Step
+pub mod Reduce
