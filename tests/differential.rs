@@ -6,7 +6,10 @@
 
 mod calls {
     pub mod inverse;
+    pub mod miter;
+    pub mod reduce;
     pub mod run;
+    pub mod step;
 }
 mod capi;
 mod classes;
@@ -23,7 +26,13 @@ use random::Random;
 const SEED: u64 = 20_240_601;
 
 /// One section a call. It checks its cases and returns its table.
-const SECTIONS: &[fn(&mut Random) -> Counts] = &[calls::run::section, calls::inverse::section];
+const SECTIONS: &[fn(&mut Random) -> Counts] = &[
+    calls::run::section,
+    calls::inverse::section,
+    calls::miter::section,
+    calls::step::section,
+    calls::reduce::section,
+];
 
 fn main() {
     let seed = match std::env::args().nth(1) {
