@@ -3,9 +3,11 @@ use Rattle.checking.specs.MiterLaws.{MiterLaws}
 use Rattle.checking.specs.StepLaws.{StepLaws}
 use Rattle.checking.specs.ReduceLaws.{ReduceLaws}
 use Rattle.checking.specs.StandIns.{StandInLaws}
+use Rattle.checking.specs.Rows.{RowLaws}
 
 pub record CheckingLaws : Type 0 where
   pub miter : MiterLaws
   pub steps : StepLaws
   pub reductions : ReduceLaws
   pub stand-ins : StandInLaws
+  pub rows : RowLaws

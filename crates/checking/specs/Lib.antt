@@ -5,4 +5,5 @@ pub mod MiterLaws
 pub mod StepLaws
 pub mod ReduceLaws
 pub mod StandIns
+pub mod Rows
 pub mod Laws

@@ -3,11 +3,19 @@ use Rattle.checking.proofs.miter.Laws.{miter-laws}
 use Rattle.checking.proofs.step.Laws.{step-laws}
 use Rattle.checking.proofs.reduce.Relation.{reduce-laws}
 use Rattle.checking.proofs.StandIns.{stand-in-laws}
+use Rattle.checking.proofs.Rows.{row-laws}
 use Rattle.checking.proofs.laws.Statement.{statement}
 use Rattle.checking.proofs.laws.Tie as tie
 
 returns : tie.Need-returns
-returns c = record { miter = miter-laws; steps = step-laws; reductions = reduce-laws; stand-ins = stand-in-laws }
+returns c =
+    record {
+      miter = miter-laws;
+      steps = step-laws;
+      reductions = reduce-laws;
+      stand-ins = stand-in-laws;
+      rows = row-laws;
+    }
 
 pub laws-spec : {M : Type 1} → statement M
 laws-spec = tie.close (tie.spec returns)
