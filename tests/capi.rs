@@ -26,6 +26,28 @@ pub struct SizesAnswer {
     pub words: u64,
 }
 
+#[repr(C)]
+#[derive(Clone, Copy, Debug, PartialEq)]
+pub struct StepAnswer {
+    pub number: u64,
+    pub place: u64,
+    pub found: u64,
+    pub i: u64,
+    pub j: u64,
+    pub kind: u64,
+    pub gates: u64,
+}
+
+#[repr(C)]
+#[derive(Clone, Copy, Debug, PartialEq)]
+pub struct ReduceAnswer {
+    pub number: u64,
+    pub place: u64,
+    pub gates: u64,
+    pub pairs: u64,
+    pub merges: u64,
+}
+
 extern "C" {
     pub fn cascade_run(lines: u64, words: *const u64, words_len: usize, state: u64) -> RunAnswer;
     pub fn cascade_inverse(
@@ -36,4 +58,16 @@ extern "C" {
         out_len: usize,
     ) -> CountAnswer;
     pub fn cascade_sizes(lines: u64, words: *const u64, words_len: usize) -> SizesAnswer;
+    pub fn cascade_miter(
+        a_lines: u64,
+        a: *const u64,
+        a_len: usize,
+        b_lines: u64,
+        b: *const u64,
+        b_len: usize,
+        out: *mut u64,
+        out_len: usize,
+    ) -> CountAnswer;
+    pub fn cascade_step(lines: u64, words: *mut u64, words_len: usize) -> StepAnswer;
+    pub fn cascade_reduce(lines: u64, words: *mut u64, words_len: usize) -> ReduceAnswer;
 }

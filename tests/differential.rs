@@ -6,8 +6,11 @@
 
 mod calls {
     pub mod inverse;
+    pub mod miter;
+    pub mod reduce;
     pub mod run;
     pub mod sizes;
+    pub mod step;
 }
 mod capi;
 mod classes;
@@ -28,6 +31,9 @@ const SECTIONS: &[fn(&mut Random) -> Counts] = &[
     calls::run::section,
     calls::inverse::section,
     calls::sizes::section,
+    calls::miter::section,
+    calls::step::section,
+    calls::reduce::section,
 ];
 
 fn main() {

@@ -124,11 +124,16 @@ impl Counts {
     /// The call must serve, refuse with each of the numbers, and meet each two of them at once. The
     /// numbers are in the order of the tests.
     pub fn require_refusals(&mut self, numbers: &[u64]) {
+        self.require_tests(&names(numbers));
+    }
+
+    /// The same for tests by name, where one number is tested twice.
+    pub fn require_tests(&mut self, names: &[String]) {
         self.require(&["served"]);
-        for (i, first) in numbers.iter().enumerate() {
-            self.require(&[&refused(*first)]);
-            for later in &numbers[i + 1..] {
-                self.require(&[&before(*first, *later)]);
+        for (i, first) in names.iter().enumerate() {
+            self.require(&[&refused(first)]);
+            for later in &names[i + 1..] {
+                self.require(&[&before(first, later)]);
             }
         }
     }
@@ -148,13 +153,18 @@ impl Counts {
 
     /// One case, with the numbers of all tests that hold of it, in the order of the tests.
     pub fn add_case(&mut self, offences: &[u64]) {
+        self.add_tested_case(&names(offences));
+    }
+
+    /// The same with the names of the tests.
+    pub fn add_tested_case(&mut self, offences: &[String]) {
         self.cases += 1;
         match offences.split_first() {
             None => self.add("served"),
             Some((first, later)) => {
-                self.add(&refused(*first));
-                for number in later {
-                    self.add(&before(*first, *number));
+                self.add(&refused(first));
+                for name in later {
+                    self.add(&before(first, name));
                 }
             }
         }
@@ -175,10 +185,14 @@ impl Counts {
     }
 }
 
-fn refused(number: u64) -> String {
-    format!("refused with {number}")
+fn names(numbers: &[u64]) -> Vec<String> {
+    numbers.iter().map(u64::to_string).collect()
 }
 
-fn before(first: u64, later: u64) -> String {
+fn refused(name: &str) -> String {
+    format!("refused with {name}")
+}
+
+fn before(first: &str, later: &str) -> String {
     format!("{first} before {later}")
 }

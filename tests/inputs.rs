@@ -221,6 +221,96 @@ fn damage_word_count(random: &mut Random, words: &mut Vec<u64>) {
     }
 }
 
+// ---- cascades for steps
+
+/// A cascade of valid gates of which many match: few lines, gates copied and slightly changed, and
+/// halves that are equal.
+pub fn matching_cascade(random: &mut Random, limit: usize) -> Cascade {
+    let lines = match random.below(4) {
+        0 => random.pick(&[1, 2, 63, 64]),
+        _ => 2 + random.below(5),
+    };
+    let gates = match random.below(200) {
+        0 => limit - random.index(2),
+        1..=20 => random.index(3),
+        _ => 2 + random.index(14),
+    };
+    let mut words = good_cascade(random, lines, gates).words;
+    match random.below(4) {
+        0 => mirror(random, lines, &mut words),
+        1 => {}
+        _ => repeat_gates(random, lines, &mut words),
+    }
+    Cascade {
+        lines,
+        words,
+        state: random.word() & all_lines(lines),
+    }
+}
+
+/// Makes the second half the first one reversed, and changes a few gates.
+fn mirror(random: &mut Random, lines: u64, words: &mut [u64]) {
+    let gates = words.len() / 3;
+    for i in 0..gates / 2 {
+        let last = gates - 1 - i;
+        words.copy_within(3 * i..3 * i + 3, 3 * last);
+    }
+    for _ in 0..random.index(3) {
+        change_gate(random, lines, words);
+    }
+}
+
+/// Copies gates over others, some with a change.
+fn repeat_gates(random: &mut Random, lines: u64, words: &mut [u64]) {
+    let gates = words.len() / 3;
+    for _ in 0..gates.min(12) {
+        let (from, to) = (random.index(gates), random.index(gates));
+        words.copy_within(3 * from..3 * from + 3, 3 * to);
+        if random.one_in(2) {
+            change_gate(random, lines, words);
+        }
+    }
+}
+
+/// Takes a control from a gate, gives it one, or reverses one; the gate stays valid.
+fn change_gate(random: &mut Random, lines: u64, words: &mut [u64]) {
+    if words.is_empty() {
+        return;
+    }
+    let at = 3 * random.index(words.len() / 3);
+    let line = 1 << random.below(lines);
+    if line == 1 << words[at + 2] {
+        return;
+    }
+    words[at] &= !line;
+    words[at + 1] &= !line;
+    if random.one_in(3) {
+        return;
+    }
+    words[at + random.index(2)] |= line;
+}
+
+/// A cascade with the chosen faults: a bad line count, a left-over word, a gate too many, a bad gate.
+pub fn faulty_cascade(random: &mut Random, faults: [bool; 4], limit: usize) -> Cascade {
+    let lines = good_line_count(random);
+    let gates = if faults[2] {
+        limit + 1
+    } else {
+        1 + random.index(4)
+    };
+    let mut cascade = good_cascade(random, lines, gates);
+    if faults[3] {
+        cascade.words[2] = 64 + random.below(9);
+    }
+    if faults[1] {
+        cascade.words.push(0);
+    }
+    if faults[0] {
+        cascade.lines = bad_line_count(random);
+    }
+    cascade
+}
+
 // ---- every edge of the rules
 
 /// Hands over cascades of one gate at every edge of the rules, and long ones around the limit.

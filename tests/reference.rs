@@ -69,6 +69,34 @@ impl Gate {
         true
     }
 
+    /// The polarity of the control at a line below 64, where there is one.
+    pub fn control(self, line: u64) -> Option<bool> {
+        if has(self.positive, line) {
+            return Some(true);
+        }
+        if has(self.negative, line) {
+            return Some(false);
+        }
+        None
+    }
+
+    /// The gate with another control, or none, at the line.
+    fn with_control(self, line: u64, control: Option<bool>) -> Gate {
+        let mut gate = Gate {
+            positive: 0,
+            negative: 0,
+            target: self.target,
+        };
+        for k in 0..64 {
+            match if k == line { control } else { self.control(k) } {
+                Some(true) => gate.positive += 1 << k,
+                Some(false) => gate.negative += 1 << k,
+                None => {}
+            }
+        }
+        gate
+    }
+
     /// The new state; the same one if the record is no gate on 64 lines.
     pub fn apply(self, state: u64) -> u64 {
         if !self.valid(64) {
@@ -200,13 +228,186 @@ pub fn inverse(n: u64, words: &[u64], out: &mut [u64]) -> Result<u64, Refusal> {
     if short_buffer(out, words.len()) {
         return refuse(10, 0);
     }
-    for i in 0..gates.len() {
-        let gate = gates[gates.len() - 1 - i];
+    let reversed: Vec<Gate> = gates.iter().rev().copied().collect();
+    put(&reversed, out);
+    Ok(gates.len() as u64)
+}
+
+// ---- miter
+
+/// The gate count; A's gates and then B's reversed are at the buffer's start.
+pub fn miter(na: u64, a: &[u64], nb: u64, b: &[u64], out: &mut [u64]) -> Result<u64, Refusal> {
+    let (mut gates, second) = test_pair(na, a, nb, b)?;
+    gates.extend(second.iter().rev());
+    if short_buffer(out, 3 * gates.len()) {
+        return refuse(10, 0);
+    }
+    put(&gates, out);
+    Ok(gates.len() as u64)
+}
+
+/// Writes the gates' words at the buffer's start.
+fn put(gates: &[Gate], out: &mut [u64]) {
+    for (i, gate) in gates.iter().enumerate() {
         out[3 * i] = gate.positive;
         out[3 * i + 1] = gate.negative;
         out[3 * i + 2] = gate.target;
     }
-    Ok(gates.len() as u64)
+}
+
+// ---- reduction step
+
+#[derive(Clone, Copy, Debug, PartialEq)]
+pub enum Match {
+    Pair,
+    Drop,
+    Turn,
+}
+
+/// Neither's target is a control of the other.
+pub fn may_pass(g: Gate, h: Gate) -> bool {
+    h.control(g.target).is_none() && g.control(h.target).is_none()
+}
+
+/// Which match holds of two gates, and the gate that remains.
+pub fn matched(g: Gate, h: Gate) -> Option<(Match, Option<Gate>)> {
+    if g.target != h.target {
+        return None;
+    }
+    if (0..64).all(|k| g.control(k) == h.control(k)) {
+        return Some((Match::Pair, None));
+    }
+    if let Some(line) = opposite_line(g, h) {
+        return Some((Match::Drop, Some(g.with_control(line, None))));
+    }
+    for (longer, shorter) in [(g, h), (h, g)] {
+        if let Some(line) = extra_line(longer, shorter) {
+            let reversed = longer.control(line).map(|positive| !positive);
+            return Some((Match::Turn, Some(longer.with_control(line, reversed))));
+        }
+    }
+    None
+}
+
+/// The line of opposite polarity, where the control lines are the same and it is the only one.
+fn opposite_line(g: Gate, h: Gate) -> Option<u64> {
+    let mut opposite = Vec::new();
+    for k in 0..64 {
+        match (g.control(k), h.control(k)) {
+            (Some(a), Some(b)) if a != b => opposite.push(k),
+            (Some(_), None) | (None, Some(_)) => return None,
+            _ => {}
+        }
+    }
+    only(opposite)
+}
+
+/// The line that the longer has beyond those of the shorter, where the shared ones agree and it is
+/// the only one.
+fn extra_line(longer: Gate, shorter: Gate) -> Option<u64> {
+    let mut extra = Vec::new();
+    for k in 0..64 {
+        match (longer.control(k), shorter.control(k)) {
+            (Some(_), None) => extra.push(k),
+            (None, Some(_)) => return None,
+            (Some(a), Some(b)) if a != b => return None,
+            _ => {}
+        }
+    }
+    only(extra)
+}
+
+fn only(lines: Vec<u64>) -> Option<u64> {
+    match lines[..] {
+        [line] => Some(line),
+        _ => None,
+    }
+}
+
+/// What a step found.
+#[derive(Clone, Copy, Debug, PartialEq)]
+pub struct Found {
+    pub i: usize,
+    pub j: usize,
+    pub kind: Match,
+    pub gates: usize,
+}
+
+/// The lowest i, then the lowest j above i, that match where gate i may pass every gate between.
+fn search(gates: &[Gate]) -> Option<(usize, usize, Match, Option<Gate>)> {
+    for i in 0..gates.len() {
+        for j in i + 1..gates.len() {
+            if let Some((kind, remaining)) = matched(gates[i], gates[j]) {
+                return Some((i, j, kind, remaining));
+            }
+            if !may_pass(gates[i], gates[j]) {
+                break;
+            }
+        }
+    }
+    None
+}
+
+/// One step on the gates: gate i goes, place j takes the remaining gate or goes too.
+fn step_gates(gates: &mut Vec<Gate>) -> Option<Found> {
+    let (i, j, kind, remaining) = search(gates)?;
+    match remaining {
+        Some(gate) => gates[j] = gate,
+        None => {
+            gates.remove(j);
+        }
+    }
+    gates.remove(i);
+    Some(Found {
+        i,
+        j,
+        kind,
+        gates: gates.len(),
+    })
+}
+
+/// Writes the gates, and 0 into each freed word at the end.
+fn put_freed(gates: &[Gate], words: &mut [u64]) {
+    put(gates, words);
+    words[3 * gates.len()..].fill(0);
+}
+
+/// What one step found; the words are those of the gates that then stand.
+pub fn step(n: u64, words: &mut [u64]) -> Result<Option<Found>, Refusal> {
+    let mut gates = test_cascade(n, words, MITER_GATES)?;
+    let found = step_gates(&mut gates);
+    if found.is_some() {
+        put_freed(&gates, words);
+    }
+    Ok(found)
+}
+
+// ---- full reduction
+
+/// The gates left, the pairs, and the drops and turns.
+#[derive(Clone, Copy, Debug, PartialEq)]
+pub struct Reduced {
+    pub gates: usize,
+    pub pairs: u64,
+    pub merges: u64,
+}
+
+/// Steps until none.
+pub fn reduce(n: u64, words: &mut [u64]) -> Result<Reduced, Refusal> {
+    let mut gates = test_cascade(n, words, MITER_GATES)?;
+    let (mut pairs, mut merges) = (0, 0);
+    while let Some(found) = step_gates(&mut gates) {
+        match found.kind {
+            Match::Pair => pairs += 1,
+            Match::Drop | Match::Turn => merges += 1,
+        }
+    }
+    put_freed(&gates, words);
+    Ok(Reduced {
+        gates: gates.len(),
+        pairs,
+        merges,
+    })
 }
 
 // ---- clause list

@@ -1,6 +1,6 @@
 //! Checks of the reference itself: the starred rows of document 01 and small cases worked by hand.
 
-use crate::reference::{self, Clause, ClauseList, Gate, Refusal, Sizes};
+use crate::reference::{self, Clause, ClauseList, Found, Gate, Match, Reduced, Refusal, Sizes};
 
 pub fn check() {
     starred_runs();
@@ -10,6 +10,9 @@ pub fn check() {
     pairs();
     clauses();
     sizes();
+    miter();
+    starred_steps();
+    reductions();
 }
 
 fn refusal<T>(number: u64, place: u64) -> Result<T, Refusal> {
@@ -131,4 +134,64 @@ fn sizes() {
     };
     assert_eq!(reference::sizes(1, &[]), sizes(2, 2, 6));
     assert_eq!(reference::sizes(3, &[3, 0, 2]), sizes(8, 8, 34));
+}
+
+/// A's gates, then B's reversed; the rest stays.
+fn miter() {
+    let (a, b) = ([1, 0, 1], [0, 0, 0, 0, 1, 1]);
+    let mut out = [9; 10];
+    assert_eq!(reference::miter(2, &a, 2, &b, &mut out), Ok(3));
+    assert_eq!(out, [1, 0, 1, 0, 1, 1, 0, 0, 0, 9]);
+    assert_eq!(reference::miter(2, &a, 2, &b, &mut [9; 8]), refusal(10, 0));
+    assert_eq!(reference::miter(2, &a, 3, &b, &mut [9; 8]), refusal(8, 0));
+}
+
+/// The words after a step on three lines, and what it found.
+fn after_step(gates: &[[u64; 3]]) -> (Option<Found>, Vec<u64>) {
+    let mut words = gates.concat();
+    let found = reference::step(3, &mut words).expect("the gates are valid");
+    (found, words)
+}
+
+/// The six starred rows about steps.
+fn starred_steps() {
+    let found = |i, j, kind, gates| Some(Found { i, j, kind, gates });
+    let t2_with_0_and_1 = [3, 0, 2];
+    let t2_with_0_not_1 = [1, 2, 2];
+    let t2_with_0 = [1, 0, 2];
+    let t2_with_1 = [2, 0, 2];
+    let t2_not_0_not_1 = [0, 3, 2];
+    let t1 = [0, 0, 1];
+    let (step, words) = after_step(&[t2_with_0_and_1, t2_with_0_and_1]);
+    assert_eq!((step, words), (found(0, 1, Match::Pair, 0), vec![0; 6]));
+    let (step, words) = after_step(&[t2_with_0_and_1, t2_with_0_not_1]);
+    assert_eq!(step, found(0, 1, Match::Drop, 1));
+    assert_eq!(words, [t2_with_0, [0; 3]].concat());
+    let (step, words) = after_step(&[t2_with_0_and_1, t2_with_0]);
+    assert_eq!(step, found(0, 1, Match::Turn, 1));
+    assert_eq!(words, [t2_with_0_not_1, [0; 3]].concat());
+    let (step, words) = after_step(&[t2_with_0_and_1, t2_not_0_not_1]);
+    assert_eq!(step, None);
+    assert_eq!(words, [t2_with_0_and_1, t2_not_0_not_1].concat());
+    let (step, words) = after_step(&[t2_with_0, t1, t2_with_0]);
+    assert_eq!(step, found(0, 2, Match::Pair, 1));
+    assert_eq!(words, [t1, [0; 3], [0; 3]].concat());
+    let (step, words) = after_step(&[t2_with_1, t1, t2_with_1]);
+    assert_eq!(step, None);
+    assert_eq!(words, [t2_with_1, t1, t2_with_1].concat());
+}
+
+/// Two pairs; a drop whose gate then makes a pair; nothing.
+fn reductions() {
+    let reduce = |gates: &[[u64; 3]]| reference::reduce(3, &mut gates.concat());
+    let reduced = |gates, pairs, merges| {
+        Ok(Reduced {
+            gates,
+            pairs,
+            merges,
+        })
+    };
+    assert_eq!(reduce(&[[0, 0, 0]; 4]), reduced(0, 2, 0));
+    assert_eq!(reduce(&[[3, 0, 2], [1, 2, 2], [1, 0, 2]]), reduced(0, 1, 1));
+    assert_eq!(reduce(&[[1, 0, 2], [0, 0, 0]]), reduced(2, 0, 0));
 }

@@ -1,3 +1,5 @@
 pub mod Count
 pub mod Run
 pub mod Sizes
+pub mod Step
+pub mod Reduce

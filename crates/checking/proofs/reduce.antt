@@ -1,3 +1,4 @@
--- `Laws` has the laws of `specs/Reduce.antt`, and `Turns` those of the loop over words.
+-- The laws of `specs/Reduce.antt`: `Laws` has those of its definition, `Turns` those of the loop over words, and `Relation` the relation.
 pub mod Laws
 pub mod Turns
+pub mod Relation

@@ -7,3 +7,4 @@ pub mod Verdicts
 pub mod Relation
 pub mod Calls
 pub mod Keeping
+pub mod Laws

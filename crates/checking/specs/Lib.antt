@@ -1,5 +1,7 @@
+pub mod Miter
 pub mod Step
 pub mod Reduce
+pub mod MiterLaws
 pub mod StepLaws
 pub mod Clauses
 pub mod Satisfaction
@@ -10,4 +12,7 @@ pub mod Compare
 pub mod Faults
 pub mod FaultLaws
 pub mod ClauseLaws
+pub mod ReduceLaws
+pub mod StandIns
+pub mod Rows
 pub mod Laws

@@ -6,6 +6,7 @@ pub mod clauses;
 pub mod compare;
 mod emitter;
 pub mod faults;
+pub mod miter;
 pub mod reduce;
 pub mod step;
 

@@ -8,7 +8,6 @@ use Rattle.circuit.specs.declared.gate.Gate.{Gate}
 use Rattle.checking.specs.declared.step.Kind.{Kind}
 use Rattle.checking.specs.declared.step.Kind.the-variants.{Cancel, RemoveControl, InvertControl}
 use Rattle.checking.specs.declared.step.Match.{Match}
-use Rattle.checking.specs.declared.step.Match.the-variants as match
 use Rattle.checking.specs.declared.step.Search.{Search}
 use Rattle.checking.specs.declared.step.Search.the-variants as hits
 use Rattle.circuit.specs.Gate.{maxMiterGates}
@@ -16,20 +15,11 @@ use Rattle.circuit.specs.Outcome.{Outcome, served, refused, Yields}
 use Rattle.circuit.specs.Words.{gatesOf, checkOutcome}
 use Rattle.circuit.proofs.Outcome.{then-served, then-refused}
 use Rattle.checking.specs.Step.{searchFrom, kindOf, remaining, replaced, Step, found, none, searched, stepGates, filled, servedWords}
+use Rattle.checking.specs.StepLaws.{taken}
 use Rattle.checking.specs.Reduce.{Reduced, tallied, continued, reduceBy, reduceGates, numbered, reduceOutcome, reduceBuffer}
 use Rattle.checking.proofs.step.Moving.{replaced-length}
 use Rattle.checking.proofs.step.Relation.{search-places}
-
--- the gates that a match takes away
-abbrev pub taken : Kind → ℕ
-taken Cancel = 2
-taken RemoveControl = 1
-taken InvertControl = 1
-
-pub match-taken : (m : Match) → length (remaining m) + taken (kindOf m) ≡ 2
-match-taken match.Cancel = refl
-match-taken (match.RemoveControl r) = refl
-match-taken (match.InvertControl r) = refl
+use Rattle.checking.proofs.step.Keeping.{match-taken}
 
 pub taken-some : (k : Kind) → 0 < taken k
 taken-some Cancel = omega arith

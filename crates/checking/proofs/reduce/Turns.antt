@@ -14,7 +14,9 @@ use Rattle.checking.specs.declared.step.Kind.{Kind}
 use Rattle.checking.specs.declared.step.Kind.the-variants.{Cancel, RemoveControl, InvertControl}
 use Rattle.checking.specs.Step.{Step, found, none, stepGates, counted, stepWords, filled}
 use Rattle.checking.specs.Reduce.{Reduced, tallied, reduceGates, numbered}
-use Rattle.checking.proofs.reduce.Laws.{taken, step-shrinks, reduce-found, reduce-none}
+use Rattle.checking.specs.StepLaws.{taken}
+use Rattle.checking.proofs.step.Moving.{filled-length}
+use Rattle.checking.proofs.reduce.Laws.{step-shrinks, reduce-found, reduce-none}
 
 -- pairs and merges counted before
 abbrev pub plus : ℕ → ℕ → Reduced (List Gate) → Reduced (List Gate)
@@ -59,11 +61,6 @@ pub record Standing (first words : List ℕ) (gates pairs merges : ℕ) : Type 0
   pub fits : 3 * gates ≤ length first
   pub budget : gates + (2 * pairs + merges) ≡ length first / 3
   pub sum : reduceGates (gatesOf first) ≡ plus pairs merges (reduceGates now)
-
-pub filled-length : (gs : List Gate) (room : ℕ) → 3 * length gs ≤ room → length (filled gs room) ≡ room
-unfolding filled
-filled-length gs room h =
-    length-append (wordsOf gs) _ ∙ ap₂ (λ (x y : ℕ). x + y) (words-length gs) (length-replicate (room - 3 * length gs) 0) ∙ omega arith
 
 pub standing-first : (ws : List ℕ) → length ws % 3 ≡ 0 → Standing ws ws (length ws / 3) 0 0
 unfolding filled

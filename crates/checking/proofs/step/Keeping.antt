@@ -16,8 +16,9 @@ use Rattle.circuit.specs.Run.{run}
 use Rattle.circuit.proofs.words.Laws.{valid-append}
 use Rattle.circuit.proofs.run.Laws.{run-append}
 use Rattle.checking.specs.declared.step.Match.{Match}
-use Rattle.checking.specs.Step.{mayPass, remaining, between, replaced}
-use Rattle.checking.specs.StepLaws.{Matches, gateIn, Candidate}
+use Rattle.checking.specs.declared.step.Match.the-variants as match
+use Rattle.checking.specs.Step.{mayPass, kindOf, remaining, between, replaced}
+use Rattle.checking.specs.StepLaws.{Matches, gateIn, Candidate, taken}
 use Rattle.checking.proofs.step.Lines.{passing, match-run, match-valid}
 use Rattle.checking.proofs.step.Relation.{gate-valid}
 
@@ -111,3 +112,9 @@ module _ (gs : List Gate) (i j : ℕ) (order : i < j) (inside : j < length gs) w
         ∙ run-append front (g ∷ (bs ++ (h ∷ cs))) s
         ∙ past g bs (h ∷ cs) (p .gate) (p .middle) pass x
         ∙ run-append bs (g ∷ (h ∷ cs)) x)
+
+-- of two gates that match, so many go
+pub match-taken : (m : Match) → length (remaining m) + taken (kindOf m) ≡ 2
+match-taken match.Cancel = refl
+match-taken (match.RemoveControl r) = refl
+match-taken (match.InvertControl r) = refl

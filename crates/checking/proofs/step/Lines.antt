@@ -19,7 +19,7 @@ use Rattle.circuit.proofs.gate.Laws.{fires-lines, lines-fires, valid-by-lines, 
 use Rattle.checking.specs.declared.step.Match.{Match}
 use Rattle.checking.specs.declared.step.Match.the-variants as match
 use Rattle.checking.specs.Step.{controlLines, mayPass, remaining}
-use Rattle.checking.specs.StepLaws.{OneMore, Matches, pair, drop, turn-first, turn-second}
+use Rattle.checking.specs.StepLaws.{Uncontrolled, OneMore, Matches, pair, drop, turn-first, turn-second}
 
 -- what holds on line k and on every other line
 pub at-line : (P : ℕ → Type 0) (k : ℕ) → P k → ((l : ℕ) → (l ≡ k → ⊥) → P l) → (l : ℕ) → P l
@@ -124,11 +124,6 @@ more-valid r less k b o n v below aside =
 
 -- ---- two gates, one after the other
 
--- line t is no control of g
-pub record Uncontrolled (g : Gate) (t : ℕ) : Type 0 where
-  pub not-positive : bit (g .positive) t ≡ false
-  pub not-negative : bit (g .negative) t ≡ false
-
 xor-off : (x f : Bool) → xor x (f && false) ≡ x
 unfolding xor
 xor-off true true = refl
@@ -176,6 +171,23 @@ pass-clear g h e =
     let (p, q) = clear-line (h .positive) (h .negative) (g .target) (eqb-true _ _ a) in
     let (u, v) = clear-line (g .positive) (g .negative) (h .target) (eqb-true _ _ b) in
     (record { not-positive = p; not-negative = q }, record { not-positive = u; not-negative = v })
+
+line-clear : (p q t : ℕ) → bit p t ≡ false → bit q t ≡ false → bitAnd (bitOr p q) (2 ^ t) ≡ 0
+line-clear p q t a b =
+    bits-equal _ _
+    (at-line (λ (l : ℕ). bit (bitAnd (bitOr p q) (2 ^ t)) l ≡ bit 0 l) t
+    (bit-and _ _ t ∙ ap (λ (x : Bool). x && bit (2 ^ t) t) (bit-or p q t ∙ ap₂ _||_ a b) ∙ sym (bit-none t))
+    (λ l d. bit-and _ _ l ∙ ap (λ (x : Bool). bit (bitOr p q) l && x) (bit-pow t l ∙ ne-eqb l t d) ∙ and-off (bit (bitOr p q) l) ∙ sym (bit-none l)))
+  where
+    and-off : (x : Bool) → (x && false) ≡ false
+    and-off true = refl
+    and-off false = refl
+
+pub clear-pass : (g h : Gate) → Uncontrolled h (g .target) → Uncontrolled g (h .target) → mayPass g h ≡ true
+unfolding mayPass controlLines
+clear-pass g h c d =
+    both (eq-eqb _ _ (line-clear (h .positive) (h .negative) (g .target) (c .not-positive) (c .not-negative)))
+    (eq-eqb _ _ (line-clear (g .positive) (g .negative) (h .target) (d .not-positive) (d .not-negative)))
 
 xor-swap : (a b c : Bool) → xor (xor a b) c ≡ xor (xor a c) b
 unfolding xor

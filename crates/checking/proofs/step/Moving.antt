@@ -181,3 +181,8 @@ module _ (ws : List ℕ) (i j : ℕ) (rest : List Gate) (order : i < j) (inside 
       let z : 3 * (j + 1) - to ≡ length ws - 3 * length (replaced i j rest (gatesOf ws)) = omega arith in
       f
       ∙ ap₂ (λ (x : List ℕ) (k : ℕ). x ++ replicate k 0) (pushed (before ++ wordsOf rest) ws mid to (3 * (j + 1)) n h e ∙ sym words-replaced) z
+
+pub filled-length : (gs : List Gate) (room : ℕ) → 3 * length gs ≤ room → length (filled gs room) ≡ room
+unfolding filled
+filled-length gs room h =
+    length-append (wordsOf gs) _ ∙ ap₂ (λ (x y : ℕ). x + y) (words-length gs) (length-replicate (room - 3 * length gs) 0) ∙ omega arith

@@ -95,3 +95,10 @@ pub inverse-told : (n : ℕ) (ws out : List ℕ) (r o : Outcome ℕ) (last : Lis
     → last ≡ written o (wordsOf (inverse (gatesOf ws))) out → Yields r last (inverseOutcome n ws (length out)) (inverseBuffer n ws out)
 unfolding inverseBuffer
 inverse-told n ws out r o last e f l = told (wordsOf (inverse (gatesOf ws))) out r last (inverseOutcome n ws (length out)) o e f l
+
+-- the buffer of a served call
+pub inverse-written : (n : ℕ) (ws out : List ℕ) (k : ℕ) → checkOutcome n ws maxGates ≡ served k → length ws ≤ length out
+    → inverseBuffer n ws out ≡ over (wordsOf (inverse (gatesOf ws))) out
+unfolding inverseBuffer
+inverse-written n ws out k good room =
+    ap (λ (o : Outcome ℕ). written o (wordsOf (inverse (gatesOf ws))) out) (inverse-made n ws (length out) k good room)

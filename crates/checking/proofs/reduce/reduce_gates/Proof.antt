@@ -7,7 +7,7 @@ use borrow.Rule.Slice.PartMut.{putMid, same-len-mid}
 use Rattle.checking.specs.declared.step.Kind.{Kind}
 use Rattle.checking.specs.declared.step.Kind.the-variants.{Cancel, RemoveControl, InvertControl}
 use Rattle.checking.specs.Step.{found, none, ofStepped}
-use Rattle.checking.proofs.reduce.Laws.{taken}
+use Rattle.checking.specs.StepLaws.{taken}
 use Rattle.checking.proofs.reduce.Turns.{Standing, standing-first, lent-whole, ended, left-less, onward, pairsOf, mergesOf}
 use Rattle.checking.proofs.reduce.reduce_gates.Statement.{statement}
 use Rattle.checking.proofs.reduce.reduce_gates.Tie as tie

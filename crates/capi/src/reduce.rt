@@ -1,0 +1,42 @@
+// cascade_reduce.
+
+use checking::reduce::ReduceAnswer;
+ghost use mathlib.Core.Path.{_≡_};
+ghost use Rattle.circuit.specs.Outcome.{Yields};
+ghost use Rattle.checking.specs.Reduce.{reduceOutcome, reduceBuffer};
+ghost use Rattle.capi.specs.Reduce.{reduceAnswer};
+
+#[repr(C)]
+pub struct CascadeReduceAnswer {
+    pub number: u64,
+    pub place: u64,
+    pub gates: u64,
+    pub pairs: u64,
+    pub merges: u64,
+}
+
+#[no_mangle]
+pub extern "C" fn cascade_reduce(lines: u64, words: &mut [u64]) -> CascadeReduceAnswer
+    ensures { λ r. ⌜ Yields r (now (words .exit)) (reduceAnswer (reduceOutcome lines (now (words .entry)))) (reduceBuffer lines (now (words .entry))) ⌝ }
+{
+    match checking::reduce::reduce(lines, words) {
+        ReduceAnswer::Reduced {
+            gates,
+            pairs,
+            merges,
+        } => CascadeReduceAnswer {
+            number: 0,
+            place: 0,
+            gates: gates as u64,
+            pairs: pairs as u64,
+            merges: merges as u64,
+        },
+        ReduceAnswer::Refused(why) => CascadeReduceAnswer {
+            number: why.number,
+            place: why.place,
+            gates: 0,
+            pairs: 0,
+            merges: 0,
+        },
+    }
+}

@@ -1,0 +1,65 @@
+// cascade_step.
+
+use checking::step::Kind;
+use checking::step::StepAnswer;
+ghost use mathlib.Core.Path.{_≡_};
+ghost use Rattle.circuit.specs.Outcome.{Yields};
+ghost use Rattle.checking.specs.Step.{stepOutcome, stepBuffer};
+ghost use Rattle.capi.specs.Step.{kindNumber, stepAnswer};
+
+#[repr(C)]
+pub struct CascadeStepAnswer {
+    pub number: u64,
+    pub place: u64,
+    pub found: u64,
+    pub i: u64,
+    pub j: u64,
+    pub kind: u64,
+    pub gates: u64,
+}
+
+// The number of a match: 0 pair, 1 drop, 2 turn.
+fn kind_number(kind: Kind) -> u64
+    ensures { λ r. ⌜ r ≡ kindNumber kind ⌝ }
+{
+    match kind {
+        Kind::Cancel => 0,
+        Kind::RemoveControl => 1,
+        Kind::InvertControl => 2,
+    }
+}
+
+#[no_mangle]
+pub extern "C" fn cascade_step(lines: u64, words: &mut [u64]) -> CascadeStepAnswer
+    ensures { λ r. ⌜ Yields r (now (words .exit)) (stepAnswer (stepOutcome lines (now (words .entry)))) (stepBuffer lines (now (words .entry))) ⌝ }
+{
+    match checking::step::step(lines, words) {
+        StepAnswer::Found { i, j, kind, gates } => CascadeStepAnswer {
+            number: 0,
+            place: 0,
+            found: 1,
+            i: i as u64,
+            j: j as u64,
+            kind: kind_number(kind),
+            gates: gates as u64,
+        },
+        StepAnswer::Nothing => CascadeStepAnswer {
+            number: 0,
+            place: 0,
+            found: 0,
+            i: 0,
+            j: 0,
+            kind: 0,
+            gates: 0,
+        },
+        StepAnswer::Refused(why) => CascadeStepAnswer {
+            number: why.number,
+            place: why.place,
+            found: 0,
+            i: 0,
+            j: 0,
+            kind: 0,
+            gates: 0,
+        },
+    }
+}

@@ -1,0 +1,98 @@
+-- The starred rows of document 01, as one table with one test of all its rows.
+use mathlib.Core.Path.{_≡_}
+use mathlib.Core.Bool.{Bool, true, false, _&&_}
+use mathlib.Core.List.{List, [], _∷_}
+use Prim.Native.Nat.{ℕ}
+use lib.Dec.{eqb}
+use lib.ListN.{length}
+use Rattle.circuit.specs.declared.gate.Gate.{Gate}
+use Rattle.circuit.specs.Outcome.{Outcome, served, refused}
+use Rattle.circuit.specs.Words.{wordsOf}
+use Rattle.circuit.specs.Run.{runOutcome}
+use Rattle.checking.specs.Step.{Step, found, none, filled, stepOutcome, stepBuffer}
+
+-- what a row says of a call on n lines
+pub data Row : Type 0 where
+  -- the cascade gives this output on this state
+  run : (n : ℕ) (gates : List Gate) (state output : ℕ) → Row
+  -- after a step on these gates those stand; or it answers none
+  step : (n : ℕ) (gates after : List Gate) → Row
+  step-none : (n : ℕ) (gates : List Gate) → Row
+
+-- t2+0-1: target 2, positive control 0, negative control 1; masks have bit k for line k
+abbrev pub gate : ℕ → ℕ → ℕ → Gate
+gate target positive negative = record { positive = positive; negative = negative; target = target }
+
+abbrev pub t0 : Gate
+t0 = gate 0 0 0
+
+abbrev pub t1 : Gate
+t1 = gate 1 0 0
+
+abbrev pub t2+0 : Gate
+t2+0 = gate 2 1 0
+
+abbrev pub t2+1 : Gate
+t2+1 = gate 2 2 0
+
+abbrev pub t2+0+1 : Gate
+t2+0+1 = gate 2 3 0
+
+abbrev pub t2+0-1 : Gate
+t2+0-1 = gate 2 1 2
+
+abbrev pub t2-0-1 : Gate
+t2-0-1 = gate 2 0 3
+
+abbrev pub rows : List Row
+rows =
+    run 3 (t2+0+1 ∷ []) 3 7
+    ∷ run 3 (t2+0+1 ∷ []) 1 1
+    ∷ run 3 (t2+0-1 ∷ []) 1 5
+    ∷ run 3 (t2+0-1 ∷ []) 3 3
+    ∷ run 1 (t0 ∷ []) 0 1
+    ∷ step 3 (t2+0+1 ∷ t2+0+1 ∷ []) []
+    ∷ step 3 (t2+0+1 ∷ t2+0-1 ∷ []) (t2+0 ∷ [])
+    ∷ step 3 (t2+0+1 ∷ t2+0 ∷ []) (t2+0-1 ∷ [])
+    ∷ step-none 3 (t2+0+1 ∷ t2-0-1 ∷ [])
+    ∷ step 3 (t2+0 ∷ t1 ∷ t2+0 ∷ []) (t1 ∷ [])
+    ∷ step-none 3 (t2+1 ∷ t1 ∷ t2+1 ∷ [])
+    ∷ []
+
+-- two lists of words are the same
+abbrev pub sameWords : List ℕ → List ℕ → Bool
+sameWords [] [] = true
+sameWords [] (w ∷ ws) = false
+sameWords (v ∷ vs) [] = false
+sameWords (v ∷ vs) (w ∷ ws) = eqb v w && sameWords vs ws
+
+-- a call is served with this number
+abbrev pub servedWith : ℕ → Outcome ℕ → Bool
+servedWith k (served a) = eqb a k
+servedWith k (refused number place) = false
+
+-- a step found something and left so many gates; a step answered none
+abbrev pub foundWith : ℕ → Outcome (Step ℕ) → Bool
+foundWith k (served (found i j m gates)) = eqb gates k
+foundWith k (served none) = false
+foundWith k (refused number place) = false
+
+abbrev pub foundNone : Outcome (Step ℕ) → Bool
+foundNone (served (found i j m gates)) = false
+foundNone (served none) = true
+foundNone (refused number place) = false
+
+-- the call answers and leaves what the row says
+abbrev pub right : Row → Bool
+right (run n gates state output) = servedWith output (runOutcome n (wordsOf gates) state)
+right (step n gates after) =
+    foundWith (length after) (stepOutcome n (wordsOf gates)) && sameWords (stepBuffer n (wordsOf gates)) (filled after (length (wordsOf gates)))
+right (step-none n gates) = foundNone (stepOutcome n (wordsOf gates)) && sameWords (stepBuffer n (wordsOf gates)) (wordsOf gates)
+
+abbrev pub allRight : List Row → Bool
+allRight [] = true
+allRight (r ∷ rs) = right r && allRight rs
+
+-- every row is right
+pub record RowLaws : Type 0 where
+  pub all : allRight rows ≡ true
