@@ -100,16 +100,6 @@ module _ (n used : ℕ) (current : List ℕ) (g : Gate) (room : ℕ) (ready : Re
 
     -- more
     module _ (a : k ≡ 0 → ⊥) (b : k ≡ 1 → ⊥) where
-      pub many-ready : Many (g .positive) (g .negative) k n used target room
-      many-ready =
-          record {
-            apart = valid-facts n g (ready .gate) .apart;
-            count = is ∙ sym controls-known;
-            few = ready .few;
-            target = target-small;
-            enough = room-by (5 * k + 8) (ap (λ (t : Totals). t .words) (sizes-many k a b));
-          }
-
       two : 2 ≤ k
       two = from k a b
         where
@@ -117,6 +107,16 @@ module _ (n used : ℕ) (current : List ℕ) (g : Gate) (room : ℕ) (ready : Re
           from zero x y = absurd (x refl)
           from (suc zero) x y = absurd (y refl)
           from (suc (suc j)) x y = omega arith
+
+      pub many-ready : Many (g .positive) (g .negative) k n used target room
+      many-ready =
+          record {
+            apart = valid-facts n g (ready .gate) .apart;
+            count = is ∙ sym controls-known;
+            few = ready .few;
+            target = target-small;
+            enough = room-by (5 * k + 8) (ap (λ (t : Totals). t .words) (sizes-many k two));
+          }
 
       pub written-many : gateStored used current g ≡ manyStored current used target (g .positive) (g .negative) n
       written-many = by-literals ∙ more-stored used target literals (omega (arith, literals-known, two))
