@@ -8,7 +8,7 @@ mod plain;
 #[path = "../tests/random.rs"]
 mod random;
 
-use capi::{CountAnswer, RunAnswer};
+use capi::{CountAnswer, RunAnswer, SizesAnswer};
 use random::Random;
 use std::hint::black_box;
 use std::time::Instant;
@@ -23,6 +23,7 @@ const GATES_A_ROUND: usize = 32_768;
 
 type Run = fn(u64, &[u64], u64) -> RunAnswer;
 type Inverse = fn(u64, &[u64], &mut [u64]) -> CountAnswer;
+type Sizes = fn(u64, &[u64]) -> SizesAnswer;
 
 fn library_run(n: u64, words: &[u64], state: u64) -> RunAnswer {
     unsafe { capi::cascade_run(n, words.as_ptr(), words.len(), state) }
@@ -31,6 +32,10 @@ fn library_run(n: u64, words: &[u64], state: u64) -> RunAnswer {
 fn library_inverse(n: u64, words: &[u64], out: &mut [u64]) -> CountAnswer {
     let (start, room) = (out.as_mut_ptr(), out.len());
     unsafe { capi::cascade_inverse(n, words.as_ptr(), words.len(), start, room) }
+}
+
+fn library_sizes(n: u64, words: &[u64]) -> SizesAnswer {
+    unsafe { capi::cascade_sizes(n, words.as_ptr(), words.len()) }
 }
 
 // ---- inputs
@@ -109,6 +114,7 @@ fn same(n: u64, words: &[u64], state: u64, room: usize) {
     let library = library_inverse(n, words, &mut outs[0]);
     assert_eq!(library, plain::inverse(n, words, &mut outs[1]));
     assert_eq!(outs[0], outs[1]);
+    assert_eq!(library_sizes(n, words), plain::sizes(n, words));
 }
 
 // ---- time
@@ -134,6 +140,17 @@ fn time_inverse(work: &Work, inverse: Inverse) -> f64 {
     for call in 0..calls {
         let words = &work.cascades[call % CASCADES];
         black_box(inverse(work.lines, black_box(words), black_box(&mut out)));
+    }
+    start.elapsed().as_nanos() as f64 / calls as f64
+}
+
+/// Nanoseconds of one call.
+fn time_sizes(work: &Work, sizes: Sizes) -> f64 {
+    let calls = GATES_A_ROUND / (work.cascades[0].len() / 3);
+    let start = Instant::now();
+    for call in 0..calls {
+        let words = &work.cascades[call % CASCADES];
+        black_box(sizes(work.lines, black_box(words)));
     }
     start.elapsed().as_nanos() as f64 / calls as f64
 }
@@ -181,6 +198,11 @@ fn main() {
         let library = || time_inverse(work, library_inverse);
         let plain = || time_inverse(work, plain::inverse);
         highest = highest.max(compare("cascade_inverse", work.name, library, plain));
+    }
+    for work in &works {
+        let library = || time_sizes(work, library_sizes);
+        let plain = || time_sizes(work, plain::sizes);
+        highest = highest.max(compare("cascade_sizes", work.name, library, plain));
     }
     println!("bench: the highest ratio is {highest:.2}, the limit {LIMIT}");
     println!("\nagainst plain Rust with std::hint::select_unpredictable (not judged)");

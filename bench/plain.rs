@@ -1,18 +1,19 @@
-//! Run and inverse in plain Rust, written for speed, with the same answers as the C interface.
+//! Run, inverse and sizes in plain Rust, written for speed, with the same answers as the C interface.
 
-use crate::capi::{CountAnswer, RunAnswer};
+use crate::capi::{CountAnswer, RunAnswer, SizesAnswer};
 use std::hint::select_unpredictable;
 
 const LIMIT: usize = 1024;
+const MITER_LIMIT: usize = 2048;
 
 /// The tests 2, 11, 6: the number of the first that holds, or 0.
 #[inline(always)]
-fn shape_refusal(n: u64, words: &[u64]) -> u64 {
+fn shape_refusal(n: u64, words: &[u64], limit: usize) -> u64 {
     if n.wrapping_sub(1) >= 64 {
         2
     } else if words.len() % 3 != 0 {
         11
-    } else if words.len() > 3 * LIMIT {
+    } else if words.len() > 3 * limit {
         6
     } else {
         0
@@ -35,7 +36,7 @@ fn is_gate([positive, negative, target]: [u64; 3], n: u64, lines_from_n: u64) ->
 /// the gate fires.
 #[inline(always)]
 fn run_by(n: u64, words: &[u64], state: u64, inverted: fn(u64, u64, bool) -> u64) -> RunAnswer {
-    let number = shape_refusal(n, words);
+    let number = shape_refusal(n, words, LIMIT);
     if number != 0 {
         return RunAnswer {
             number,
@@ -90,7 +91,7 @@ pub fn run_hinted(n: u64, words: &[u64], state: u64) -> RunAnswer {
 /// Tests all gates, then copies them from the last place to the first.
 #[inline(never)]
 pub fn inverse(n: u64, words: &[u64], out: &mut [u64]) -> CountAnswer {
-    let number = shape_refusal(n, words);
+    let number = shape_refusal(n, words, LIMIT);
     if number != 0 {
         return CountAnswer {
             number,
@@ -124,5 +125,43 @@ pub fn inverse(n: u64, words: &[u64], out: &mut [u64]) -> CountAnswer {
         number: 0,
         place: 0,
         gates: gates.len() as u64,
+    }
+}
+
+/// Tests each gate and adds up its sizes in one pass.
+#[inline(never)]
+pub fn sizes(n: u64, words: &[u64]) -> SizesAnswer {
+    let refused = |number, place| SizesAnswer {
+        number,
+        place,
+        variables: 0,
+        clauses: 0,
+        words: 0,
+    };
+    let number = shape_refusal(n, words, MITER_LIMIT);
+    if number != 0 {
+        return refused(number, 0);
+    }
+    let lines_from_n = lines_from(n);
+    let (mut variables, mut clauses, mut total) = (2 * n, n + 1, 4 * n + 2);
+    let mut targeted: u64 = 0;
+    for (index, &gate) in words.as_chunks().0.iter().enumerate() {
+        if !is_gate(gate, n, lines_from_n) {
+            return refused(7, index as u64);
+        }
+        let [positive, negative, target] = gate;
+        let k = u64::from(positive.count_ones() + negative.count_ones());
+        targeted |= 1 << target;
+        let many = k >= 2;
+        variables += if many { 2 } else { 1 };
+        clauses += if many { k + 2 } else { 1 };
+        total += if many { 5 * k + 8 } else { 4 + k };
+    }
+    SizesAnswer {
+        number: 0,
+        place: 0,
+        variables,
+        clauses,
+        words: total + 2 * u64::from(targeted.count_ones()),
     }
 }

@@ -7,5 +7,6 @@ pub mod Meaning
 pub mod Reading
 pub mod StandIns
 pub mod Sums
+pub mod Rows
 pub mod Loop
 pub mod Laws

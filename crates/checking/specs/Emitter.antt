@@ -2,12 +2,13 @@
 use mathlib.Core.Path.{_≡_}
 use mathlib.Core.Bool.{Bool, true, cond}
 use mathlib.Core.List.{List, map}
-use Prim.Native.Nat.{ℕ, _+_, _≤_, _<_}
+use Prim.Native.Nat.{ℕ, suc, _+_, _*_, _≤_, _<_}
+use lib.Bits.{bitAnd}
 use lib.IntN.{ℤ}
 use lib.ListN.{length, getD}
 use Rattle.circuit.specs.declared.gate.Gate.{Gate}
 use Rattle.circuit.specs.Gate.{maxLines, valid, controlCount, Control, controlsBelow}
-use Rattle.checking.specs.Clauses.{plus, minus, literalOf, clausesOfGate}
+use Rattle.checking.specs.Clauses.{plus, minus, literalOf, manyClauses, clausesOfGate}
 use Rattle.checking.specs.Stored.{stored}
 use Rattle.checking.specs.Sizes.{gateSizes}
 
@@ -35,6 +36,18 @@ pub record Currents (n : ℕ) (current : List ℕ) : Type 0 where
   pub lines : n ≤ maxLines
   pub long : n ≤ length current
   pub small : (k : ℕ) → k < n → byLine current k < 32768
+
+-- the clauses with a p, in words
+abbrev pub manyStored : List ℕ → ℕ → ℕ → ℕ → ℕ → ℕ → List ℤ
+manyStored current used v positive negative n = stored (manyClauses (suc used) (suc (suc used)) v (literalsIn current positive negative n))
+
+-- k controls in two masks that share no line, room for their words, and variables that fit a word
+pub record Many (positive negative k n used v room : ℕ) : Type 0 where
+  pub apart : bitAnd positive negative ≡ 0
+  pub count : k ≡ length (controlsIn positive negative n)
+  pub few : used + 2 < 32768
+  pub target : v < 32768
+  pub enough : 5 * k + 8 ≤ room
 
 -- a gate on n lines, room for its words, and variables that fit a word
 pub record Ready (n used : ℕ) (current : List ℕ) (g : Gate) (room : ℕ) : Type 0 where

@@ -7,6 +7,7 @@ pub mod Clauses
 pub mod Satisfaction
 pub mod Stored
 pub mod Sizes
+pub mod ClauseRows
 pub mod Emitter
 pub mod Compare
 pub mod Faults

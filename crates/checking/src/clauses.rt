@@ -3,13 +3,13 @@
 use circuit::gate::Gate;
 use circuit::refusal::Refusal;
 use circuit::words::CountAnswer;
-ghost use mathlib.Core.Bool.{true};
 ghost use mathlib.Core.Path.{_≡_};
-ghost use Prim.Native.Nat.{_*_, _^_, _<_, _≤_};
+ghost use Prim.Native.Nat.{_/_, _^_, _<_, _≤_};
 ghost use lib.Bits.{bitOr};
 ghost use lib.ListN.{length};
 ghost use Rattle.circuit.specs.Gate.{maxLines, maxMiterGates};
-ghost use Rattle.circuit.specs.Words.{gatesOf, allValid};
+ghost use Rattle.circuit.specs.Outcome.{served, andThen};
+ghost use Rattle.circuit.specs.Words.{gatesOf, validFrom};
 ghost use Rattle.checking.specs.Sizes.{gateSizes, sizesOf, sizesOutcome, ofSizes};
 
 // The variables, clauses and words of a clause list.
@@ -30,18 +30,11 @@ fn gate_sizes(k: u64) -> Totals
     requires { ⌜ k ≤ maxLines ⌝ }
     ensures { λ r. ⌜ r ≡ gateSizes k ⌝ }
 {
-    if k == 0 {
+    if k < 2 {
         return Totals {
             variables: 1,
             clauses: 1,
-            words: 4,
-        };
-    }
-    if k == 1 {
-        return Totals {
-            variables: 1,
-            clauses: 1,
-            words: 5,
+            words: 4 + k,
         };
     }
     Totals {
@@ -59,12 +52,11 @@ fn with_line(mask: u64, k: u64) -> u64
     mask | (1 << k)
 }
 
-// The sizes of the clause list of a cascade.
-pub(crate) fn list_sizes(n: u64, words: &[u64]) -> Totals
+// The sizes of the clause list of the gates, which are tested on the way; else 7.
+pub(crate) fn list_sizes(n: u64, words: &[u64]) -> SizesAnswer
     requires { ⌜ n ≤ maxLines ⌝ }
-    requires { ⌜ length (now words) ≤ 3 * maxMiterGates ⌝ }
-    requires { ⌜ allValid n (gatesOf (now words)) ≡ true ⌝ }
-    ensures { λ r. ⌜ r ≡ sizesOf n (gatesOf (now (words .entry))) ⌝ }
+    requires { ⌜ length (now words) / 3 ≤ maxMiterGates ⌝ }
+    ensures { λ r. ⌜ ofSizes r ≡ andThen (validFrom n 0 (gatesOf (now (words .entry)))) (λ k. served (sizesOf n (gatesOf (now (words .entry))))) ⌝ }
 {
     let gates = words.len() / Gate::WORDS;
     let mut variables = n + n;
@@ -74,6 +66,9 @@ pub(crate) fn list_sizes(n: u64, words: &[u64]) -> Totals
     let mut i = 0;
     while i < gates {
         let g = circuit::words::gate_at(words, i);
+        if !g.valid(n) {
+            return SizesAnswer::Refused(Refusal::no_gate(i as u64));
+        }
         let target = g.target;
         let t = gate_sizes(g.control_count());
         variables += t.variables;
@@ -82,19 +77,22 @@ pub(crate) fn list_sizes(n: u64, words: &[u64]) -> Totals
         hit = with_line(hit, target);
         i += 1;
     }
-    Totals {
+    SizesAnswer::Sizes(Totals {
         variables,
         clauses,
         words: total + 2 * circuit::gate::count(hit),
-    }
+    })
 }
 
 // The sizes of the clause list of a cascade; else 2, 11, 6 or 7.
 pub fn sizes(n: u64, words: &[u64]) -> SizesAnswer
     ensures { λ r. ⌜ ofSizes r ≡ sizesOutcome n (now (words .entry)) ⌝ }
 {
-    match circuit::words::check_cascade(n, words, Gate::MAX_MITER_GATES) {
+    if !circuit::words::line_count_good(n) {
+        return SizesAnswer::Refused(Refusal::bad_line_count());
+    }
+    match circuit::words::check_size(words, Gate::MAX_MITER_GATES) {
         CountAnswer::Refused(why) => SizesAnswer::Refused(why),
-        CountAnswer::Gates(_) => SizesAnswer::Sizes(list_sizes(n, words)),
+        CountAnswer::Gates(_) => list_sizes(n, words),
     }
 }

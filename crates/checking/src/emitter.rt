@@ -1,8 +1,9 @@
 // The clauses of one gate, in signed 16-bit words.
 
+use circuit::gate::Gate;
 ghost use mathlib.Core.Path.{_≡_};
 ghost use mathlib.Core.List.{[], _∷_};
-ghost use Prim.Native.Nat.{_*_, _≤_, _<_};
+ghost use Prim.Native.Nat.{_+_, _*_, _≤_, _<_};
 ghost use lib.IntN.{pos};
 ghost use lib.ListN.{length};
 ghost use Rattle.bits.specs.Digits.{bit};
@@ -11,7 +12,7 @@ ghost use Rattle.circuit.specs.Gate.{maxLines};
 ghost use Rattle.circuit.specs.Outcome.{Yields};
 ghost use Rattle.checking.specs.Clauses.{implied};
 ghost use Rattle.checking.specs.Stored.{stored};
-ghost use Rattle.checking.specs.Emitter.{literalWord, controlsIn, literalsIn, Currents};
+ghost use Rattle.checking.specs.Emitter.{literalWord, controlsIn, literalsIn, Currents, Many, manyStored, gateStored, Ready};
 
 // The number as a word.
 fn number(x: u64) -> i16
@@ -118,4 +119,59 @@ fn put_implied(
         k += 1;
     }
     at
+}
+
+// The clauses of k controls, two or more, with p = used + 1 and w = used + 2: OR (p, then every -c),
+// every OR (-p, c), XOR (-w, v, p).
+fn put_many(
+    positive: u64,
+    negative: u64,
+    k: u64,
+    n: u64,
+    current: &[u64],
+    used: u64,
+    v: u64,
+    out: &mut [i16],
+) -> usize
+    requires { ⌜ Currents n (now current) ⌝ }
+    requires { ⌜ Many positive negative k n used v (length (now out)) ⌝ }
+    ensures { λ r. ⌜ Yields r (now (out .exit)) (5 * k + 8) (over (manyStored (now (current .entry)) used v positive negative n) (now (out .entry))) ⌝ }
+{
+    let p = used + 1;
+    put_3(out, 0, number(k + 1), literal(p, true));
+    put_literals(negative, positive, n, current, &mut out[3..]);
+    let at = 3 + k as usize;
+    put_implied(positive, negative, n, current, p, &mut out[at..]);
+    let end = at + 4 * k as usize;
+    put_5(
+        &mut out[end..],
+        1,
+        3,
+        literal(p + 1, false),
+        literal(v, true),
+        literal(p, true),
+    );
+    end + 5
+}
+
+// The gate's clauses at the buffer's start, with `used` variables numbered so far; how many words.
+pub(crate) fn put_gate(g: Gate, n: u64, current: &[u64], used: u64, out: &mut [i16]) -> usize
+    requires { ⌜ Ready n used (now current) g (length (now out)) ⌝ }
+    ensures { λ r. ⌜ Yields r (now (out .exit)) (length (gateStored used (now (current .entry)) g)) (over (gateStored used (now (current .entry)) g) (now (out .entry))) ⌝ }
+{
+    let positive = g.positive;
+    let negative = g.negative;
+    let target = g.target;
+    let v = current[target as usize];
+    let k = g.control_count();
+    if k == 0 {
+        put_4(out, 1, 2, literal(used + 1, true), literal(v, true));
+        return 4;
+    }
+    if k == 1 {
+        put_4(out, 1, 3, literal(used + 1, false), literal(v, true));
+        put_literals(positive, negative, n, current, &mut out[4..]);
+        return 5;
+    }
+    put_many(positive, negative, k, n, current, used, v, out)
 }

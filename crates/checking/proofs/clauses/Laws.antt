@@ -6,6 +6,7 @@ use Rattle.checking.proofs.clauses.StandIns.{contradiction-fails, witho
 use Rattle.checking.proofs.clauses.Reading.{read-back, read-stored}
 use Rattle.checking.proofs.clauses.Bounds.{words-fit}
 use Rattle.checking.proofs.clauses.Sums.{sizes-list}
+use Rattle.checking.proofs.clauses.Rows.{rows-hold}
 
 pub clause-laws : ClauseLaws
 clause-laws =
@@ -21,4 +22,5 @@ clause-laws =
       read-stored = read-stored;
       words-fit = words-fit;
       sizes-list = sizes-list;
+      rows = rows-hold;
     }

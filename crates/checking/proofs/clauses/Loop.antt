@@ -15,12 +15,13 @@ use Rattle.bits.proofs.Bools.{and-parts, either, cond-true, cond-false}
 use Rattle.bits.proofs.Digits.{bit-none, bit-or, bit-pow, below-of-bits, lines-ones}
 use Rattle.circuit.specs.declared.gate.Gate.{Gate}
 use Rattle.circuit.specs.Gate.{maxLines, maxMiterGates, valid, controlCount, controlsOf}
-use Rattle.circuit.specs.Outcome.{Outcome, served, refused}
-use Rattle.circuit.specs.Words.{gatesOf, gateAt, allValid, checkOutcome, Cascade}
+use Rattle.circuit.specs.Outcome.{Outcome, served, refused, andThen}
+use Rattle.circuit.specs.Refusal.{badLineCount}
+use Rattle.circuit.specs.Words.{gatesOf, gateAt, allValid, lineCountGood, validFrom, sizeOutcome, checkOutcome}
 use Rattle.circuit.proofs.Outcome.{then-served, then-refused}
 use Rattle.circuit.proofs.gate.Laws.{Valid, valid-facts, valid-more}
 use Rattle.circuit.proofs.gate.Controls.{controls-count}
-use Rattle.circuit.proofs.words.Laws.{gates-next, gates-end, gates-length}
+use Rattle.circuit.proofs.words.Laws.{gates-next, gates-end, next-good, none-left, from-served, check-lines, check-gates, gates-refused, gates-sized}
 use Rattle.checking.specs.declared.clauses.Totals.{Totals}
 use Rattle.checking.specs.Clauses.{targeted, upFrom}
 use Rattle.checking.specs.Sizes.{totals, added, manySizes, gateSizes, gatesSizes, lineSizes, linesSizes, sizesOf, sizesOutcome}
@@ -28,11 +29,16 @@ use Rattle.checking.proofs.clauses.Bounds.{few-controls}
 use Rattle.checking.proofs.clauses.Tests.{or-false, or-none}
 use Rattle.checking.proofs.clauses.Forced.{length-upFrom}
 
--- a gate of two controls or more, as the code counts its words
-pub sizes-many : (k : ℕ) → (k ≡ 0 → ⊥) → (k ≡ 1 → ⊥) → gateSizes k ≡ totals 2 (k + 2) (5 * k + 8)
-sizes-many zero a b = absurd (a refl)
-sizes-many (suc zero) a b = absurd (b refl)
-sizes-many (suc (suc k)) a b =
+-- the words of a gate, as the code counts them
+pub sizes-few : (k : ℕ) → k < 2 → gateSizes k ≡ totals 1 1 (4 + k)
+sizes-few zero h = refl
+sizes-few (suc zero) h = refl
+sizes-few (suc (suc k)) h = absurd (omega arith)
+
+pub sizes-many : (k : ℕ) → 2 ≤ k → gateSizes k ≡ totals 2 (k + 2) (5 * k + 8)
+sizes-many zero h = absurd (omega arith)
+sizes-many (suc zero) h = absurd (omega arith)
+sizes-many (suc (suc k)) h =
     let e : suc (suc k) + 3 + 4 * suc (suc k) + 5 ≡ 5 * suc (suc k) + 8 = omega arith in
     ap (totals 2 (suc (suc k) + 2)) e
 
@@ -53,15 +59,6 @@ gate-small (suc (suc k)) h = record { few-variables = omega arith; few-clauses =
 
 pub sizes-small : (k : ℕ) (t : Totals) → k ≤ maxLines → t ≡ gateSizes k → Small t 1
 sizes-small k t h e = subst (λ (x : Totals). Small x 1) (sym e) (gate-small k h)
-
-gates-small : (n : ℕ) (gs : List Gate) → n ≤ maxLines → allValid n gs ≡ true → Small (gatesSizes gs) (length gs)
-unfolding gatesSizes allValid
-gates-small n [] few v = record { few-variables = omega arith; few-clauses = omega arith; few-words = omega arith }
-gates-small n (g ∷ gs) few v =
-    let (a, b) = and-parts (valid n g) (allValid n gs) v in
-    let one = gate-small (controlCount g) (controls-few n g few a) in
-    let more = gates-small n gs few b in
-    record { few-variables = omega arith; few-clauses = omega arith; few-words = omega arith }
 
 -- ---- the lines that gates target, as a mask
 
@@ -112,110 +109,109 @@ lines-words mask hit same (suc n) =
 
 -- ---- the loop
 
--- gates below i are summed up, and the others are left
+-- gates below i are valid and summed up, and the others are left
 pub record Summed (n : ℕ) (ws : List ℕ) (variables clauses words hit i : ℕ) : Type 0 where
   pub inside : i ≤ length ws / 3
-  pub good : allValid n (gatesOf (drop (3 * i) ws)) ≡ true
+  pub tested : validFrom n 0 (gatesOf ws) ≡ validFrom n i (gatesOf (drop (3 * i) ws))
+  pub few-variables : variables ≤ 2 * n + 2 * i
+  pub few-clauses : clauses ≤ n + 1 + 66 * i
+  pub few-words : words ≤ 4 * n + 2 + 328 * i
   pub variables-left : variables + gatesSizes (gatesOf (drop (3 * i) ws)) .variables ≡ n + n + gatesSizes (gatesOf ws) .variables
   pub clauses-left : clauses + gatesSizes (gatesOf (drop (3 * i) ws)) .clauses ≡ n + 1 + gatesSizes (gatesOf ws) .clauses
   pub words-left : words + gatesSizes (gatesOf (drop (3 * i) ws)) .words ≡ 4 * n + 2 + gatesSizes (gatesOf ws) .words
   pub lines-left : (k : ℕ) → (bit hit k || targeted (gatesOf (drop (3 * i) ws)) k) ≡ targeted (gatesOf ws) k
 
-pub summed-start : (n : ℕ) (ws : List ℕ) → allValid n (gatesOf ws) ≡ true → Summed n ws (n + n) (n + 1) (4 * n + 2) 0 0
-summed-start n ws v =
+pub summed-start : (n : ℕ) (ws : List ℕ) → Summed n ws (n + n) (n + 1) (4 * n + 2) 0 0
+summed-start n ws =
     record {
       inside = omega arith;
-      good = v;
+      tested = refl;
+      few-variables = omega arith;
+      few-clauses = omega arith;
+      few-words = omega arith;
       variables-left = refl;
       clauses-left = refl;
       words-left = refl;
       lines-left = λ k. ap (λ (b : Bool). b || targeted (gatesOf ws) k) (bit-none k);
     }
 
--- what was summed up stays small
-pub summed-small : (n : ℕ) (ws : List ℕ) (v c w hit i : ℕ) → n ≤ maxLines → length ws ≤ 3 * maxMiterGates → allValid n (gatesOf ws) ≡ true
-    → Summed n ws v c w hit i → (v ≤ 4224) × ((c ≤ 135234) × (w ≤ 672002))
-summed-small n ws v c w hit i few short good s =
-    let b = gates-small n (gatesOf ws) few good in
-    let l = gates-length ws in
-    let p = s .variables-left in
-    let q = s .clauses-left in
-    let r = s .words-left in
-    (omega (arith, b .few-variables), (omega (arith, b .few-clauses), omega (arith, b .few-words)))
+module _ (n : ℕ) (ws : List ℕ) (v c w hit i : ℕ) (g : Gate) (few : n ≤ maxLines) (s : Summed n ws v c w hit i) (inside : i < length ws / 3) (is : g ≡ gateAt ws i)
+    (good : valid n g ≡ true) (t : Totals) (sizes : t ≡ gateSizes (controlCount g)) where
+  turn-sizes : gatesSizes (gatesOf (drop (3 * i) ws)) ≡ added t (gatesSizes (gatesOf (drop (3 * (i + 1)) ws)))
+  unfolding gatesSizes
+  turn-sizes =
+      ap gatesSizes (gates-next ws i inside)
+      ∙ ap (λ (x : Totals). added x (gatesSizes (gatesOf (drop (3 * (i + 1)) ws)))) (ap (λ (h : Gate). gateSizes (controlCount h)) (sym is) ∙ sym sizes)
 
-module _ (n : ℕ) (ws : List ℕ) (v c w hit i : ℕ) (g : Gate) (few : n ≤ maxLines) (s : Summed n ws v c w hit i) (inside : i < length ws / 3) (is : g ≡ gateAt ws i) where
-  valid-both : (valid n g ≡ true) × (allValid n (gatesOf (drop (3 * (i + 1)) ws)) ≡ true)
-  unfolding allValid
-  valid-both =
-      let (a, b) =
-      and-parts (valid n (gateAt ws i)) (allValid n (gatesOf (drop (3 * (i + 1)) ws))) (sym (ap (allValid n) (gates-next ws i inside)) ∙ s .good) in
-      (ap (valid n) is ∙ a, b)
+  turn-lines : (k : ℕ) → (bit (bitOr hit (2 ^ g .target)) k || targeted (gatesOf (drop (3 * (i + 1)) ws)) k) ≡ targeted (gatesOf ws) k
+  unfolding targeted
+  turn-lines k =
+      ap (λ (b : Bool). b || targeted (gatesOf (drop (3 * (i + 1)) ws)) k) (bit-or hit (2 ^ g .target) k ∙ ap (λ (b : Bool). bit hit k || b) (bit-pow (g .target) k))
+      ∙ or-assoc (bit hit k) (eqb k (g .target)) (targeted (gatesOf (drop (3 * (i + 1)) ws)) k)
+      ∙ ap (λ (h : Gate). bit hit k || (eqb k (h .target) || targeted (gatesOf (drop (3 * (i + 1)) ws)) k)) is
+      ∙ ap (λ (gs : List Gate). bit hit k || targeted gs k) (sym (gates-next ws i inside))
+      ∙ s .lines-left k
+    where
+      or-assoc : (a b d : Bool) → ((a || b) || d) ≡ (a || (b || d))
+      or-assoc true b d = refl
+      or-assoc false b d = refl
 
-  pub turn-target : g .target < maxLines
-  turn-target = let t = valid-facts n g (valid-both .0) .target-below in omega arith
-
-  pub turn-controls : controlCount g ≤ maxLines
-  turn-controls = controls-few n g few (valid-both .0)
-
-  module _ (t : Totals) (sizes : t ≡ gateSizes (controlCount g)) where
-    turn-sizes : gatesSizes (gatesOf (drop (3 * i) ws)) ≡ added t (gatesSizes (gatesOf (drop (3 * (i + 1)) ws)))
-    unfolding gatesSizes
-    turn-sizes =
-        ap gatesSizes (gates-next ws i inside)
-        ∙ ap (λ (x : Totals). added x (gatesSizes (gatesOf (drop (3 * (i + 1)) ws)))) (ap (λ (h : Gate). gateSizes (controlCount h)) (sym is) ∙ sym sizes)
-
-    turn-lines : (k : ℕ) → (bit (bitOr hit (2 ^ g .target)) k || targeted (gatesOf (drop (3 * (i + 1)) ws)) k) ≡ targeted (gatesOf ws) k
-    unfolding targeted
-    turn-lines k =
-        ap (λ (b : Bool). b || targeted (gatesOf (drop (3 * (i + 1)) ws)) k) (bit-or hit (2 ^ g .target) k ∙ ap (λ (b : Bool). bit hit k || b) (bit-pow (g .target) k))
-        ∙ or-assoc (bit hit k) (eqb k (g .target)) (targeted (gatesOf (drop (3 * (i + 1)) ws)) k)
-        ∙ ap (λ (h : Gate). bit hit k || (eqb k (h .target) || targeted (gatesOf (drop (3 * (i + 1)) ws)) k)) is
-        ∙ ap (λ (gs : List Gate). bit hit k || targeted gs k) (sym (gates-next ws i inside))
-        ∙ s .lines-left k
-      where
-        or-assoc : (a b d : Bool) → ((a || b) || d) ≡ (a || (b || d))
-        or-assoc true b d = refl
-        or-assoc false b d = refl
-
-    pub summed-next : Summed n ws (v + t .variables) (c + t .clauses) (w + t .words) (bitOr hit (2 ^ g .target)) (i + 1)
-    summed-next =
-        record {
-          inside = omega arith;
-          good = valid-both .1;
-          variables-left = omega (arith, s .variables-left, ap (λ (x : Totals). x .variables) turn-sizes);
-          clauses-left = omega (arith, s .clauses-left, ap (λ (x : Totals). x .clauses) turn-sizes);
-          words-left = omega (arith, s .words-left, ap (λ (x : Totals). x .words) turn-sizes);
-          lines-left = turn-lines;
-        }
+  pub summed-next : Summed n ws (v + t .variables) (c + t .clauses) (w + t .words) (bitOr hit (2 ^ g .target)) (i + 1)
+  summed-next =
+      let one = sizes-small (controlCount g) t (controls-few n g few good) sizes in
+      record {
+        inside = omega arith;
+        tested = s .tested ∙ next-good n ws i g inside is good;
+        few-variables = omega (arith, s .few-variables, one .few-variables);
+        few-clauses = omega (arith, s .few-clauses, one .few-clauses);
+        few-words = omega (arith, s .few-words, one .few-words);
+        variables-left = omega (arith, s .variables-left, ap (λ (x : Totals). x .variables) turn-sizes);
+        clauses-left = omega (arith, s .clauses-left, ap (λ (x : Totals). x .clauses) turn-sizes);
+        words-left = omega (arith, s .words-left, ap (λ (x : Totals). x .words) turn-sizes);
+        lines-left = turn-lines;
+      }
 
 -- at the end
-pub summed-all : (n : ℕ) (ws : List ℕ) (v c w hit i : ℕ) → allValid n (gatesOf ws) ≡ true → length ws / 3 ≤ i → Summed n ws v c w hit i
-    → totals v c (w + 2 * ones hit) ≡ sizesOf n (gatesOf ws)
-unfolding sizesOf gatesSizes targeted
-summed-all n ws v c w hit i good past s =
-    let gs = gatesOf ws in
-    let none = gates-end ws i past in
-    let same : (k : ℕ) → bit hit k ≡ targeted gs k =
-    λ k. sym (or-false (bit hit k)) ∙ ap (λ (hs : List Gate). bit hit k || targeted hs k) (sym none) ∙ s .lines-left k in
-    let below : hit < 2 ^ n = below-of-bits n hit (λ k h. same k ∙ targeted-below n gs k good h) in
-    let empty : gatesSizes (gatesOf (drop (3 * i) ws)) ≡ totals 0 0 0 = ap gatesSizes none in
-    let counts = lines-count (targeted gs) (upFrom 0 n) in
-    let long = length-upFrom 0 n in
-    let a : v ≡ n + (gatesSizes gs .variables + (linesSizes (targeted gs) (upFrom 0 n) .variables + 0)) =
-    omega (arith, s .variables-left, ap (λ (x : Totals). x .variables) empty) in
-    let b : c ≡ 0 + (gatesSizes gs .clauses + (linesSizes (targeted gs) (upFrom 0 n) .clauses + 1)) =
-    omega (arith, s .clauses-left, ap (λ (x : Totals). x .clauses) empty) in
-    let d : w + 2 * ones hit ≡ 0 + (gatesSizes gs .words + (linesSizes (targeted gs) (upFrom 0 n) .words + (n + 2))) =
-    omega (arith, s .words-left, ap (λ (x : Totals). x .words) empty, lines-words hit (targeted gs) same n, lines-ones n hit below) in
-    ap₂ (λ (x y : ℕ). totals x y (w + 2 * ones hit)) a b ∙ ap (totals _ _) d
+module _ (n : ℕ) (ws : List ℕ) (v c w hit i : ℕ) (past : length ws / 3 ≤ i) (s : Summed n ws v c w hit i) where
+  all-tested : validFrom n 0 (gatesOf ws) ≡ served i
+  all-tested = s .tested ∙ none-left n ws i past
+
+  all-summed : totals v c (w + 2 * ones hit) ≡ sizesOf n (gatesOf ws)
+  unfolding sizesOf gatesSizes targeted
+  all-summed =
+      let gs = gatesOf ws in
+      let good = from-served n 0 gs i all-tested .0 in
+      let none = gates-end ws i past in
+      let same : (k : ℕ) → bit hit k ≡ targeted gs k =
+      λ k. sym (or-false (bit hit k)) ∙ ap (λ (hs : List Gate). bit hit k || targeted hs k) (sym none) ∙ s .lines-left k in
+      let below : hit < 2 ^ n = below-of-bits n hit (λ k h. same k ∙ targeted-below n gs k good h) in
+      let empty : gatesSizes (gatesOf (drop (3 * i) ws)) ≡ totals 0 0 0 = ap gatesSizes none in
+      let counts = lines-count (targeted gs) (upFrom 0 n) in
+      let long = length-upFrom 0 n in
+      let a : v ≡ n + (gatesSizes gs .variables + (linesSizes (targeted gs) (upFrom 0 n) .variables + 0)) =
+      omega (arith, s .variables-left, ap (λ (x : Totals). x .variables) empty) in
+      let b : c ≡ 0 + (gatesSizes gs .clauses + (linesSizes (targeted gs) (upFrom 0 n) .clauses + 1)) =
+      omega (arith, s .clauses-left, ap (λ (x : Totals). x .clauses) empty) in
+      let d : w + 2 * ones hit ≡ 0 + (gatesSizes gs .words + (linesSizes (targeted gs) (upFrom 0 n) .words + (n + 2))) =
+      omega (arith, s .words-left, ap (λ (x : Totals). x .words) empty, lines-words hit (targeted gs) same n, lines-ones n hit below) in
+      ap₂ (λ (x y : ℕ). totals x y (w + 2 * ones hit)) a b ∙ ap (totals _ _) d
+
+  pub summed-all : served (totals v c (w + 2 * ones hit)) ≡ andThen (validFrom n 0 (gatesOf ws)) (λ k. served (sizesOf n (gatesOf ws)))
+  summed-all = ap served all-summed ∙ sym (then-served (validFrom n 0 (gatesOf ws)) (λ k. served (sizesOf n (gatesOf ws))) i all-tested)
 
 -- ---- what the call answers
 
 module _ (n : ℕ) (ws : List ℕ) where
-  pub sizes-refused : (number place : ℕ) → checkOutcome n ws maxMiterGates ≡ refused number place → sizesOutcome n ws ≡ refused number place
+  pub sizes-lines : lineCountGood n ≡ false → sizesOutcome n ws ≡ refused badLineCount 0
   unfolding sizesOutcome
-  sizes-refused number place e = then-refused _ _ number place e
+  sizes-lines e = then-refused _ _ badLineCount 0 (check-lines n ws maxMiterGates e)
 
-  pub sizes-served : (k : ℕ) → checkOutcome n ws maxMiterGates ≡ served k → sizesOutcome n ws ≡ served (sizesOf n (gatesOf ws))
+  pub sizes-refused : lineCountGood n ≡ true → (number place : ℕ) → sizeOutcome ws maxMiterGates ≡ refused number place → sizesOutcome n ws ≡ refused number place
   unfolding sizesOutcome
-  sizes-served k e = then-served _ _ k e
+  sizes-refused good number place e = then-refused _ _ number place (check-gates n ws maxMiterGates good ∙ gates-refused n ws maxMiterGates number place e)
+
+  pub sizes-tested : lineCountGood n ≡ true → (k : ℕ) → sizeOutcome ws maxMiterGates ≡ served k
+      → sizesOutcome n ws ≡ andThen (validFrom n 0 (gatesOf ws)) (λ k. served (sizesOf n (gatesOf ws)))
+  unfolding sizesOutcome
+  sizes-tested good k e =
+      ap (λ (o : Outcome ℕ). andThen o (λ k. served (sizesOf n (gatesOf ws)))) (check-gates n ws maxMiterGates good ∙ gates-sized n ws maxMiterGates k e)

@@ -40,7 +40,7 @@ implied-words p (l ∷ ls) = omega (arith, implied-words p ls)
 many-count : (p w v : ℕ) (ls : List ℤ) → length (manyClauses p w v ls) ≡ length ls + 2
 many-count p w v ls = omega (arith, length-append (implied p ls) (XOR (minus w ∷ plus v ∷ plus p ∷ []) ∷ []), implied-count p ls)
 
-many-words : (p w v : ℕ) (ls : List ℤ) → length (stored (manyClauses p w v ls)) ≡ length ls + 3 + 4 * length ls + 5
+pub many-words : (p w v : ℕ) (ls : List ℤ) → length (stored (manyClauses p w v ls)) ≡ length ls + 3 + 4 * length ls + 5
 unfolding stored
 many-words p w v ls =
     let end = XOR (minus w ∷ plus v ∷ plus p ∷ []) ∷ [] in

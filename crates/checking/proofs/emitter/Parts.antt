@@ -1,25 +1,26 @@
 -- What the parts of the one-gate emitter write, line by line. Assumes nothing.
 use mathlib.Core.Path.{_≡_, refl, sym, ap, ap₂, _∙_}
-use mathlib.Core.Bool.{Bool, true, false, _||_, cond}
+use mathlib.Core.Bool.{Bool, true, false, _&&_, _||_, cond, true≢false, false≢true}
 use mathlib.Core.List.{List, [], _∷_, _++_, map, map-append, append-assoc, append-nil}
 use Prim.Native.Nat.{ℕ, zero, suc, _+_, _*_, _-_, _≤_, _<_}
 use native.Mathlib.Decide.{le-ind}
 use native.Mathlib.Numerals.{add-one}
 use native.Mathlib.Omega.{arith}
-use lib.Bits.{bitOr}
+use lib.Bits.{bitAnd, bitOr}
 use lib.IntN.{ℤ, pos, negℤ, negℤ-negℤ}
 use lib.ListN.{length, set, take, drop, length-append, length-map, length-set, length-drop}
 use borrow.Rule.Slice.PartMut.{putMid}
 use Rattle.bits.specs.Digits.{bit}
 use Rattle.bits.specs.Lists.{over}
-use Rattle.bits.proofs.Digits.{bit-or}
+use Rattle.bits.proofs.Digits.{bit-and, bit-or, bit-none}
 use Rattle.bits.proofs.Lists.{over-push, over-length, rest-lent, lent-over}
 use Rattle.circuit.specs.declared.gate.Gate.{Gate}
 use Rattle.circuit.specs.Gate.{maxLines, Control, controlAt, controlsBelow}
-use Rattle.checking.specs.Clauses.{Clause, OR, XOR, plus, minus, literalOf, implied}
+use Rattle.checking.specs.Clauses.{Clause, OR, XOR, plus, minus, literalOf, implied, manyClauses}
 use Rattle.checking.specs.Stored.{storedClause, stored}
-use Rattle.checking.specs.Emitter.{literalWord, byLine, controlsIn, literalsIn, Currents}
+use Rattle.checking.specs.Emitter.{literalWord, byLine, controlsIn, literalsIn, manyStored, Many, Currents}
 use Rattle.checking.proofs.clauses.Reading.{stored-append}
+use Rattle.checking.proofs.clauses.Bounds.{few-controls}
 
 -- the lent rest of a buffer has the words that are left
 pub lent-long : (xs : List ℤ) (at : ℕ) → length (take (length xs - at) (drop at xs)) ≡ length xs - at
@@ -185,3 +186,100 @@ module _ (v p q n : ℕ) (current : List ℕ) (first out : List ℤ) (k at : ℕ
         long = w .long;
         buffer = w .buffer ∙ ap (λ (cs : List Control). over (stored (implied v (map (literalOf (byLine current)) cs))) first) (sym (line-lacks p q k b));
       }
+
+-- ---- masks with the polarities exchanged
+
+module _ (p q : ℕ) (apart : bitAnd p q ≡ 0) where
+  one-mask : (k : ℕ) → bit p k ≡ true → bit q k ≡ false
+  one-mask k = none (bit p k) (bit q k) (sym (bit-and p q k) ∙ ap (λ (x : ℕ). bit x k) apart ∙ bit-none k)
+    where
+      none : (a b : Bool) → (a && b) ≡ false → a ≡ true → b ≡ false
+      none true b e h = e
+      none false b e h = absurd (false≢true h)
+
+  line-swapped : (current : List ℕ) (k : ℕ) (a b : Bool) → (a ≡ true → b ≡ false)
+      → map (literalOf (byLine current)) (cond b (control k true ∷ []) (cond a (control k false ∷ []) []))
+      ≡ map negℤ (map (literalOf (byLine current)) (cond a (control k true ∷ []) (cond b (control k false ∷ []) [])))
+  line-swapped current k true true h = absurd (true≢false (h refl))
+  line-swapped current k true false h = refl
+  line-swapped current k false true h = ap (λ (x : ℤ). x ∷ []) (sym (negℤ-negℤ (plus (byLine current k))))
+  line-swapped current k false false h = refl
+
+  -- every −c
+  pub swapped : (current : List ℕ) (n : ℕ) → literalsIn current q p n ≡ map negℤ (literalsIn current p q n)
+  unfolding controlsBelow
+  swapped current zero = refl
+  swapped current (suc n) =
+      let f = literalOf (byLine current) in
+      let one = controlAt (record { positive = p; negative = q; target = 0 }) n in
+      let other = controlAt (record { positive = q; negative = p; target = 0 }) n in
+      map-append f (controlsIn q p n) other
+      ∙ ap₂ (λ (xs ys : List ℤ). xs ++ ys) (swapped current n) (line-swapped current n (bit p n) (bit q n) (one-mask n))
+      ∙ sym (ap (map negℤ) (map-append f (controlsIn p q n) one) ∙ map-append negℤ (map f (controlsIn p q n)) (map f one))
+
+  pub swapped-count : (n : ℕ) → length (controlsIn q p n) ≡ length (controlsIn p q n)
+  swapped-count n =
+      sym (length-map (controlsIn q p n) (literalOf (byLine [])))
+      ∙ ap length (swapped [] n)
+      ∙ length-map (literalsIn [] p q n) negℤ
+      ∙ length-map (controlsIn p q n) (literalOf (byLine []))
+
+-- ---- the clauses with a p
+
+-- three lent rests are filled one after the other
+pub filled : (k : ℕ) (head lits imps tail first o l₂ l₃ l₄ : List ℤ) → length head ≡ 3 → length lits ≡ k → length imps ≡ 4 * k → 5 * k + 8 ≤ length first
+    → o ≡ over head first
+    → l₂ ≡ over lits (take (length o - 3) (drop 3 o))
+    → (o₂ : List ℤ) → o₂ ≡ putMid 3 (length o - 3) o l₂
+    → l₃ ≡ over imps (take (length o₂ - (3 + k)) (drop (3 + k) o₂))
+    → (o₃ : List ℤ) → o₃ ≡ putMid (3 + k) (length o₂ - (3 + k)) o₂ l₃
+    → l₄ ≡ over tail (take (length o₃ - (3 + k + 4 * k)) (drop (3 + k + 4 * k) o₃))
+    → putMid (3 + k + 4 * k) (length o₃ - (3 + k + 4 * k)) o₃ l₄ ≡ over (((head ++ lits) ++ imps) ++ tail) first
+filled k head lits imps tail first o l₂ l₃ l₄ a b d room e e₂ o₂ f₂ e₃ o₃ f₃ e₄ =
+    let long : length o ≡ length first = ap length e ∙ over-length head first (omega arith) in
+    let two : length (head ++ lits) ≡ 3 + k = length-append head lits ∙ ap₂ _+_ a b in
+    let g₂ : o₂ ≡ over (head ++ lits) first = f₂ ∙ lent-over head lits first o l₂ 3 e a (omega arith) e₂ in
+    let long₂ : length o₂ ≡ length first = ap length g₂ ∙ over-length (head ++ lits) first (omega arith) in
+    let three : length ((head ++ lits) ++ imps) ≡ 3 + k + 4 * k = length-append (head ++ lits) imps ∙ ap₂ _+_ two d in
+    let g₃ : o₃ ≡ over ((head ++ lits) ++ imps) first = f₃ ∙ lent-over (head ++ lits) imps first o₂ l₃ (3 + k) g₂ two (omega arith) e₃ in
+    let long₃ : length o₃ ≡ length first = ap length g₃ ∙ over-length ((head ++ lits) ++ imps) first (omega arith) in
+    lent-over ((head ++ lits) ++ imps) tail first o₃ l₄ (3 + k + 4 * k) g₃ three (omega arith) e₄
+
+pub many-stored : (p w v k : ℕ) (ls : List ℤ) → length ls ≡ k
+    → (((pos 0 ∷ pos (k + 1) ∷ plus p ∷ []) ++ map negℤ ls) ++ stored (implied p ls)) ++ (pos 1 ∷ pos 3 ∷ minus w ∷ plus v ∷ plus p ∷ [])
+    ≡ stored (manyClauses p w v ls)
+unfolding stored
+many-stored p w v k ls e =
+    let end : List Clause = XOR (minus w ∷ plus v ∷ plus p ∷ []) ∷ [] in
+    let c : k + 1 ≡ suc (length (map negℤ ls)) = omega (arith, length-map ls negℤ) in
+    append-assoc ((pos 0 ∷ pos (k + 1) ∷ plus p ∷ []) ++ map negℤ ls) (stored (implied p ls)) (stored end)
+    ∙ ap (λ (r : List ℤ). ((pos 0 ∷ pos (k + 1) ∷ plus p ∷ []) ++ map negℤ ls) ++ r) (sym (stored-append (implied p ls) end))
+    ∙ ap (λ (m : ℕ). (pos 0 ∷ pos m ∷ plus p ∷ map negℤ ls) ++ stored (implied p ls ++ end)) c
+
+pub controls-few : (p q n : ℕ) → length (controlsIn p q n) ≤ n
+controls-few p q n = few-controls n (record { positive = p; negative = q; target = 0 })
+
+-- so the clauses with a p stand at the buffer's start
+pub many-filled : (current : List ℕ) (p q k n used v : ℕ) (first : List ℤ) → Many p q k n used v (length first)
+    → (x y a b d : ℤ) → x ≡ plus (k + 1) → y ≡ plus (used + 1) → a ≡ minus (used + 1 + 1) → b ≡ plus v → d ≡ plus (used + 1)
+    → (o l₂ l₃ l₄ : List ℤ) → o ≡ over (pos 0 ∷ x ∷ y ∷ []) first
+    → l₂ ≡ over (literalsIn current q p n) (take (length o - 3) (drop 3 o))
+    → (o₂ : List ℤ) → o₂ ≡ putMid 3 (length o - 3) o l₂
+    → l₃ ≡ over (impliedIn current (used + 1) p q n) (take (length o₂ - (3 + k)) (drop (3 + k) o₂))
+    → (o₃ : List ℤ) → o₃ ≡ putMid (3 + k) (length o₂ - (3 + k)) o₂ l₃
+    → l₄ ≡ over (pos 1 ∷ pos 3 ∷ a ∷ b ∷ d ∷ []) (take (length o₃ - (3 + k + 4 * k)) (drop (3 + k + 4 * k) o₃))
+    → putMid (3 + k + 4 * k) (length o₃ - (3 + k + 4 * k)) o₃ l₄ ≡ over (manyStored current used v p q n) first
+many-filled current p q k n used v first m x y a b d ex ey ea eb ed o l₂ l₃ l₄ e e₂ o₂ f₂ e₃ o₃ f₃ e₄ =
+    let ls = literalsIn current p q n in
+    let count : length ls ≡ k = length-map (controlsIn p q n) (literalOf (byLine current)) ∙ sym (m .count) in
+    filled k (pos 0 ∷ x ∷ y ∷ []) (literalsIn current q p n) (impliedIn current (used + 1) p q n) (pos 1 ∷ pos 3 ∷ a ∷ b ∷ d ∷ []) first o l₂ l₃ l₄ refl
+    (ap length (swapped p q (m .apart) current n) ∙ length-map ls negℤ ∙ count)
+    (implied-long (used + 1) ls ∙ ap (λ (j : ℕ). 4 * j) count)
+    (m .enough) e e₂ o₂ f₂ e₃ o₃ f₃ e₄
+    ∙ ap (λ (l : List ℤ). over l first)
+    (ap₂ (λ (s t : List ℤ). (((pos 0 ∷ s) ++ literalsIn current q p n) ++ impliedIn current (used + 1) p q n) ++ (pos 1 ∷ pos 3 ∷ t))
+    (ap₂ (λ (s t : ℤ). s ∷ t ∷ []) ex ey) (ap₂ (λ (s : ℤ) (t : List ℤ). s ∷ t) ea (ap₂ (λ (s t : ℤ). s ∷ t ∷ []) eb ed))
+    ∙ ap (λ (s : List ℤ). (((pos 0 ∷ pos (k + 1) ∷ plus (used + 1) ∷ []) ++ s) ++ impliedIn current (used + 1) p q n) ++ (pos 1 ∷ pos 3 ∷ minus (used + 1 + 1) ∷ plus v ∷ plus (used + 1) ∷ []))
+    (swapped p q (m .apart) current n)
+    ∙ many-stored (used + 1) (used + 1 + 1) v k ls count
+    ∙ ap₂ (λ (i j : ℕ). stored (manyClauses i j v ls)) (add-one used) (add-one (used + 1) ∙ ap suc (add-one used)))
