@@ -1,4 +1,5 @@
 -- Clauses in words, and words read back.
+use mathlib.Core.Path.{_≡_}
 use mathlib.Core.Bool.{cond}
 use mathlib.Core.List.{List, [], _∷_, _++_}
 use mathlib.Core.Option.{Option, none, some}
@@ -55,6 +56,15 @@ readFrom i (suc most) (kind ∷ count ∷ ws) = readRecord i kind (countOf count
 -- a record has two words at least, so there are no more records than words
 unfoldable pub clausesIn : List ℤ → Reading
 clausesIn ws = readFrom 0 (length ws) ws
+
+-- i whole clauses stand at the start of the words, and what is left starts with none
+pub record BadAt (ws : List ℤ) (i : ℕ) : Type 0 where
+  pub whole : List Clause
+  pub left : List ℤ
+  pub words : ws ≡ stored whole ++ left
+  pub count : length whole ≡ i
+  pub some-left : left ≡ [] → ⊥
+  pub no-clause : (c : Clause) (more : List ℤ) → left ≡ storedClause c ++ more → ⊥
 
 -- a signed 16-bit word
 abbrev pub Fits16 : ℤ → Type 0

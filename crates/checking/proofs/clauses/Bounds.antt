@@ -4,9 +4,10 @@ use mathlib.Core.Bool.{Bool, true, false, not, cond}
 use mathlib.Core.List.{List, [], _∷_, _++_, map}
 use Prim.Native.Nat.{ℕ, zero, suc, _+_, _*_, _<_, _≤_}
 use native.Mathlib.Omega.{arith}
-use lib.Dec.{eqb}
+use lib.Dec.{eqb, leb}
 use lib.IntN.{ℤ, pos, negsuc, negℤ}
 use lib.ListN.{length, length-append, length-map}
+use borrow.Author.Tests.{le-leb}
 use Rattle.bits.specs.Digits.{bit, linesIn}
 use Rattle.bits.proofs.Bools.{and-parts, either, cond-true, cond-false}
 use Rattle.circuit.specs.declared.gate.Gate.{Gate}
@@ -14,7 +15,7 @@ use Rattle.circuit.specs.Gate.{maxLines, maxMiterGates, valid, Control, control
 use Rattle.circuit.specs.Words.{allValid}
 use Rattle.circuit.proofs.gate.Laws.{Valid, valid-facts}
 use Rattle.circuit.proofs.gate.Controls.{controls-below}
-use Rattle.checking.specs.Clauses.{Clause, OR, XOR, plus, minus, inputOf, literalOf, implied, manyClauses, gateClauses, newVariable, usedBy, moved, clausesOfGate, gatesClauses, usedAfter, currentAfter, targeted, upFrom, differenceClause, differenceClauses, clausesOf, variablesOf}
+use Rattle.checking.specs.Clauses.{Clause, OR, XOR, plus, minus, inputOf, literalOf, implied, manyClauses, gateClauses, newVariable, usedBy, moved, clausesOfGate, gatesClauses, usedAfter, currentAfter, targeted, upFrom, differenceClause, differenceClauses, clausesOf, variablesOf, countP}
 use Rattle.checking.specs.Satisfaction.{size, LiteralsWithin, literalsIn, ClausesWithin}
 use Rattle.checking.specs.Stored.{storedClause, stored, Fits16, AllFit}
 use Rattle.checking.proofs.clauses.Gates.{Within, controls-within, new-named}
@@ -156,6 +157,24 @@ used-bound used (g ∷ gs) = omega (arith, new-bound used (length (controlsOf g)
 pub variables-bound : (n : ℕ) (gs : List Gate) → variablesOf n gs ≤ 2 * n + 2 * length gs
 unfolding variablesOf
 variables-bound n gs = omega (arith, used-bound n gs)
+
+pub variables-few : (n : ℕ) (gs : List Gate) → n ≤ maxLines → length gs ≤ maxMiterGates → variablesOf n gs ≤ 4224
+variables-few n gs few short = omega (arith, variables-bound n gs)
+
+-- a w for each gate, and a p for each with two controls or more
+used-counted : (used : ℕ) (gs : List Gate) → usedAfter used gs ≡ used + (length gs + countP gs)
+unfolding usedAfter countP
+used-counted used [] = omega arith
+used-counted used (g ∷ gs) = omega (arith, used-counted (usedBy used g) gs, new-counted used (length (controlsOf g)))
+  where
+    new-counted : (used k : ℕ) → newVariable used k ≡ used + (1 + cond (leb 2 k) 1 0)
+    new-counted used zero = omega arith
+    new-counted used (suc zero) = omega arith
+    new-counted used (suc (suc k)) = let e : cond {A = ℕ} (leb 2 (suc (suc k))) 1 0 ≡ 1 = cond-true (leb 2 (suc (suc k))) 1 0 (le-leb 2 (suc (suc k)) (omega arith)) in omega arith
+
+pub variables-counted : (n : ℕ) (gs : List Gate) → variablesOf n gs ≡ n + (length gs + countP gs) + n
+unfolding variablesOf
+variables-counted n gs = omega (arith, used-counted n gs)
 
 -- no clause has more than m literals
 abbrev Short : ℕ → List Clause → Type 0
