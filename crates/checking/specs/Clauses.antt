@@ -1,5 +1,5 @@
 -- The clause list of a cascade, by document 01. A literal is a number with a sign: v of variable v, or −v. Variables count from 1.
-use mathlib.Core.Bool.{Bool, true, false, cond, _||_}
+use mathlib.Core.Bool.{Bool, false, cond, _||_}
 use mathlib.Core.List.{List, [], _∷_, _++_, map}
 use Prim.Native.Nat.{ℕ, zero, suc, _+_}
 use lib.Dec.{eqb, leb}

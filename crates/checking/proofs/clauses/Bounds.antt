@@ -1,6 +1,6 @@
 -- Every literal is one of a variable from 1 to V, and every stored word fits 16 bits. Assumes nothing.
-use mathlib.Core.Path.{_≡_, refl, sym, ap, ap₂, _∙_, subst}
-use mathlib.Core.Bool.{Bool, true, false, not, cond}
+use mathlib.Core.Path.{_≡_, refl, sym, subst}
+use mathlib.Core.Bool.{Bool, true, false, cond}
 use mathlib.Core.List.{List, [], _∷_, _++_, map}
 use Prim.Native.Nat.{ℕ, zero, suc, _+_, _*_, _<_, _≤_}
 use native.Mathlib.Omega.{arith}
@@ -8,16 +8,15 @@ use lib.Dec.{eqb, leb}
 use lib.IntN.{ℤ, pos, negsuc, negℤ}
 use lib.ListN.{length, length-append, length-map}
 use borrow.Author.Tests.{le-leb}
-use Rattle.bits.specs.Digits.{bit, linesIn}
+use Rattle.bits.specs.Digits.{bit}
 use Rattle.bits.proofs.Bools.{and-parts, either, cond-true, cond-false}
 use Rattle.circuit.specs.declared.gate.Gate.{Gate}
 use Rattle.circuit.specs.Gate.{maxLines, maxMiterGates, valid, Control, controlAt, controlsBelow, controlsOf}
 use Rattle.circuit.specs.Words.{allValid}
-use Rattle.circuit.proofs.gate.Laws.{Valid, valid-facts}
-use Rattle.circuit.proofs.gate.Controls.{controls-below}
+use Rattle.circuit.proofs.gate.Laws.{valid-facts}
 use Rattle.checking.specs.Clauses.{Clause, OR, XOR, plus, minus, inputOf, literalOf, implied, manyClauses, gateClauses, newVariable, usedBy, moved, clausesOfGate, gatesClauses, usedAfter, currentAfter, targeted, upFrom, differenceClause, differenceClauses, clausesOf, variablesOf, countP}
 use Rattle.checking.specs.Satisfaction.{size, LiteralsWithin, literalsIn, ClausesWithin}
-use Rattle.checking.specs.Stored.{storedClause, stored, Fits16, AllFit}
+use Rattle.checking.specs.Stored.{stored, Fits16, AllFit}
 use Rattle.checking.proofs.clauses.Gates.{Within, controls-within, new-named}
 use Rattle.checking.proofs.clauses.Forced.{Inside, inside-upFrom, used-more, length-upFrom}
 

@@ -1,7 +1,6 @@
 -- Stored words are read back, and only the words of clauses are read. Assumes nothing.
 use mathlib.Core.Path.{_≡_, refl, sym, ap, ap₂, _∙_, subst}
 use mathlib.Core.Logic.{_⊎_, inl, inr, ⊎-elim}
-use mathlib.Core.Bool.{Bool, true, false, cond}
 use mathlib.Core.List.{List, [], _∷_, _++_, append-assoc}
 use mathlib.Core.Option.{Option, none, some}
 use Prim.Native.Nat.{ℕ, zero, suc, _+_, _≤_, _<_}
@@ -13,7 +12,7 @@ use lib.Seq.{take-append-seam, drop-append-seam, length-take-le}
 use borrow.Author.Tests.{le-leb, leb-true, leb-false}
 use Rattle.bits.proofs.Bools.{either, cond-true, cond-false}
 use Rattle.checking.specs.Clauses.{Clause, OR, XOR}
-use Rattle.checking.specs.Stored.{storedClause, stored, Reading, clausesRead, badRecord, clauseOf, countOf, joined, readRecord, readFrom, clausesIn, BadAt}
+use Rattle.checking.specs.Stored.{storedClause, stored, Reading, clausesRead, badRecord, clauseOf, joined, readRecord, readFrom, clausesIn, BadAt}
 
 pub stored-append : (xs ys : List Clause) → stored (xs ++ ys) ≡ stored xs ++ stored ys
 unfolding stored

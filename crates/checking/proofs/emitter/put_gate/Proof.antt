@@ -2,16 +2,15 @@
 use mathlib.Core.Path.{_≡_, refl, sym, ap, ap₂, _∙_}
 use mathlib.Core.Bool.{true, false}
 use mathlib.Core.List.{List, [], _∷_, _++_}
-use Prim.Native.Nat.{ℕ, _+_, _*_, _≤_, _<_}
+use Prim.Native.Nat.{_+_, _≤_, _<_}
 use native.Mathlib.Omega.{arith}
 use lib.IntN.{ℤ, pos}
-use lib.ListN.{length, length-map}
+use lib.ListN.{length}
 use borrow.Author.Needs.{needs}
 use mir.Syntax.{w16}
 use mir.Val.{toZ, ofZ}
 use Rattle.bits.specs.Lists.{over}
-use Rattle.checking.specs.Clauses.{plus, minus, literalOf}
-use Rattle.checking.specs.Emitter.{byLine, controlsIn, literalsIn, gateStored, Ready}
+use Rattle.checking.specs.Emitter.{byLine, literalsIn}
 use Rattle.checking.proofs.emitter.Signed.{literal-kept}
 use Rattle.checking.proofs.emitter.Parts.{lent-long}
 use Rattle.checking.proofs.emitter.Whole.{target-below, target-small, controls-known, room-none, written-none, room-one, written-one, words-one, many-ready, written-many, words-many, one-filled}
