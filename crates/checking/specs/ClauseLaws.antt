@@ -22,7 +22,7 @@ abbrev pub ListsTell : (ℕ → List Gate → ℕ) → (ℕ → List Gate → Li
 ListsTell variables clauses =
     (n : ℕ) (gs : List Gate) → n ≤ maxLines → allValid n gs ≡ true → Tells n (variables n gs) (clauses n gs) (run gs) (λ (x : ℕ). x)
 
--- 01's stand-ins: one fixed contradiction; and the clauses of gates after the first dropped
+-- 01's stand-ins: one fixed contradiction; the clauses of gates after the first dropped from the list; and the list of the first gate alone
 unfoldable pub contradiction : ℕ → List Gate → List Clause
 contradiction n gs = OR [] ∷ []
 
@@ -31,6 +31,12 @@ withoutLater n gs =
     gatesClauses n inputOf (take 1 gs)
     ++ (differenceClauses (targeted gs) inputOf (currentAfter n inputOf gs) (usedAfter n gs) (upFrom 0 n)
     ++ (OR (map plus (upFrom (suc (usedAfter n gs)) n)) ∷ []))
+
+unfoldable pub ofFirst : ℕ → List Gate → List Clause
+ofFirst n gs = clausesOf n (take 1 gs)
+
+unfoldable pub ofFirstVariables : ℕ → List Gate → ℕ
+ofFirstVariables n gs = variablesOf n (take 1 gs)
 
 pub record ClauseLaws : Type 0 where
   -- the first n variables spell the state whose bit k is 1 exactly when variable k + 1 is true
@@ -46,6 +52,7 @@ pub record ClauseLaws : Type 0 where
   pub lists-tell : ListsTell variablesOf clausesOf
   pub contradiction-fails : ListsTell variablesOf contradiction → ⊥
   pub without-later-fails : ListsTell variablesOf withoutLater → ⊥
+  pub of-first-fails : ListsTell ofFirstVariables ofFirst → ⊥
   -- stored words are read back by their own length, whatever follows them, and only the words of clauses are read
   pub read-back : (cs : List Clause) (rest : List ℤ) → clausesIn (take (length (stored cs)) (stored cs ++ rest)) ≡ clausesRead cs
   pub read-stored : (ws : List ℤ) (cs : List Clause) → clausesIn ws ≡ clausesRead cs → ws ≡ stored cs

@@ -66,11 +66,14 @@ pub record BadAt (ws : List ℤ) (i : ℕ) : Type 0 where
   pub some-left : left ≡ [] → ⊥
   pub no-clause : (c : Clause) (more : List ℤ) → left ≡ storedClause c ++ more → ⊥
 
--- a signed 16-bit word
-abbrev pub Fits16 : ℤ → Type 0
-Fits16 (pos v) = v < 32768
-Fits16 (negsuc i) = i < 32768
+-- a signed 16-bit word holds the numbers from −2 ^ 15 to 2 ^ 15 − 1
+abbrev pub wordLimit : ℕ
+wordLimit = 32768
+
+abbrev pub FitsWord : ℤ → Type 0
+FitsWord (pos v) = v < wordLimit
+FitsWord (negsuc i) = i < wordLimit
 
 abbrev pub AllFit : List ℤ → Type 0
 AllFit [] = Unit {0}
-AllFit (w ∷ ws) = Fits16 w × AllFit ws
+AllFit (w ∷ ws) = FitsWord w × AllFit ws

@@ -16,7 +16,7 @@ use Rattle.circuit.specs.Words.{allValid}
 use Rattle.circuit.proofs.gate.Laws.{valid-facts}
 use Rattle.checking.specs.Clauses.{Clause, OR, XOR, plus, minus, inputOf, literalOf, implied, manyClauses, gateClauses, newVariable, usedBy, moved, clausesOfGate, gatesClauses, usedAfter, currentAfter, targeted, upFrom, differenceClause, differenceClauses, clausesOf, variablesOf, countP}
 use Rattle.checking.specs.Satisfaction.{size, LiteralsWithin, literalsIn, ClausesWithin}
-use Rattle.checking.specs.Stored.{stored, Fits16, AllFit}
+use Rattle.checking.specs.Stored.{stored, FitsWord, AllFit, wordLimit}
 use Rattle.checking.proofs.clauses.Gates.{Within, controls-within, new-named}
 use Rattle.checking.proofs.clauses.Forced.{Inside, inside-upFrom, used-more, length-upFrom}
 
@@ -235,15 +235,15 @@ counts-small n gs few =
     (short-differences (maxLines + 3) (targeted gs) inputOf (currentAfter n inputOf gs) (usedAfter n gs) (upFrom 0 n) (omega arith))
     (omega (arith, length-map (upFrom (suc (usedAfter n gs)) n) plus, length-upFrom (suc (usedAfter n gs)) n), tt))
 
-size-fits : (l : ℤ) → size l < 32768 → Fits16 l
+size-fits : (l : ℤ) → size l < wordLimit → FitsWord l
 size-fits (pos v) h = h
 size-fits (negsuc i) h = omega arith
 
-literals-fit : (m : ℕ) (ls ws : List ℤ) → m < 32768 → LiteralsWithin m ls → AllFit ws → AllFit (ls ++ ws)
+literals-fit : (m : ℕ) (ls ws : List ℤ) → m < wordLimit → LiteralsWithin m ls → AllFit ws → AllFit (ls ++ ws)
 literals-fit m [] ws h w f = f
 literals-fit m (l ∷ ls) ws h w f = (size-fits l (omega (arith, w .1 .0)), literals-fit m ls ws h (w .1 .1) f)
 
-stored-fits : (m k : ℕ) (cs : List Clause) → m < 32768 → k < 32768 → ClausesWithin m cs → Short k cs → AllFit (stored cs)
+stored-fits : (m k : ℕ) (cs : List Clause) → m < wordLimit → k < wordLimit → ClausesWithin m cs → Short k cs → AllFit (stored cs)
 unfolding stored
 stored-fits m k [] h l a b = tt
 stored-fits m k (OR ls ∷ cs) h l a b = (omega arith, (omega (arith, b .0), literals-fit m ls (stored cs) h (a .0) (stored-fits m k cs h l (a .1) (b .1))))

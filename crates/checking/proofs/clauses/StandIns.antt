@@ -13,7 +13,8 @@ use Rattle.circuit.specs.Run.{run}
 use Rattle.circuit.proofs.gate.Laws.{apply-twice}
 use Rattle.checking.specs.Clauses.{upFrom, moved, gatesClauses, usedAfter, currentAfter, targeted, differenceClauses, variablesOf}
 use Rattle.checking.specs.Satisfaction.{holds, satisfies, Satisfying}
-use Rattle.checking.specs.ClauseLaws.{ListsTell, contradiction, withoutLater}
+use Rattle.checking.specs.ClauseLaws.{ListsTell, contradiction, withoutLater, ofFirst, ofFirstVariables}
+use Rattle.checking.proofs.clauses.Meaning.{list-tells}
 
 -- the cascades NOT, and NOT twice, on one line
 abbrev once : List Gate
@@ -59,3 +60,10 @@ free-satisfies = record { whole = refl; satisfied = refl }
 -- without the second gate's clauses, NOT twice is called a change
 pub without-later-fails : ListsTell variablesOf withoutLater → ⊥
 without-later-fails tell = tell 1 twice (omega arith) twice-valid .equal .0 (λ x h. twice-runs x) free free-satisfies
+
+-- the list of the first gate alone calls NOT twice a change too
+pub of-first-fails : ListsTell ofFirstVariables ofFirst → ⊥
+unfolding ofFirst ofFirstVariables
+of-first-fails tell =
+    let (σ, sat, x, y) = list-tells 1 once (omega arith) once-valid .differing 0 (omega arith) (λ e. let z : _≡_ {A = ℕ} 0 1 = sym e ∙ once-runs in omega arith) in
+    tell 1 twice (omega arith) twice-valid .equal .0 (λ x h. twice-runs x) σ sat

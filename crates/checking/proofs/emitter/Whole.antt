@@ -15,7 +15,7 @@ use Rattle.circuit.proofs.gate.Laws.{valid-facts, valid-more}
 use Rattle.circuit.proofs.gate.Controls.{controls-count, controls-below}
 use Rattle.checking.specs.declared.clauses.Totals.{Totals}
 use Rattle.checking.specs.Clauses.{plus, minus, literalOf, gateClauses, manyClauses}
-use Rattle.checking.specs.Stored.{stored}
+use Rattle.checking.specs.Stored.{stored, wordLimit}
 use Rattle.checking.specs.Sizes.{gateSizes}
 use Rattle.checking.specs.Emitter.{byLine, controlsIn, literalsIn, gateStored, manyStored, Many, Ready}
 use Rattle.checking.proofs.clauses.Sums.{many-words}
@@ -53,7 +53,7 @@ module _ (n used : ℕ) (current : List ℕ) (g : Gate) (room : ℕ) (ready : Re
   pub target-below : g .target < n
   target-below = valid-facts n g (ready .gate) .target-below
 
-  pub target-small : target < 32768
+  pub target-small : target < wordLimit
   target-small = ready .currents .small (g .target) target-below
 
   pub controls-known : length (controlsIn (g .positive) (g .negative) n) ≡ controlCount g

@@ -10,6 +10,7 @@ use borrow.Author.Needs.{needs}
 use mir.Syntax.{w16}
 use mir.Val.{toZ, ofZ}
 use Rattle.bits.specs.Lists.{over}
+use Rattle.checking.specs.Stored.{wordLimit}
 use Rattle.checking.specs.Emitter.{byLine, literalsIn}
 use Rattle.checking.proofs.emitter.Signed.{literal-kept}
 use Rattle.checking.proofs.emitter.Parts.{lent-long}
@@ -35,7 +36,7 @@ control-count-requires : tie.Need-control-count-requires
 control-count-requires c κs = search needs
 
 -- the target's variable
-v-small : (c : tie.After-control-count) → byLine (start c .args .current .now) (start c .args .g .target) < 32768
+v-small : (c : tie.After-control-count) → byLine (start c .args .current .now) (start c .args .g .target) < wordLimit
 v-small c = target-small _ _ _ _ _ (start c .pre)
 
 add-literal : tie.Need-add-literal
