@@ -1,5 +1,4 @@
 -- The totals of a clause list in C.
-use Prim.Native.Nat.{ℕ}
 use Rattle.circuit.specs.Outcome.{Outcome, served, refused}
 use Rattle.checking.specs.declared.clauses.Totals.{Totals}
 use Rattle.capi.specs.declared.sizes.CascadeSizesAnswer.{CascadeSizesAnswer}

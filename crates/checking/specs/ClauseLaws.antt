@@ -11,9 +11,9 @@ use Rattle.circuit.specs.declared.gate.Gate.{Gate}
 use Rattle.circuit.specs.Gate.{maxLines, maxMiterGates}
 use Rattle.circuit.specs.Words.{allValid}
 use Rattle.circuit.specs.Run.{run}
-use Rattle.checking.specs.Clauses.{Clause, OR, plus, inputOf, gatesClauses, usedAfter, currentAfter, targeted, upFrom, differenceClauses, clausesOf, variablesOf}
+use Rattle.checking.specs.Clauses.{Clause, OR, plus, inputOf, gatesClauses, usedAfter, currentAfter, targeted, upFrom, differenceClauses, clausesOf, variablesOf, countP}
 use Rattle.checking.specs.Satisfaction.{variable, satisfies, spelled, traced, forced, Tells}
-use Rattle.checking.specs.Stored.{stored, clausesIn, clausesRead, AllFit}
+use Rattle.checking.specs.Stored.{stored, clausesIn, clausesRead, badRecord, BadAt, AllFit}
 use Rattle.checking.specs.Sizes.{totals, sizesOf}
 use Rattle.checking.specs.ClauseRows.{RowsHold, clauseRows}
 
@@ -22,7 +22,7 @@ abbrev pub ListsTell : (ℕ → List Gate → ℕ) → (ℕ → List Gate → Li
 ListsTell variables clauses =
     (n : ℕ) (gs : List Gate) → n ≤ maxLines → allValid n gs ≡ true → Tells n (variables n gs) (clauses n gs) (run gs) (λ (x : ℕ). x)
 
--- 01's stand-ins: one fixed contradiction; and the clauses of gates after the first dropped
+-- 01's stand-ins: one fixed contradiction; the clauses of gates after the first dropped from the list; and the list of the first gate alone
 unfoldable pub contradiction : ℕ → List Gate → List Clause
 contradiction n gs = OR [] ∷ []
 
@@ -31,6 +31,12 @@ withoutLater n gs =
     gatesClauses n inputOf (take 1 gs)
     ++ (differenceClauses (targeted gs) inputOf (currentAfter n inputOf gs) (usedAfter n gs) (upFrom 0 n)
     ++ (OR (map plus (upFrom (suc (usedAfter n gs)) n)) ∷ []))
+
+unfoldable pub ofFirst : ℕ → List Gate → List Clause
+ofFirst n gs = clausesOf n (take 1 gs)
+
+unfoldable pub ofFirstVariables : ℕ → List Gate → ℕ
+ofFirstVariables n gs = variablesOf n (take 1 gs)
 
 pub record ClauseLaws : Type 0 where
   -- the first n variables spell the state whose bit k is 1 exactly when variable k + 1 is true
@@ -46,10 +52,14 @@ pub record ClauseLaws : Type 0 where
   pub lists-tell : ListsTell variablesOf clausesOf
   pub contradiction-fails : ListsTell variablesOf contradiction → ⊥
   pub without-later-fails : ListsTell variablesOf withoutLater → ⊥
+  pub of-first-fails : ListsTell ofFirstVariables ofFirst → ⊥
   -- stored words are read back by their own length, whatever follows them, and only the words of clauses are read
   pub read-back : (cs : List Clause) (rest : List ℤ) → clausesIn (take (length (stored cs)) (stored cs ++ rest)) ≡ clausesRead cs
   pub read-stored : (ws : List ℤ) (cs : List Clause) → clausesIn ws ≡ clausesRead cs → ws ≡ stored cs
-  -- every word of a list fits 16 bits
+  pub read-bad : (ws : List ℤ) (i : ℕ) → clausesIn ws ≡ badRecord i → BadAt ws i
+  -- each variable is an input, a gate's w, a p or a d; there are at most 4,224, and every word of a list fits 16 bits
+  pub variables-counted : (n : ℕ) (gs : List Gate) → variablesOf n gs ≡ n + (length gs + countP gs) + n
+  pub variables-few : (n : ℕ) (gs : List Gate) → n ≤ maxLines → length gs ≤ maxMiterGates → variablesOf n gs ≤ 4224
   pub words-fit : (n : ℕ) (gs : List Gate) → n ≤ maxLines → length gs ≤ maxMiterGates → allValid n gs ≡ true → AllFit (stored (clausesOf n gs))
   -- the sums gate by gate are the variables, clauses and words of the list
   pub sizes-list : (n : ℕ) (gs : List Gate) → n ≤ maxLines → allValid n gs ≡ true

@@ -1,8 +1,8 @@
 -- The clause list of a cascade, by document 01. A literal is a number with a sign: v of variable v, or −v. Variables count from 1.
-use mathlib.Core.Bool.{Bool, true, false, cond, _||_}
+use mathlib.Core.Bool.{Bool, false, cond, _||_}
 use mathlib.Core.List.{List, [], _∷_, _++_, map}
 use Prim.Native.Nat.{ℕ, zero, suc, _+_}
-use lib.Dec.{eqb}
+use lib.Dec.{eqb, leb}
 use lib.IntN.{ℤ, pos, negℤ}
 use lib.ListN.{length}
 use Rattle.circuit.specs.declared.gate.Gate.{Gate}
@@ -101,3 +101,8 @@ clausesOf n gs =
 -- V: all variables numbered here
 unfoldable pub variablesOf : ℕ → List Gate → ℕ
 variablesOf n gs = usedAfter n gs + n
+
+-- how many gates have a p
+unfoldable pub countP : List Gate → ℕ
+countP [] = 0
+countP (g ∷ gs) = cond (leb 2 (length (controlsOf g))) 1 0 + countP gs

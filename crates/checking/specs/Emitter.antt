@@ -9,7 +9,7 @@ use lib.ListN.{length, getD}
 use Rattle.circuit.specs.declared.gate.Gate.{Gate}
 use Rattle.circuit.specs.Gate.{maxLines, valid, controlCount, Control, controlsBelow}
 use Rattle.checking.specs.Clauses.{plus, minus, literalOf, manyClauses, clausesOfGate}
-use Rattle.checking.specs.Stored.{stored}
+use Rattle.checking.specs.Stored.{stored, wordLimit}
 use Rattle.checking.specs.Sizes.{gateSizes}
 
 -- the literal of a variable
@@ -35,7 +35,7 @@ gateStored used current g = stored (clausesOfGate used (byLine current) g)
 pub record Currents (n : ℕ) (current : List ℕ) : Type 0 where
   pub lines : n ≤ maxLines
   pub long : n ≤ length current
-  pub small : (k : ℕ) → k < n → byLine current k < 32768
+  pub small : (k : ℕ) → k < n → byLine current k < wordLimit
 
 -- the clauses with a p, in words
 abbrev pub manyStored : List ℕ → ℕ → ℕ → ℕ → ℕ → ℕ → List ℤ
@@ -45,13 +45,13 @@ manyStored current used v positive negative n = stored (manyClauses (suc used) (
 pub record Many (positive negative k n used v room : ℕ) : Type 0 where
   pub apart : bitAnd positive negative ≡ 0
   pub count : k ≡ length (controlsIn positive negative n)
-  pub few : used + 2 < 32768
-  pub target : v < 32768
+  pub few : used + 2 < wordLimit
+  pub target : v < wordLimit
   pub enough : 5 * k + 8 ≤ room
 
 -- a gate on n lines, room for its words, and variables that fit a word
 pub record Ready (n used : ℕ) (current : List ℕ) (g : Gate) (room : ℕ) : Type 0 where
   pub currents : Currents n current
   pub gate : valid n g ≡ true
-  pub few : used + 2 < 32768
+  pub few : used + 2 < wordLimit
   pub enough : gateSizes (controlCount g) .words ≤ room

@@ -1,4 +1,5 @@
 -- Clauses in words, and words read back.
+use mathlib.Core.Path.{_≡_}
 use mathlib.Core.Bool.{cond}
 use mathlib.Core.List.{List, [], _∷_, _++_}
 use mathlib.Core.Option.{Option, none, some}
@@ -56,11 +57,23 @@ readFrom i (suc most) (kind ∷ count ∷ ws) = readRecord i kind (countOf count
 unfoldable pub clausesIn : List ℤ → Reading
 clausesIn ws = readFrom 0 (length ws) ws
 
--- a signed 16-bit word
-abbrev pub Fits16 : ℤ → Type 0
-Fits16 (pos v) = v < 32768
-Fits16 (negsuc i) = i < 32768
+-- i whole clauses stand at the start of the words, and what is left starts with none
+pub record BadAt (ws : List ℤ) (i : ℕ) : Type 0 where
+  pub whole : List Clause
+  pub left : List ℤ
+  pub words : ws ≡ stored whole ++ left
+  pub count : length whole ≡ i
+  pub some-left : left ≡ [] → ⊥
+  pub no-clause : (c : Clause) (more : List ℤ) → left ≡ storedClause c ++ more → ⊥
+
+-- a signed 16-bit word holds the numbers from −2 ^ 15 to 2 ^ 15 − 1
+abbrev pub wordLimit : ℕ
+wordLimit = 32768
+
+abbrev pub FitsWord : ℤ → Type 0
+FitsWord (pos v) = v < wordLimit
+FitsWord (negsuc i) = i < wordLimit
 
 abbrev pub AllFit : List ℤ → Type 0
 AllFit [] = Unit {0}
-AllFit (w ∷ ws) = Fits16 w × AllFit ws
+AllFit (w ∷ ws) = FitsWord w × AllFit ws

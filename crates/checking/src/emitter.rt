@@ -11,12 +11,12 @@ ghost use Rattle.bits.specs.Lists.{over};
 ghost use Rattle.circuit.specs.Gate.{maxLines};
 ghost use Rattle.circuit.specs.Outcome.{Yields};
 ghost use Rattle.checking.specs.Clauses.{implied};
-ghost use Rattle.checking.specs.Stored.{stored};
+ghost use Rattle.checking.specs.Stored.{stored, wordLimit};
 ghost use Rattle.checking.specs.Emitter.{literalWord, controlsIn, literalsIn, Currents, Many, manyStored, gateStored, Ready};
 
 // The number as a word.
 fn number(x: u64) -> i16
-    requires { ⌜ x < 32768 ⌝ }
+    requires { ⌜ x < wordLimit ⌝ }
     ensures { λ r. ⌜ r ≡ pos x ⌝ }
 {
     x as i16
@@ -24,7 +24,7 @@ fn number(x: u64) -> i16
 
 // The literal of a variable.
 fn literal(variable: u64, positive: bool) -> i16
-    requires { ⌜ variable < 32768 ⌝ }
+    requires { ⌜ variable < wordLimit ⌝ }
     ensures { λ r. ⌜ r ≡ literalWord positive variable ⌝ }
 {
     let v = variable as i16;
@@ -103,7 +103,7 @@ fn put_implied(
     out: &mut [i16],
 ) -> usize
     requires { ⌜ Currents n (now current) ⌝ }
-    requires { ⌜ p < 32768 ⌝ }
+    requires { ⌜ p < wordLimit ⌝ }
     requires { ⌜ 4 * length (controlsIn positive negative n) ≤ length (now out) ⌝ }
     ensures { λ r. ⌜ Yields r (now (out .exit)) (4 * length (controlsIn positive negative n)) (over (stored (implied p (literalsIn (now (current .entry)) positive negative n))) (now (out .entry))) ⌝ }
 {

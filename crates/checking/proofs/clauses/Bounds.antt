@@ -1,22 +1,22 @@
 -- Every literal is one of a variable from 1 to V, and every stored word fits 16 bits. Assumes nothing.
-use mathlib.Core.Path.{_≡_, refl, sym, ap, ap₂, _∙_, subst}
-use mathlib.Core.Bool.{Bool, true, false, not, cond}
+use mathlib.Core.Path.{_≡_, refl, sym, subst}
+use mathlib.Core.Bool.{Bool, true, false, cond}
 use mathlib.Core.List.{List, [], _∷_, _++_, map}
 use Prim.Native.Nat.{ℕ, zero, suc, _+_, _*_, _<_, _≤_}
 use native.Mathlib.Omega.{arith}
-use lib.Dec.{eqb}
+use lib.Dec.{eqb, leb}
 use lib.IntN.{ℤ, pos, negsuc, negℤ}
 use lib.ListN.{length, length-append, length-map}
-use Rattle.bits.specs.Digits.{bit, linesIn}
+use borrow.Author.Tests.{le-leb}
+use Rattle.bits.specs.Digits.{bit}
 use Rattle.bits.proofs.Bools.{and-parts, either, cond-true, cond-false}
 use Rattle.circuit.specs.declared.gate.Gate.{Gate}
 use Rattle.circuit.specs.Gate.{maxLines, maxMiterGates, valid, Control, controlAt, controlsBelow, controlsOf}
 use Rattle.circuit.specs.Words.{allValid}
-use Rattle.circuit.proofs.gate.Laws.{Valid, valid-facts}
-use Rattle.circuit.proofs.gate.Controls.{controls-below}
-use Rattle.checking.specs.Clauses.{Clause, OR, XOR, plus, minus, inputOf, literalOf, implied, manyClauses, gateClauses, newVariable, usedBy, moved, clausesOfGate, gatesClauses, usedAfter, currentAfter, targeted, upFrom, differenceClause, differenceClauses, clausesOf, variablesOf}
+use Rattle.circuit.proofs.gate.Laws.{valid-facts}
+use Rattle.checking.specs.Clauses.{Clause, OR, XOR, plus, minus, inputOf, literalOf, implied, manyClauses, gateClauses, newVariable, usedBy, moved, clausesOfGate, gatesClauses, usedAfter, currentAfter, targeted, upFrom, differenceClause, differenceClauses, clausesOf, variablesOf, countP}
 use Rattle.checking.specs.Satisfaction.{size, LiteralsWithin, literalsIn, ClausesWithin}
-use Rattle.checking.specs.Stored.{storedClause, stored, Fits16, AllFit}
+use Rattle.checking.specs.Stored.{stored, FitsWord, AllFit, wordLimit}
 use Rattle.checking.proofs.clauses.Gates.{Within, controls-within, new-named}
 use Rattle.checking.proofs.clauses.Forced.{Inside, inside-upFrom, used-more, length-upFrom}
 
@@ -157,6 +157,24 @@ pub variables-bound : (n : ℕ) (gs : List Gate) → variablesOf n gs ≤ 2 * n 
 unfolding variablesOf
 variables-bound n gs = omega (arith, used-bound n gs)
 
+pub variables-few : (n : ℕ) (gs : List Gate) → n ≤ maxLines → length gs ≤ maxMiterGates → variablesOf n gs ≤ 4224
+variables-few n gs few short = omega (arith, variables-bound n gs)
+
+-- a w for each gate, and a p for each with two controls or more
+used-counted : (used : ℕ) (gs : List Gate) → usedAfter used gs ≡ used + (length gs + countP gs)
+unfolding usedAfter countP
+used-counted used [] = omega arith
+used-counted used (g ∷ gs) = omega (arith, used-counted (usedBy used g) gs, new-counted used (length (controlsOf g)))
+  where
+    new-counted : (used k : ℕ) → newVariable used k ≡ used + (1 + cond (leb 2 k) 1 0)
+    new-counted used zero = omega arith
+    new-counted used (suc zero) = omega arith
+    new-counted used (suc (suc k)) = let e : cond {A = ℕ} (leb 2 (suc (suc k))) 1 0 ≡ 1 = cond-true (leb 2 (suc (suc k))) 1 0 (le-leb 2 (suc (suc k)) (omega arith)) in omega arith
+
+pub variables-counted : (n : ℕ) (gs : List Gate) → variablesOf n gs ≡ n + (length gs + countP gs) + n
+unfolding variablesOf
+variables-counted n gs = omega (arith, used-counted n gs)
+
 -- no clause has more than m literals
 abbrev Short : ℕ → List Clause → Type 0
 Short m [] = Unit {0}
@@ -217,15 +235,15 @@ counts-small n gs few =
     (short-differences (maxLines + 3) (targeted gs) inputOf (currentAfter n inputOf gs) (usedAfter n gs) (upFrom 0 n) (omega arith))
     (omega (arith, length-map (upFrom (suc (usedAfter n gs)) n) plus, length-upFrom (suc (usedAfter n gs)) n), tt))
 
-size-fits : (l : ℤ) → size l < 32768 → Fits16 l
+size-fits : (l : ℤ) → size l < wordLimit → FitsWord l
 size-fits (pos v) h = h
 size-fits (negsuc i) h = omega arith
 
-literals-fit : (m : ℕ) (ls ws : List ℤ) → m < 32768 → LiteralsWithin m ls → AllFit ws → AllFit (ls ++ ws)
+literals-fit : (m : ℕ) (ls ws : List ℤ) → m < wordLimit → LiteralsWithin m ls → AllFit ws → AllFit (ls ++ ws)
 literals-fit m [] ws h w f = f
 literals-fit m (l ∷ ls) ws h w f = (size-fits l (omega (arith, w .1 .0)), literals-fit m ls ws h (w .1 .1) f)
 
-stored-fits : (m k : ℕ) (cs : List Clause) → m < 32768 → k < 32768 → ClausesWithin m cs → Short k cs → AllFit (stored cs)
+stored-fits : (m k : ℕ) (cs : List Clause) → m < wordLimit → k < wordLimit → ClausesWithin m cs → Short k cs → AllFit (stored cs)
 unfolding stored
 stored-fits m k [] h l a b = tt
 stored-fits m k (OR ls ∷ cs) h l a b = (omega arith, (omega (arith, b .0), literals-fit m ls (stored cs) h (a .0) (stored-fits m k cs h l (a .1) (b .1))))

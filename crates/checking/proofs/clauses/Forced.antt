@@ -1,16 +1,14 @@
 -- An assignment satisfies the clause list exactly when it is the one that its own inputs force and the run changes them. Assumes nothing.
 use mathlib.Core.Path.{_≡_, refl, sym, ap, ap₂, _∙_, subst}
 use mathlib.Core.Logic.{_↔_}
-use mathlib.Core.Bool.{Bool, true, false, not, _&&_, _||_, xor, cond, true≢false, false≢true}
-use mathlib.Core.List.{List, [], _∷_, _++_, map, append-assoc, append-nil}
+use mathlib.Core.Bool.{Bool, true, false, not, _&&_, _||_, xor, cond, true≢false}
+use mathlib.Core.List.{List, [], _∷_, _++_, map, append-assoc}
 use Prim.Native.Nat.{ℕ, zero, suc, _+_, _^_, _<_, _≤_}
 use native.Mathlib.Omega.{arith}
-use lib.Dec.{eqb, ltb}
+use lib.Dec.{eqb}
 use lib.Bits.{bitAnd}
-use lib.IntN.{ℤ, pos, negsuc, negℤ}
 use lib.ListN.{length, take, length-append, length-map}
-use lib.Pow.{pow-lt, pow-pos}
-use borrow.Author.Tests.{eqb-true, eqb-false, eq-eqb, ne-eqb, ltb-true, ltb-false}
+use borrow.Author.Tests.{eqb-true, eqb-false}
 use Rattle.bits.specs.Digits.{bit}
 use Rattle.bits.proofs.Bools.{and-parts, both, either, cond-true, cond-false}
 use Rattle.bits.proofs.Digits.{bit-and, bit-pow, bit-sum, bit-none, bits-equal, bits-below, bit-above}
@@ -19,9 +17,9 @@ use Rattle.circuit.specs.Gate.{maxLines, apply, Control, controlsOf}
 use Rattle.circuit.specs.Words.{allValid}
 use Rattle.circuit.specs.Run.{run}
 use Rattle.circuit.proofs.run.Laws.{run-below}
-use Rattle.checking.specs.Clauses.{Clause, OR, XOR, plus, minus, inputOf, newVariable, usedBy, gatesClauses, usedAfter, currentAfter, targeted, upFrom, differenceClause, differenceClauses, clausesOf, variablesOf}
-use Rattle.checking.specs.Satisfaction.{variable, value, holds, satisfies, spelled, gateValues, gatesValues, differences, traced, forced}
-use Rattle.checking.proofs.clauses.Tests.{same, same-self, and-assoc, and-cong, and-true, or-none, xor-self, xor-false, shape-d, someTrue, holds-or, holds-xor, value-neg, satisfies-append}
+use Rattle.checking.specs.Clauses.{OR, plus, minus, inputOf, newVariable, usedBy, gatesClauses, usedAfter, currentAfter, targeted, upFrom, differenceClause, differenceClauses, clausesOf, variablesOf}
+use Rattle.checking.specs.Satisfaction.{variable, holds, satisfies, spelled, gateValues, gatesValues, differences, traced, forced}
+use Rattle.checking.proofs.clauses.Tests.{same, same-self, and-assoc, and-cong, and-true, or-none, xor-self, xor-false, shape-d, someTrue, holds-or, holds-xor, satisfies-append}
 use Rattle.checking.proofs.clauses.Gates.{agree, agree-head, agree-tail, agree-gate, Reads, gates-law, after-reads, untouched}
 
 -- ---- the state that the first variables spell

@@ -1,25 +1,25 @@
 -- The clauses of gates hold exactly when their new variables have the values that the state forces. Assumes nothing.
 use mathlib.Core.Path.{_≡_, refl, sym, ap, ap₂, _∙_, subst}
 use mathlib.Core.Bool.{Bool, true, false, not, _&&_, _||_, xor, cond}
-use mathlib.Core.List.{List, [], _∷_, _++_, map, append-assoc}
+use mathlib.Core.List.{List, [], _∷_, _++_, map}
 use Prim.Native.Nat.{ℕ, zero, suc, _+_, _<_, _≤_}
 use native.Mathlib.Omega.{arith}
 use lib.Dec.{eqb}
-use lib.IntN.{ℤ, pos, negsuc, negℤ}
-use lib.ListN.{length, length-map}
+use lib.IntN.{pos, negℤ}
+use lib.ListN.{length}
 use borrow.Author.Tests.{eqb-true}
 use Rattle.bits.specs.Lists.{fold}
 use Rattle.bits.specs.Digits.{bit}
-use Rattle.bits.proofs.Bools.{and-parts, both, either, cond-true, cond-false}
+use Rattle.bits.proofs.Bools.{and-parts, either, cond-true, cond-false}
 use Rattle.circuit.specs.declared.gate.Gate.{Gate}
 use Rattle.circuit.specs.Gate.{maxLines, valid, fires, apply, Control, controlAt, controlsBelow, controlsOf, met, allMet}
 use Rattle.circuit.specs.Words.{allValid}
 use Rattle.circuit.specs.Run.{run}
-use Rattle.circuit.proofs.gate.Laws.{Valid, valid-facts, valid-more, apply-bit}
+use Rattle.circuit.proofs.gate.Laws.{valid-facts, valid-more, apply-bit}
 use Rattle.circuit.proofs.gate.Controls.{controls-fire, controls-below}
-use Rattle.checking.specs.Clauses.{Clause, OR, XOR, plus, minus, literalOf, implied, manyClauses, gateClauses, newVariable, usedBy, moved, clausesOfGate, gatesClauses, usedAfter, currentAfter, targeted}
-use Rattle.checking.specs.Satisfaction.{variable, value, holds, satisfies, size, gateValues, gatesValues}
-use Rattle.checking.proofs.clauses.Tests.{same, same-true, and-assoc, and-cong, and-true, and-false, xor-none, not-and, or-and, or-false, or-true, or-none, shape-0, shape-1, shape-2, someTrue, oddTrue, holds-or, holds-xor, value-neg, satisfies-append}
+use Rattle.checking.specs.Clauses.{XOR, plus, minus, literalOf, implied, manyClauses, gateClauses, newVariable, usedBy, moved, clausesOfGate, gatesClauses, currentAfter, targeted}
+use Rattle.checking.specs.Satisfaction.{variable, value, satisfies, size, gateValues, gatesValues}
+use Rattle.checking.proofs.clauses.Tests.{same, same-true, and-assoc, and-cong, and-true, and-false, xor-none, not-and, or-and, or-false, or-true, or-none, shape-0, shape-1, shape-2, someTrue, holds-or, holds-xor, value-neg, satisfies-append}
 
 -- ---- controls on lines below n
 

@@ -2,9 +2,9 @@
 use Rattle.checking.specs.ClauseLaws.{ClauseLaws}
 use Rattle.checking.proofs.clauses.Forced.{spelled-line, spelled-below, gates-forced, list-forced}
 use Rattle.checking.proofs.clauses.Meaning.{list-tells}
-use Rattle.checking.proofs.clauses.StandIns.{contradiction-fails, without-later-fails}
-use Rattle.checking.proofs.clauses.Reading.{read-back, read-stored}
-use Rattle.checking.proofs.clauses.Bounds.{words-fit}
+use Rattle.checking.proofs.clauses.StandIns.{contradiction-fails, without-later-fails, of-first-fails}
+use Rattle.checking.proofs.clauses.Reading.{read-back, read-stored, read-bad}
+use Rattle.checking.proofs.clauses.Bounds.{variables-counted, variables-few, words-fit}
 use Rattle.checking.proofs.clauses.Sums.{sizes-list}
 use Rattle.checking.proofs.clauses.Rows.{rows-hold}
 
@@ -18,8 +18,12 @@ clause-laws =
       lists-tell = list-tells;
       contradiction-fails = contradiction-fails;
       without-later-fails = without-later-fails;
+      of-first-fails = of-first-fails;
       read-back = read-back;
       read-stored = read-stored;
+      read-bad = read-bad;
+      variables-counted = variables-counted;
+      variables-few = variables-few;
       words-fit = words-fit;
       sizes-list = sizes-list;
       rows = rows-hold;

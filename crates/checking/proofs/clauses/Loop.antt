@@ -1,32 +1,31 @@
 -- What a turn over the gates adds to the totals, and the totals at the end. Assumes nothing.
 use mathlib.Core.Path.{_≡_, refl, sym, ap, ap₂, _∙_, subst}
-use mathlib.Core.Bool.{Bool, true, false, _&&_, _||_, cond}
+use mathlib.Core.Bool.{Bool, true, false, _||_, cond}
 use mathlib.Core.List.{List, [], _∷_, _++_}
 use Prim.Native.Nat.{ℕ, zero, suc, _+_, _*_, _/_, _^_, _≤_, _<_}
 use native.Mathlib.Omega.{arith}
-use native.Mathlib.Numerals.{add-one}
 use lib.Dec.{eqb}
 use lib.Bits.{bitOr}
 use lib.Count.{ones}
 use lib.ListN.{length, drop, length-append}
 use borrow.Author.Tests.{ne-eqb}
 use Rattle.bits.specs.Digits.{bit, linesIn}
-use Rattle.bits.proofs.Bools.{and-parts, either, cond-true, cond-false}
+use Rattle.bits.proofs.Bools.{and-parts}
 use Rattle.bits.proofs.Digits.{bit-none, bit-or, bit-pow, below-of-bits, lines-ones}
 use Rattle.circuit.specs.declared.gate.Gate.{Gate}
-use Rattle.circuit.specs.Gate.{maxLines, maxMiterGates, valid, controlCount, controlsOf}
+use Rattle.circuit.specs.Gate.{maxLines, maxMiterGates, valid, controlCount}
 use Rattle.circuit.specs.Outcome.{Outcome, served, refused, andThen}
 use Rattle.circuit.specs.Refusal.{badLineCount}
-use Rattle.circuit.specs.Words.{gatesOf, gateAt, allValid, lineCountGood, validFrom, sizeOutcome, checkOutcome}
+use Rattle.circuit.specs.Words.{gatesOf, gateAt, allValid, lineCountGood, validFrom, sizeOutcome}
 use Rattle.circuit.proofs.Outcome.{then-served, then-refused}
-use Rattle.circuit.proofs.gate.Laws.{Valid, valid-facts, valid-more}
+use Rattle.circuit.proofs.gate.Laws.{valid-facts, valid-more}
 use Rattle.circuit.proofs.gate.Controls.{controls-count}
 use Rattle.circuit.proofs.words.Laws.{gates-next, gates-end, next-good, none-left, from-served, check-lines, check-gates, gates-refused, gates-sized}
 use Rattle.checking.specs.declared.clauses.Totals.{Totals}
 use Rattle.checking.specs.Clauses.{targeted, upFrom}
-use Rattle.checking.specs.Sizes.{totals, added, manySizes, gateSizes, gatesSizes, lineSizes, linesSizes, sizesOf, sizesOutcome}
+use Rattle.checking.specs.Sizes.{totals, added, gateSizes, gatesSizes, linesSizes, sizesOf, sizesOutcome}
 use Rattle.checking.proofs.clauses.Bounds.{few-controls}
-use Rattle.checking.proofs.clauses.Tests.{or-false, or-none}
+use Rattle.checking.proofs.clauses.Tests.{or-false}
 use Rattle.checking.proofs.clauses.Forced.{length-upFrom}
 
 -- the words of a gate, as the code counts them

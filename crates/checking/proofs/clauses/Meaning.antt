@@ -1,22 +1,19 @@
 -- The clause list of a cascade tells on which states its run is not the identity; 01's stand-ins do not. Assumes nothing.
-use mathlib.Core.Path.{_≡_, refl, sym, ap, ap₂, _∙_, subst}
+use mathlib.Core.Path.{_≡_, sym, ap, _∙_}
 use mathlib.Core.Logic.{_↔_}
-use mathlib.Core.Bool.{Bool, true, false}
-use mathlib.Core.List.{List, [], _∷_, _++_, map, append-assoc}
+use mathlib.Core.Bool.{Bool, true}
+use mathlib.Core.List.{List, _++_, map, append-assoc}
 use Prim.Native.Nat.{ℕ, _^_, _<_, _≤_}
-use native.Mathlib.Omega.{arith}
 use lib.Dec.{eqb}
-use lib.ListN.{length}
 use borrow.Author.Tests.{eqb-true, eqb-false}
 use Rattle.bits.specs.Digits.{bit}
 use Rattle.bits.proofs.Bools.{either}
 use Rattle.circuit.specs.declared.gate.Gate.{Gate}
-use Rattle.circuit.specs.Gate.{maxLines, notGate}
+use Rattle.circuit.specs.Gate.{maxLines}
 use Rattle.circuit.specs.Words.{allValid}
 use Rattle.circuit.specs.Run.{run}
-use Rattle.checking.specs.Clauses.{Clause, OR, XOR, upFrom, clausesOf, variablesOf}
-use Rattle.checking.specs.Satisfaction.{satisfies, Satisfying, spelled, gatesValues, differences, traced, forced, ClausesWithin, Tells}
-use Rattle.checking.specs.ClauseLaws.{ListsTell, contradiction, withoutLater}
+use Rattle.checking.specs.Clauses.{Clause, upFrom, clausesOf, variablesOf}
+use Rattle.checking.specs.Satisfaction.{Satisfying, spelled, gatesValues, differences, traced, forced, Tells}
 use Rattle.checking.proofs.clauses.Forced.{spelled-below, spelled-digits, length-forced, list-forced}
 use Rattle.checking.proofs.clauses.Bounds.{clauses-within}
 

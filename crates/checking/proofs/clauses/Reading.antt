@@ -1,6 +1,6 @@
 -- Stored words are read back, and only the words of clauses are read. Assumes nothing.
-use mathlib.Core.Path.{_≡_, refl, sym, ap, ap₂, _∙_}
-use mathlib.Core.Bool.{Bool, true, false, cond}
+use mathlib.Core.Path.{_≡_, refl, sym, ap, ap₂, _∙_, subst}
+use mathlib.Core.Logic.{_⊎_, inl, inr, ⊎-elim}
 use mathlib.Core.List.{List, [], _∷_, _++_, append-assoc}
 use mathlib.Core.Option.{Option, none, some}
 use Prim.Native.Nat.{ℕ, zero, suc, _+_, _≤_, _<_}
@@ -9,10 +9,10 @@ use lib.Dec.{leb}
 use lib.IntN.{ℤ, pos, negsuc}
 use lib.ListN.{length, take, drop, length-append, length-drop, take-append-drop}
 use lib.Seq.{take-append-seam, drop-append-seam, length-take-le}
-use borrow.Author.Tests.{le-leb, leb-true}
+use borrow.Author.Tests.{le-leb, leb-true, leb-false}
 use Rattle.bits.proofs.Bools.{either, cond-true, cond-false}
 use Rattle.checking.specs.Clauses.{Clause, OR, XOR}
-use Rattle.checking.specs.Stored.{storedClause, stored, Reading, clausesRead, badRecord, clauseOf, countOf, joined, readRecord, readFrom, clausesIn}
+use Rattle.checking.specs.Stored.{storedClause, stored, Reading, clausesRead, badRecord, clauseOf, joined, readRecord, readFrom, clausesIn, BadAt}
 
 pub stored-append : (xs ys : List Clause) → stored (xs ++ ys) ≡ stored xs ++ stored ys
 unfolding stored
@@ -85,3 +85,106 @@ read-words (suc most) i (kind ∷ pos k ∷ ws) cs e =
 pub read-stored : (ws : List ℤ) (cs : List Clause) → clausesIn ws ≡ clausesRead cs → ws ≡ stored cs
 unfolding clausesIn
 read-stored ws cs e = read-words (length ws) 0 ws cs e
+
+-- ---- what a bad record says
+
+unread : {i : ℕ} {cs : List Clause} → clausesRead cs ≡ badRecord i → ⊥
+unread e = bad (sym e)
+
+-- the words of a clause: a kind, a count, and at least so many more
+stored-kind : (c : Clause) (more ws : List ℤ) (kind count : ℤ) → kind ∷ count ∷ ws ≡ storedClause c ++ more
+    → (ls : List ℤ) × (clauseOf kind ls ≡ some c) × (count ≡ pos (length ls)) × (ws ≡ ls ++ more)
+stored-kind (OR ls) more ws kind count e =
+    let a : kind ≡ pos 0 = cc in
+    let b : count ≡ pos (length ls) = cc in
+    let d : ws ≡ ls ++ more = cc in
+    (ls, ap (λ (k : ℤ). clauseOf k ls) a, b, d)
+stored-kind (XOR ls) more ws kind count e =
+    let a : kind ≡ pos 1 = cc in
+    let b : count ≡ pos (length ls) = cc in
+    let d : ws ≡ ls ++ more = cc in
+    (ls, ap (λ (k : ℤ). clauseOf k ls) a, b, d)
+
+stored-long : (c : Clause) (more : List ℤ) → 2 ≤ length (storedClause c ++ more)
+stored-long (OR ls) more = omega arith
+stored-long (XOR ls) more = omega arith
+
+-- whether there is a clause depends on the kind alone
+kind-alone : (kind : ℤ) (xs ys : List ℤ) (c : Clause) → clauseOf kind xs ≡ none → clauseOf kind ys ≡ some c → ⊥
+kind-alone (pos zero) xs ys c e f = let z : _≡_ {A = ℕ} 0 1 = cc in omega arith
+kind-alone (pos (suc zero)) xs ys c e f = let z : _≡_ {A = ℕ} 0 1 = cc in omega arith
+kind-alone (pos (suc (suc k))) xs ys c e f = let z : _≡_ {A = ℕ} 0 1 = cc in omega arith
+kind-alone (negsuc k) xs ys c e f = let z : _≡_ {A = ℕ} 0 1 = cc in omega arith
+
+-- the record with index i is bad: no clause is before it
+at-once : (ws : List ℤ) (i j : ℕ) → (ws ≡ [] → ⊥) → ((c : Clause) (more : List ℤ) → ws ≡ storedClause c ++ more → ⊥) → badRecord i ≡ badRecord j → (k : ℕ) × (j ≡ i + k) × BadAt ws k
+unfolding stored
+at-once ws i j left other e =
+    let f : i ≡ j = cc in
+    (0, omega arith, record { whole = []; left = ws; words = refl; count = refl; some-left = left; no-clause = other })
+
+-- the record after a clause
+after : (c : Clause) (ws rest : List ℤ) (i j : ℕ) → ws ≡ storedClause c ++ rest → (k : ℕ) × (j ≡ suc i + k) × BadAt rest k → (k : ℕ) × (j ≡ i + k) × BadAt ws k
+unfolding stored
+after c ws rest i j e found =
+    let (k, a, b) = found in (
+      suc k,
+      omega arith,
+      record {
+        whole = c ∷ b .whole;
+        left = b .left;
+        words = e ∙ ap (λ (r : List ℤ). storedClause c ++ r) (b .words) ∙ sym (append-assoc (storedClause c) (stored (b .whole)) (b .left));
+        count = ap suc (b .count);
+        some-left = b .some-left;
+        no-clause = b .no-clause;
+      },
+    )
+
+bad-joined : (i j : ℕ) (o : Option Clause) (later : Reading) → joined i o later ≡ badRecord j
+    → ((o ≡ none) × (badRecord i ≡ badRecord j)) ⊎ ((c : Clause) × (o ≡ some c) × (later ≡ badRecord j))
+bad-joined i j none later e = inl (refl, e)
+bad-joined i j (some c) (clausesRead ds) e = absurd (unread e)
+bad-joined i j (some c) (badRecord k) e = inr (c, refl, e)
+
+read-bad-from : (most i : ℕ) (ws : List ℤ) (j : ℕ) → length ws ≤ most → readFrom i most ws ≡ badRecord j → (k : ℕ) × (j ≡ i + k) × BadAt ws k
+unfolding readFrom
+read-bad-from zero i [] j h e = absurd (unread e)
+read-bad-from zero i (kind ∷ ws) j h e = absurd (omega arith)
+read-bad-from (suc most) i [] j h e = absurd (unread e)
+read-bad-from (suc most) i (kind ∷ []) j h e =
+    at-once (kind ∷ []) i j (λ f. absurd (omega (arith, ap length f))) (λ c more f. absurd (omega (arith, ap length f, stored-long c more))) e
+read-bad-from (suc most) i (kind ∷ negsuc k ∷ ws) j h e =
+    at-once (kind ∷ negsuc k ∷ ws) i j (λ f. absurd (omega (arith, ap length f)))
+    (λ c more f. let (ls, a, b, d) = stored-kind c more ws kind (negsuc k) f in let z : _≡_ {A = ℕ} 0 1 = cc in omega arith) e
+read-bad-from (suc most) i (kind ∷ pos k ∷ ws) j h e =
+    either (leb k (length ws))
+    (λ t.
+    let l : k ≤ length ws = leb-true k (length ws) t in
+    let f = sym (cond-true (leb k (length ws)) (joined i (clauseOf kind (take k ws)) (readFrom (suc i) most (drop k ws))) (badRecord i) t) ∙ e in
+    ⊎-elim
+    (λ x.
+    at-once (kind ∷ pos k ∷ ws) i j (λ y. absurd (omega (arith, ap length y)))
+    (λ c more y. let (ls, a, b, d) = stored-kind c more ws kind (pos k) y in kind-alone kind (take k ws) ls c (x .0) a) (x .1))
+    (λ x.
+    let (c, a, b) = x in
+    let m : length (take k ws) ≡ k = length-take-le k ws l in
+    after c (kind ∷ pos k ∷ ws) (drop k ws) i j
+    (ap (λ (y : List ℤ). kind ∷ pos k ∷ y) (sym (take-append-drop k ws)) ∙ ap (λ (y : ℕ). (kind ∷ pos y ∷ take k ws) ++ drop k ws) (sym m)
+    ∙ ap (λ (y : List ℤ). y ++ drop k ws) (kind-stored kind (take k ws) c a))
+    (read-bad-from most (suc i) (drop k ws) j (omega (arith, length-drop k ws)) b))
+    (bad-joined i j (clauseOf kind (take k ws)) (readFrom (suc i) most (drop k ws)) f))
+    (λ t.
+    let l : length ws < k = leb-false k (length ws) t in
+    at-once (kind ∷ pos k ∷ ws) i j (λ y. absurd (omega (arith, ap length y)))
+    (λ c more y.
+    let (ls, a, b, d) = stored-kind c more ws kind (pos k) y in
+    let n : k ≡ length ls = cc in
+    omega (arith, ap length d, length-append ls more))
+    (sym (cond-false (leb k (length ws)) (joined i (clauseOf kind (take k ws)) (readFrom (suc i) most (drop k ws))) (badRecord i) t) ∙ e))
+
+pub read-bad : (ws : List ℤ) (i : ℕ) → clausesIn ws ≡ badRecord i → BadAt ws i
+unfolding clausesIn
+read-bad ws i e =
+    let (k, a, b) = read-bad-from (length ws) 0 ws i (omega arith) e in
+    let f : k ≡ i = omega arith in
+    subst (BadAt ws) f b

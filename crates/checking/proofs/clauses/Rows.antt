@@ -1,7 +1,6 @@
 -- The rows by full literals, computed; the sizes of 63 controls are counted on the list. Assumes nothing.
 use mathlib.Core.Path.{_≡_, refl, _∙_}
 use mathlib.Core.Bool.{true}
-use mathlib.Core.List.{[], _∷_}
 use native.Mathlib.Omega.{arith}
 use lib.Count.{ones, onesIn}
 use lib.ListN.{length}
@@ -11,7 +10,7 @@ use Rattle.circuit.specs.Words.{allValid}
 use Rattle.checking.specs.Clauses.{moved, gatesClauses, usedAfter, currentAfter, targeted, upFrom, differenceClauses, clausesOf, variablesOf}
 use Rattle.checking.specs.Stored.{stored}
 use Rattle.checking.specs.Sizes.{totals, gatesSizes, linesSizes, sizesOf}
-use Rattle.checking.specs.ClauseRows.{ClauseRow, RowsHold, clauseRows, longRow}
+use Rattle.checking.specs.ClauseRows.{RowsHold, clauseRows, longRow}
 use Rattle.checking.proofs.clauses.Sums.{sizes-list}
 
 long-valid : allValid (longRow .lines) (longRow .gates) ≡ true

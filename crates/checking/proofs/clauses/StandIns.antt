@@ -1,23 +1,20 @@
 -- 01's stand-ins for the clause list do not tell where a run is not the identity. Assumes nothing.
-use mathlib.Core.Path.{_≡_, refl, sym, ap, _∙_}
-use mathlib.Core.Bool.{Bool, true, false, xor, false≢true}
-use mathlib.Core.List.{List, [], _∷_, _++_}
-use Prim.Native.Nat.{ℕ, suc, _^_, _<_, _≤_}
+use mathlib.Core.Path.{_≡_, refl, sym, _∙_}
+use mathlib.Core.Bool.{Bool, true, false, false≢true}
+use mathlib.Core.List.{List, [], _∷_}
+use Prim.Native.Nat.{ℕ}
 use native.Mathlib.Omega.{arith}
-use lib.ListN.{length}
-use lib.Count.{ones}
-use lib.Bits.{bitAnd, bitOr, bitXor}
 use Rattle.bits.specs.Digits.{bit}
 use Rattle.bits.specs.Lists.{fold}
-use Rattle.bits.proofs.Bools.{and-parts}
 use Rattle.circuit.specs.declared.gate.Gate.{Gate}
-use Rattle.circuit.specs.Gate.{maxLines, notGate, valid, fires, inverted, apply, controlsBelow, allMet}
+use Rattle.circuit.specs.Gate.{notGate, valid, fires, inverted, apply, controlsBelow}
 use Rattle.circuit.specs.Words.{allValid}
 use Rattle.circuit.specs.Run.{run}
 use Rattle.circuit.proofs.gate.Laws.{apply-twice}
-use Rattle.checking.specs.Clauses.{Clause, OR, XOR, upFrom, moved, gatesClauses, usedAfter, currentAfter, targeted, differenceClauses, variablesOf}
-use Rattle.checking.specs.Satisfaction.{holds, satisfies, Satisfying, Tells}
-use Rattle.checking.specs.ClauseLaws.{ListsTell, contradiction, withoutLater}
+use Rattle.checking.specs.Clauses.{upFrom, moved, gatesClauses, usedAfter, currentAfter, targeted, differenceClauses, variablesOf}
+use Rattle.checking.specs.Satisfaction.{holds, satisfies, Satisfying}
+use Rattle.checking.specs.ClauseLaws.{ListsTell, contradiction, withoutLater, ofFirst, ofFirstVariables}
+use Rattle.checking.proofs.clauses.Meaning.{list-tells}
 
 -- the cascades NOT, and NOT twice, on one line
 abbrev once : List Gate
@@ -63,3 +60,10 @@ free-satisfies = record { whole = refl; satisfied = refl }
 -- without the second gate's clauses, NOT twice is called a change
 pub without-later-fails : ListsTell variablesOf withoutLater → ⊥
 without-later-fails tell = tell 1 twice (omega arith) twice-valid .equal .0 (λ x h. twice-runs x) free free-satisfies
+
+-- the list of the first gate alone calls NOT twice a change too
+pub of-first-fails : ListsTell ofFirstVariables ofFirst → ⊥
+unfolding ofFirst ofFirstVariables
+of-first-fails tell =
+    let (σ, sat, x, y) = list-tells 1 once (omega arith) once-valid .differing 0 (omega arith) (λ e. let z : _≡_ {A = ℕ} 0 1 = sym e ∙ once-runs in omega arith) in
+    tell 1 twice (omega arith) twice-valid .equal .0 (λ x h. twice-runs x) σ sat

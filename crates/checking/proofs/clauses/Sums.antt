@@ -1,10 +1,10 @@
 -- The sums gate by gate are the variables, clauses and words of the list. Assumes nothing.
 use mathlib.Core.Path.{_≡_, refl, sym, ap, ap₂, _∙_}
-use mathlib.Core.Bool.{Bool, true, false, cond}
+use mathlib.Core.Bool.{Bool, true, false}
 use mathlib.Core.List.{List, [], _∷_, _++_, map, append-nil}
-use Prim.Native.Nat.{ℕ, zero, suc, _+_, _*_, _≤_, _<_}
+use Prim.Native.Nat.{ℕ, zero, suc, _+_, _*_, _≤_}
 use native.Mathlib.Omega.{arith}
-use lib.IntN.{ℤ, pos, negℤ}
+use lib.IntN.{ℤ, negℤ}
 use lib.ListN.{length, length-append, length-map}
 use Rattle.bits.proofs.Bools.{and-parts}
 use Rattle.circuit.specs.declared.gate.Gate.{Gate}
@@ -14,8 +14,8 @@ use Rattle.circuit.proofs.gate.Laws.{valid-more}
 use Rattle.circuit.proofs.gate.Controls.{controls-count}
 use Rattle.checking.specs.declared.clauses.Totals.{Totals}
 use Rattle.checking.specs.Clauses.{Clause, OR, XOR, plus, minus, inputOf, literalOf, implied, manyClauses, gateClauses, newVariable, usedBy, moved, clausesOfGate, gatesClauses, usedAfter, currentAfter, targeted, upFrom, differenceClause, differenceClauses, clausesOf, variablesOf}
-use Rattle.checking.specs.Stored.{storedClause, stored}
-use Rattle.checking.specs.Sizes.{totals, added, manySizes, gateSizes, gatesSizes, lineSizes, linesSizes, sizesOf}
+use Rattle.checking.specs.Stored.{stored}
+use Rattle.checking.specs.Sizes.{totals, added, gateSizes, gatesSizes, lineSizes, linesSizes, sizesOf}
 use Rattle.checking.proofs.clauses.Reading.{stored-append}
 use Rattle.checking.proofs.clauses.Forced.{length-upFrom}
 

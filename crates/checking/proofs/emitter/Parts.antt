@@ -14,11 +14,10 @@ use Rattle.bits.specs.Digits.{bit}
 use Rattle.bits.specs.Lists.{over}
 use Rattle.bits.proofs.Digits.{bit-and, bit-or, bit-none}
 use Rattle.bits.proofs.Lists.{over-push, over-length, rest-lent, lent-over}
-use Rattle.circuit.specs.declared.gate.Gate.{Gate}
-use Rattle.circuit.specs.Gate.{maxLines, Control, controlAt, controlsBelow}
+use Rattle.circuit.specs.Gate.{Control, controlAt, controlsBelow}
 use Rattle.checking.specs.Clauses.{Clause, OR, XOR, plus, minus, literalOf, implied, manyClauses}
-use Rattle.checking.specs.Stored.{storedClause, stored}
-use Rattle.checking.specs.Emitter.{literalWord, byLine, controlsIn, literalsIn, manyStored, Many, Currents}
+use Rattle.checking.specs.Stored.{stored}
+use Rattle.checking.specs.Emitter.{literalWord, byLine, controlsIn, literalsIn, manyStored, Many}
 use Rattle.checking.proofs.clauses.Reading.{stored-append}
 use Rattle.checking.proofs.clauses.Bounds.{few-controls}
 

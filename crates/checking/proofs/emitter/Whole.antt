@@ -1,24 +1,23 @@
 -- What the one-gate emitter writes for a gate with no control, with one, and with more. Assumes nothing.
-use mathlib.Core.Path.{_≡_, refl, sym, ap, ap₂, _∙_, subst}
+use mathlib.Core.Path.{_≡_, refl, sym, ap, _∙_, subst}
 use mathlib.Core.List.{List, [], _∷_, _++_, map}
 use Prim.Native.Nat.{ℕ, zero, suc, _+_, _*_, _-_, _≤_, _<_}
 use native.Mathlib.Numerals.{add-one}
 use native.Mathlib.Omega.{arith}
-use lib.Bits.{bitAnd}
 use lib.IntN.{ℤ, pos}
 use lib.ListN.{length, take, drop, length-map}
 use borrow.Rule.Slice.PartMut.{putMid}
 use Rattle.bits.specs.Lists.{over}
 use Rattle.bits.proofs.Lists.{over-length, lent-over}
 use Rattle.circuit.specs.declared.gate.Gate.{Gate}
-use Rattle.circuit.specs.Gate.{maxLines, valid, controlCount, Control, controlAt, controlsBelow, controlsOf}
-use Rattle.circuit.proofs.gate.Laws.{Valid, valid-facts, valid-more}
+use Rattle.circuit.specs.Gate.{maxLines, controlCount, Control, controlAt, controlsBelow}
+use Rattle.circuit.proofs.gate.Laws.{valid-facts, valid-more}
 use Rattle.circuit.proofs.gate.Controls.{controls-count, controls-below}
 use Rattle.checking.specs.declared.clauses.Totals.{Totals}
-use Rattle.checking.specs.Clauses.{Clause, plus, minus, literalOf, gateClauses, manyClauses}
-use Rattle.checking.specs.Stored.{stored}
+use Rattle.checking.specs.Clauses.{plus, minus, literalOf, gateClauses, manyClauses}
+use Rattle.checking.specs.Stored.{stored, wordLimit}
 use Rattle.checking.specs.Sizes.{gateSizes}
-use Rattle.checking.specs.Emitter.{byLine, controlsIn, literalsIn, gateStored, manyStored, Currents, Many, Ready}
+use Rattle.checking.specs.Emitter.{byLine, controlsIn, literalsIn, gateStored, manyStored, Many, Ready}
 use Rattle.checking.proofs.clauses.Sums.{many-words}
 use Rattle.checking.proofs.clauses.Loop.{sizes-many}
 
@@ -54,7 +53,7 @@ module _ (n used : ℕ) (current : List ℕ) (g : Gate) (room : ℕ) (ready : Re
   pub target-below : g .target < n
   target-below = valid-facts n g (ready .gate) .target-below
 
-  pub target-small : target < 32768
+  pub target-small : target < wordLimit
   target-small = ready .currents .small (g .target) target-below
 
   pub controls-known : length (controlsIn (g .positive) (g .negative) n) ≡ controlCount g

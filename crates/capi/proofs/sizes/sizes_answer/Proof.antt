@@ -1,5 +1,5 @@
 -- `capi::sizes::sizes_answer` meets its contract. Assumes nothing.
-use mathlib.Core.Path.{_≡_, sym, ap}
+use mathlib.Core.Path.{sym, ap}
 use borrow.Author.Needs.{needs}
 use Rattle.checking.specs.declared.clauses.SizesAnswer.{SizesAnswer}
 use Rattle.checking.specs.Sizes.{ofSizes}

@@ -1,5 +1,5 @@
 -- `checking::clauses::list_sizes` meets its contract. The loop's invariant: the gates passed are valid and summed up, and their targets stand in the mask. Assumes nothing.
-use mathlib.Core.Path.{_≡_, refl, sym, ap, _∙_, subst}
+use mathlib.Core.Path.{_≡_, sym, ap, _∙_, subst}
 use mathlib.Core.Bool.{true}
 use Prim.Native.Nat.{ℕ, _+_, _*_, _-_, _≤_}
 use native.Mathlib.Omega.{arith}
@@ -8,7 +8,7 @@ use borrow.Author.Tests.{not-true, not-false}
 use Rattle.circuit.specs.Gate.{maxLines, valid}
 use Rattle.circuit.specs.Outcome.{served}
 use Rattle.circuit.proofs.Outcome.{why, then-refused}
-use Rattle.circuit.proofs.gate.Laws.{Valid, valid-facts}
+use Rattle.circuit.proofs.gate.Laws.{valid-facts}
 use Rattle.circuit.proofs.words.Laws.{next-bad}
 use Rattle.checking.specs.Sizes.{totals, gateSizes}
 use Rattle.checking.proofs.clauses.Loop.{Small, sizes-small, controls-few, Summed, summed-start, summed-next, summed-all}

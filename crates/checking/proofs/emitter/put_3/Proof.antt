@@ -1,9 +1,9 @@
 -- `checking::emitter::put_3` meets its contract. Assumes nothing.
-use mathlib.Core.Path.{_≡_, ap, ap₂, _∙_}
-use mathlib.Core.List.{List, [], _∷_}
+use mathlib.Core.Path.{ap, ap₂, _∙_}
+use mathlib.Core.List.{[], _∷_}
 use native.Mathlib.Omega.{arith}
 use lib.IntN.{ℤ}
-use lib.ListN.{length, length-set, set}
+use lib.ListN.{length-set, set}
 use lib.Seq.{sets-eq}
 use borrow.Author.Needs.{needs}
 use mir.Syntax.{w16}

@@ -1,18 +1,15 @@
 -- `checking::emitter::put_implied` meets its contract. The loop's invariant: the clauses of lines below k stand at the buffer's start. Assumes nothing.
-use mathlib.Core.Path.{_≡_, refl, sym, ap, ap₂, _∙_}
+use mathlib.Core.Path.{_≡_, refl, sym, ap, _∙_}
 use mathlib.Core.Logic.{⊎-elim}
 use mathlib.Core.Bool.{Bool, false}
-use Prim.Native.Nat.{ℕ, _+_, _*_, _-_, _≤_, _<_}
+use Prim.Native.Nat.{ℕ, _+_, _*_, _-_, _≤_}
 use native.Mathlib.Omega.{arith}
-use lib.Bits.{bitOr}
-use lib.IntN.{ℤ, pos}
 use lib.ListN.{length}
 use borrow.Author.Needs.{needs}
 use borrow.Rule.Slice.PartMut.{same-len-mid}
 use Rattle.bits.specs.Digits.{bit}
 use Rattle.bits.specs.Lists.{over}
-use Rattle.checking.specs.Clauses.{minus}
-use Rattle.checking.specs.Emitter.{literalWord, byLine, controlsIn, literalsIn}
+use Rattle.checking.specs.Emitter.{literalWord, byLine, controlsIn}
 use Rattle.checking.proofs.emitter.Signed.{literal-kept}
 use Rattle.checking.proofs.emitter.Parts.{lent-long, Implied, impliedIn, implied-none, implied-room, implied-stored, implied-passed}
 use Rattle.checking.proofs.emitter.put_implied.Statement.{statement}

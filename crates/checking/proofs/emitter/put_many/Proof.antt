@@ -1,16 +1,12 @@
 -- `checking::emitter::put_many` meets its contract. Assumes nothing.
 use borrow.Author.Needs.{needs}
-use mathlib.Core.Path.{_≡_, refl, sym, ap, ap₂, _∙_}
+use mathlib.Core.Path.{refl}
 use mathlib.Core.Bool.{true, false}
-use mathlib.Core.List.{[], _∷_, _++_}
-use Prim.Native.Nat.{ℕ, suc, _+_, _*_, _≤_}
-use native.Mathlib.Numerals.{add-one}
+use Prim.Native.Nat.{_+_, _≤_}
 use native.Mathlib.Omega.{arith}
-use lib.IntN.{ℤ, pos}
-use lib.ListN.{length, length-map}
+use lib.IntN.{ℤ}
 use mir.Syntax.{w16}
 use mir.Val.{toZ, ofZ}
-use Rattle.checking.specs.Emitter.{controlsIn, literalsIn, Many, Currents}
 use Rattle.checking.proofs.emitter.Signed.{literal-kept}
 use Rattle.checking.proofs.emitter.Parts.{lent-long, swapped-count, many-filled, controls-few}
 use Rattle.checking.proofs.emitter.put_many.Statement.{statement}
