@@ -1,3 +1,4 @@
 -- The laws of each module are in its own folder; `StandIns` has those of `specs/StandIns.antt`, `Rows` the fact about document 01's table.
 pub mod StandIns
 pub mod Rows
+pub mod Equality

@@ -9,6 +9,8 @@ pub mod Stored
 pub mod Sizes
 pub mod ClauseRows
 pub mod Emitter
+pub mod Emit
+pub mod Equality
 pub mod Compare
 pub mod Faults
 pub mod FaultLaws

@@ -1,0 +1,176 @@
+-- Demand 3: the calls keep what stands, and the emitted clauses tell on which states the two cascades differ. Assumes nothing.
+use mathlib.Core.Path.{_≡_, refl, sym, ap, ap₂, subst, _∙_}
+use mathlib.Core.Logic.{_↔_}
+use mathlib.Core.Bool.{Bool, true, false}
+use mathlib.Core.List.{List, [], _∷_, _++_}
+use Prim.Native.Nat.{ℕ, _+_, _*_, _^_, _<_, _≤_}
+use native.Mathlib.Omega.{arith}
+use lib.IntN.{ℤ}
+use lib.ListN.{length, take, drop}
+use borrow.Author.Tests.{le-leb}
+use Rattle.bits.specs.Lists.{over}
+use Rattle.circuit.specs.declared.gate.Gate.{Gate}
+use Rattle.circuit.specs.Gate.{maxLines, maxGates, maxMiterGates}
+use Rattle.circuit.specs.Outcome.{Outcome, served, refused, written}
+use Rattle.circuit.specs.Words.{gatesOf, allValid, checkOutcome, Cascade}
+use Rattle.circuit.specs.Run.{run}
+use Rattle.circuit.proofs.Outcome.{demand-met, then-served, then-refused}
+use Rattle.circuit.proofs.words.Laws.{check-served, served-check, valid-all-more, gates-length}
+use Rattle.checking.specs.declared.step.Kind.{Kind}
+use Rattle.checking.specs.declared.clauses.Totals.{Totals}
+use Rattle.checking.specs.Miter.{miterGates, miterOutcome, miterBuffer}
+use Rattle.checking.specs.MiterLaws.{MiterLaws}
+use Rattle.checking.specs.Step.{Step, found, none, stepGates, counted, stepOutcome, stepBuffer}
+use Rattle.checking.specs.StepLaws.{Keeps, Stands, Steps, StepLaws}
+use Rattle.checking.specs.Reduce.{Reduced, reduceGates, reduceOutcome, reduceBuffer}
+use Rattle.checking.specs.ReduceLaws.{Reduces, ReduceLaws}
+use Rattle.checking.specs.Clauses.{Clause, clausesOf, variablesOf}
+use Rattle.checking.specs.Stored.{stored, clausesIn, clausesRead}
+use Rattle.checking.specs.Satisfaction.{Satisfying, spelled, Tells}
+use Rattle.checking.specs.Sizes.{totals, sizesOf, sizesOutcome}
+use Rattle.checking.specs.ClauseLaws.{ClauseLaws}
+use Rattle.checking.specs.Emit.{emitOutcome, emitBuffer}
+use Rattle.checking.specs.Equality.{Call, stepOn, reduceOn, stepLeaves, reduceLeaves, after, afterAll, Emitted, Claim, Equality}
+use Rattle.checking.proofs.miter.Laws.{miter-laws}
+use Rattle.checking.proofs.step.Laws.{step-laws}
+use Rattle.checking.proofs.reduce.Relation.{reduce-laws}
+use Rattle.checking.proofs.clauses.Laws.{clause-laws}
+
+-- ---- what stands
+
+-- words of a cascade on n lines that does on every state what the gates `start` do
+pub record Standing (n : ℕ) (start : List Gate) (ws : List ℕ) : Type 0 where
+  pub count : ℕ
+  pub cascade : Cascade n ws maxMiterGates count
+  pub same : (s : ℕ) → run (gatesOf ws) s ≡ run start s
+
+module _ (n : ℕ) (start : List Gate) (ws : List ℕ) (g : Standing n start ws) where
+  all-lines : allValid maxLines (gatesOf ws) ≡ true
+  all-lines = valid-all-more n maxLines (gatesOf ws) (g .cascade .lines-high) (g .cascade .gates)
+
+  -- gates hs that stand in a buffer and do what the gates before did
+  kept : (last : List ℕ) (hs : List Gate) → Stands n ws last hs → Keeps n (gatesOf ws) hs → Standing n start (take (3 * length hs) last)
+  kept last hs s k =
+      record {
+        count = length hs;
+        cascade = s .cascade;
+        same = λ x. ap (λ (l : List Gate). run l x) (s .gates) ∙ k .same x ∙ g .same x;
+      }
+
+  module _ (m : ℕ) where
+    step-found : (k : ℕ) → Cascade m ws maxMiterGates k → (t : Step (List Gate)) → stepGates (gatesOf ws) ≡ t → Standing n start (stepLeaves (served (counted t)) (stepBuffer m ws) ws)
+    step-found k c (found i j kind hs) e =
+        let s : Stands n ws (stepBuffer n ws) hs = step-laws .call-stands n ws (g .count) (g .cascade) i j kind hs e in
+        let keeps : Keeps n (gatesOf ws) hs = step-laws .step-keeps n (gatesOf ws) (g .cascade .lines-high) (g .cascade .gates) i j kind hs (step-laws .step-steps (gatesOf ws) all-lines _ .0 e) in
+        let b : stepBuffer n ws ≡ stepBuffer m ws = step-laws .call-lines n m ws (g .count) k (g .cascade) c .1 in
+        subst (λ (l : List ℕ). Standing n start (take (3 * length hs) l)) b (kept (stepBuffer n ws) hs s keeps)
+    step-found k c none e = g
+
+    after-step : (o : Outcome ℕ) → checkOutcome m ws maxMiterGates ≡ o → Standing n start (after (stepOn m) ws)
+    unfolding after stepOutcome
+    after-step (served k) e =
+        let c : Cascade m ws maxMiterGates k = check-served m ws maxMiterGates k e in
+        subst (λ (o : Outcome (Step ℕ)). Standing n start (stepLeaves o (stepBuffer m ws) ws)) (sym (step-laws .call-served m ws k c)) (step-found k c (stepGates (gatesOf ws)) refl)
+    after-step (refused number place) e =
+        subst (λ (o : Outcome (Step ℕ)). Standing n start (stepLeaves o (stepBuffer m ws) ws)) (sym (then-refused _ _ number place e)) g
+
+    after-reduce : (o : Outcome ℕ) → checkOutcome m ws maxMiterGates ≡ o → Standing n start (after (reduceOn m) ws)
+    unfolding after reduceOutcome
+    after-reduce (served k) e =
+        let c : Cascade m ws maxMiterGates k = check-served m ws maxMiterGates k e in
+        let r : Reduced (List Gate) = reduceGates (gatesOf ws) in
+        let s : Stands n ws (reduceBuffer n ws) (r .left) = reduce-laws .call-stands n ws (g .count) (g .cascade) in
+        let keeps : Keeps n (gatesOf ws) (r .left) = reduce-laws .reduce-keeps n (gatesOf ws) (r .left) (r .pairs) (r .merges) (g .cascade .lines-high) (g .cascade .gates) (reduce-laws .reduce-reduces (gatesOf ws) all-lines r .0 refl) in
+        let b : reduceBuffer n ws ≡ reduceBuffer m ws = reduce-laws .call-lines n m ws (g .count) k (g .cascade) c .1 in
+        subst (λ (o : Outcome (Reduced ℕ)). Standing n start (reduceLeaves o (reduceBuffer m ws) ws)) (sym (reduce-laws .call-served m ws k c))
+        (subst (λ (l : List ℕ). Standing n start (take (3 * length (r .left)) l)) b (kept (reduceBuffer n ws) (r .left) s keeps))
+    after-reduce (refused number place) e =
+        subst (λ (o : Outcome (Reduced ℕ)). Standing n start (reduceLeaves o (reduceBuffer m ws) ws)) (sym (then-refused _ _ number place e)) g
+
+after-call : (n : ℕ) (start : List Gate) (ws : List ℕ) → Standing n start ws → (c : Call) → Standing n start (after c ws)
+after-call n start ws g (stepOn m) = after-step n start ws g m (checkOutcome m ws maxMiterGates) refl
+after-call n start ws g (reduceOn m) = after-reduce n start ws g m (checkOutcome m ws maxMiterGates) refl
+
+pub after-calls : (n : ℕ) (start : List Gate) (calls : List Call) (ws : List ℕ) → Standing n start ws → Standing n start (afterAll calls ws)
+unfolding afterAll
+after-calls n start [] ws g = g
+after-calls n start (c ∷ calls) ws g = after-calls n start calls (after c ws) (after-call n start ws g c)
+
+-- ---- what the clauses tell
+
+-- two functions that agree exactly where two others do
+tells-same : (n variables : ℕ) (cs : List Clause) (f g p q : ℕ → ℕ) → ((x : ℕ) → (f x ≡ g x) ↔ (p x ≡ q x)) → Tells n variables cs f g → Tells n variables cs p q
+tells-same n variables cs f g p q e t =
+    record {
+      equal = ((λ h. t .equal .0 (λ x l. e x .1 (h x l))), (λ h x l. e x .0 (t .equal .1 h x l)));
+      differing = λ x l h. t .differing x l (λ i. h (e x .0 i));
+      no-other = λ σ s. let (l, h) = t .no-other σ s in (l, (λ i. h (e (spelled n σ) .1 i)));
+      within = t .within;
+    }
+
+-- ---- the emission
+
+module _ (n : ℕ) (a b ws : List ℕ) (out : List ℤ) (g : Standing n (miterGates (gatesOf a) (gatesOf b)) ws) where
+  abbrev gs : List Gate
+  gs = gatesOf ws
+
+  abbrev cs : List Clause
+  cs = clausesOf n gs
+
+  sums : sizesOf n gs ≡ totals (variablesOf n gs) (length cs) (length (stored cs))
+  sums = clause-laws .sizes-list n gs (g .cascade .lines-high) (g .cascade .gates)
+
+  served-sizes : sizesOutcome n ws ≡ served (sizesOf n gs)
+  unfolding sizesOutcome
+  served-sizes = then-served _ _ (g .count) (served-check n ws maxMiterGates (g .count) (g .cascade))
+
+  module _ (room : length (stored cs) ≤ length out) where
+    served-emit : emitOutcome n ws (length out) ≡ served (sizesOf n gs)
+    unfolding emitOutcome
+    served-emit =
+        let w : sizesOf n gs .words ≡ length (stored cs) = ap (λ (t : Totals). t .words) sums in
+        then-served _ _ (sizesOf n gs) served-sizes ∙ demand-met _ _ _ _ (le-leb (sizesOf n gs .words) (length out) (omega arith))
+
+    left : emitBuffer n ws out ≡ stored cs ++ drop (length (stored cs)) out
+    unfolding emitBuffer
+    left = ap (λ (o : Outcome Totals). written o (stored cs) out) served-emit
+
+    same-states : (x : ℕ) → (run gs x ≡ x) ↔ (run (gatesOf a) x ≡ run (gatesOf b) x)
+    same-states x =
+        let m = miter-laws .identity (gatesOf a) (gatesOf b) x in
+        ((λ e. m .0 (sym (g .same x) ∙ e)), (λ e. g .same x ∙ m .1 e))
+
+    emitted : Emitted n a b (emitOutcome n ws (length out)) (emitBuffer n ws out)
+    emitted =
+        record {
+          totals = sizesOf n gs;
+          is-served = served-emit;
+          clauses = cs;
+          are-read =
+              ap₂ (λ (k : ℕ) (l : List ℤ). clausesIn (take k l)) (ap (λ (t : Totals). t .words) sums) left
+              ∙ clause-laws .read-back cs (drop (length (stored cs)) out);
+          counted = sym (ap (λ (t : Totals). t .clauses) sums);
+          tells =
+              subst (λ (v : ℕ). Tells n v cs (run (gatesOf a)) (run (gatesOf b))) (sym (ap (λ (t : Totals). t .variables) sums))
+              (tells-same n (variablesOf n gs) cs (run gs) (λ x. x) (run (gatesOf a)) (run (gatesOf b)) same-states
+              (clause-laws .lists-tell n gs (g .cascade .lines-high) (g .cascade .gates)));
+        }
+
+-- ---- the whole claim
+
+pub equality : Equality
+equality n a b i j c d room fits calls out =
+    let k : ℕ = i + j in
+    let s : miterOutcome n a n b (length room) ≡ served k =
+    miter-laws .miter-served n a n b (length room) k .1 (record { first = i; second = j; first-good = c; second-good = d; lines = refl; fits = fits; count = refl }) in
+    let m = miter-laws .miter-stands n a n b room k s in
+    let first : Standing n (miterGates (gatesOf a) (gatesOf b)) (take (3 * k) (miterBuffer n a n b room)) =
+    record { count = k; cascade = m .cascade; same = λ x. ap (λ (l : List Gate). run l x) (m .gates) } in
+    let last = after-calls n (miterGates (gatesOf a) (gatesOf b)) calls (take (3 * k) (miterBuffer n a n b room)) first in
+    record {
+      gates = k;
+      miter-served = s;
+      standing = afterAll calls (take (3 * k) (miterBuffer n a n b room));
+      stands = refl;
+      emission = λ h. emitted n a b (afterAll calls (take (3 * k) (miterBuffer n a n b room))) out last h;
+    }
