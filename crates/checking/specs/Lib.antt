@@ -11,6 +11,7 @@ pub mod ClauseRows
 pub mod Emitter
 pub mod Emit
 pub mod Equality
+pub mod Check
 pub mod Compare
 pub mod Faults
 pub mod FaultLaws

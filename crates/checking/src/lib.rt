@@ -2,6 +2,7 @@
 
 ghost use Rattle.checking.specs.Laws.{CheckingLaws};
 
+pub mod check;
 pub mod clauses;
 pub mod compare;
 mod emitter;

@@ -1,0 +1,2 @@
+-- `Laws` has the laws of `specs/Check.antt`: what a call and a list of calls leave, and demand 3 of what the code answers.
+pub mod Laws

@@ -1,0 +1,45 @@
+// The whole way from two cascades to clauses: the miter, a list of calls on it, and the emission.
+
+use circuit::gate::Gate;
+ghost use mathlib.Core.Path.{_≡_};
+ghost use Prim.Native.Nat.{_*_, _≤_};
+ghost use lib.ListN.{length};
+ghost use Rattle.circuit.specs.Outcome.{Yields};
+ghost use Rattle.checking.specs.Check.{callOf, callsOf, called, calledAll};
+use crate::step::StepAnswer;
+use crate::reduce::ReduceAnswer;
+
+// Makes a call on the gates that stand at the buffer's start, a step where the kind is 0 and else a full reduction; how many gates then stand.
+fn make_call(kind: u64, n: u64, gates: usize, words: &mut [u64]) -> usize
+    requires { ⌜ 3 * gates ≤ length (now words) ⌝ }
+    ensures { λ r. ⌜ Yields r (now (words .exit)) (called (callOf kind n) (record { gates = gates; words = now (words .entry) }) .gates) (called (callOf kind n) (record { gates = gates; words = now (words .entry) }) .words) ⌝ }
+{
+    let end = Gate::WORDS * gates;
+    if kind == 0 {
+        return match crate::step::step(n, &mut words[..end]) {
+            StepAnswer::Found { i: _, j: _, kind: _, gates: left } => left,
+            StepAnswer::Nothing => gates,
+            StepAnswer::Refused(_) => gates,
+        };
+    }
+    match crate::reduce::reduce(n, &mut words[..end]) {
+        ReduceAnswer::Reduced { gates: left, pairs: _, merges: _ } => left,
+        ReduceAnswer::Refused(_) => gates,
+    }
+}
+
+// Makes the calls, two words each, on the gates that stand at the buffer's start; how many gates then stand.
+fn make_calls(calls: &[u64], gates: usize, words: &mut [u64]) -> usize
+    requires { ⌜ 3 * gates ≤ length (now words) ⌝ }
+    ensures { λ r. ⌜ Yields r (now (words .exit)) (calledAll (callsOf (now (calls .entry))) (record { gates = gates; words = now (words .entry) }) .gates) (calledAll (callsOf (now (calls .entry))) (record { gates = gates; words = now (words .entry) }) .words) ⌝ }
+{
+    let count = calls.len() / 2;
+    let mut left = gates;
+    let mut i = 0;
+    while i < count {
+        let at = 2 * i;
+        left = make_call(calls[at], calls[at + 1], left, words);
+        i += 1;
+    }
+    left
+}
