@@ -6,8 +6,8 @@ ghost use Prim.Native.Nat.{_*_, _≤_};
 ghost use lib.ListN.{length};
 ghost use Rattle.circuit.specs.Outcome.{Yields};
 ghost use Rattle.checking.specs.Check.{callOf, callsOf, called, calledAll};
-use crate::step::StepAnswer;
 use crate::reduce::ReduceAnswer;
+use crate::step::StepAnswer;
 
 // Makes a call on the gates that stand at the buffer's start, a step where the kind is 0 and else a full reduction; how many gates then stand.
 fn make_call(kind: u64, n: u64, gates: usize, words: &mut [u64]) -> usize
@@ -17,13 +17,22 @@ fn make_call(kind: u64, n: u64, gates: usize, words: &mut [u64]) -> usize
     let end = Gate::WORDS * gates;
     if kind == 0 {
         return match crate::step::step(n, &mut words[..end]) {
-            StepAnswer::Found { i: _, j: _, kind: _, gates: left } => left,
+            StepAnswer::Found {
+                i: _,
+                j: _,
+                kind: _,
+                gates: left,
+            } => left,
             StepAnswer::Nothing => gates,
             StepAnswer::Refused(_) => gates,
         };
     }
     match crate::reduce::reduce(n, &mut words[..end]) {
-        ReduceAnswer::Reduced { gates: left, pairs: _, merges: _ } => left,
+        ReduceAnswer::Reduced {
+            gates: left,
+            pairs: _,
+            merges: _,
+        } => left,
         ReduceAnswer::Refused(_) => gates,
     }
 }

@@ -65,8 +65,7 @@ loop-again c =
     let kind : ℕ = getD (a .calls .now) (2 * l .loop .i) 0 in
     let n : ℕ = getD (a .calls .now) (2 * l .loop .i + 1) 0 in
     let h = call-leaves (callOf kind n) (record { gates = l .loop .left; words = l .loop .words }) (l .loop .inv .1) in
-    let same = m .make-call .kept .1 .1 .1 .0 in
-    (
+    let same = m .make-call .kept .1 .1 .1 .0 in (
       omega arith,
       omega (arith, y .answer, h .few, same),
       same ∙ l .loop .inv .2,
