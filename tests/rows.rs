@@ -13,6 +13,7 @@ pub fn check() {
     miter();
     starred_steps();
     reductions();
+    models();
 }
 
 fn refusal<T>(number: u64, place: u64) -> Result<T, Refusal> {
@@ -194,4 +195,46 @@ fn reductions() {
     assert_eq!(reduce(&[[0, 0, 0]; 4]), reduced(0, 2, 0));
     assert_eq!(reduce(&[[3, 0, 2], [1, 2, 2], [1, 0, 2]]), reduced(0, 1, 1));
     assert_eq!(reduce(&[[1, 0, 2], [0, 0, 0]]), reduced(2, 0, 0));
+}
+
+/// Every assignment of small lists: an input that the gates change is spelled by exactly one that
+/// satisfies, and no other input by any.
+fn models() {
+    let mut gates = Vec::new();
+    for words in 0..3 * 8 * 8 {
+        let gate = Gate {
+            positive: words % 8,
+            negative: words / 8 % 8,
+            target: words / 64,
+        };
+        if gate.valid(3) {
+            gates.push(gate);
+        }
+    }
+    for first in &gates {
+        for second in &gates {
+            check_models(3, &[*first, *second]);
+        }
+    }
+    check_models(1, &[]);
+}
+
+fn check_models(n: u64, gates: &[Gate]) {
+    let list = reference::clause_list(n, gates);
+    let mut models = vec![0; 1 << n];
+    for assignment in 0..1u64 << list.variables {
+        let literal = |l: &&i64| reference::has(assignment, l.unsigned_abs() - 1) == (**l > 0);
+        let holds = |clause: &Clause| match clause {
+            Clause::Or(literals) => literals.iter().any(|l| literal(&l)),
+            Clause::Xor(literals) => literals.iter().filter(literal).count() % 2 == 1,
+        };
+        if list.clauses.iter().all(holds) {
+            models[(assignment % (1 << n)) as usize] += 1;
+        }
+    }
+    for (input, models) in models.iter().enumerate() {
+        let input = input as u64;
+        let output = gates.iter().fold(input, |state, gate| gate.apply(state));
+        assert_eq!(*models, u64::from(output != input), "{gates:?} on {input}");
+    }
 }

@@ -1,4 +1,4 @@
--- The laws of the clause list: `Tests` on truth values, `Gates` on a gate's clauses, `Forced` on the forced assignment, and what follows.
+-- The laws of the clause list: `Tests` truth tables, `Gates` the clauses of gates, `Forced` the forced assignment, `Bounds` literals and words, `Meaning` what the list tells, `Reading` stored words, `StandIns` 01's stand-ins, `Sums` and `Loop` sizes, `Rows` the rows, `Maps` other maps of current variables.
 pub mod Tests
 pub mod Gates
 pub mod Forced
@@ -9,4 +9,5 @@ pub mod StandIns
 pub mod Sums
 pub mod Rows
 pub mod Loop
+pub mod Maps
 pub mod Laws

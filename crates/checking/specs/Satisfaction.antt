@@ -56,13 +56,13 @@ abbrev pub LiteralsWithin : ℕ → List ℤ → Type 0
 LiteralsWithin v [] = Unit {0}
 LiteralsWithin v (l ∷ ls) = (1 ≤ size l) × ((size l ≤ v) × LiteralsWithin v ls)
 
-abbrev pub literalsIn : Clause → List ℤ
-literalsIn (OR ls) = ls
-literalsIn (XOR ls) = ls
+abbrev pub clauseLiterals : Clause → List ℤ
+clauseLiterals (OR ls) = ls
+clauseLiterals (XOR ls) = ls
 
 abbrev pub ClausesWithin : ℕ → List Clause → Type 0
 ClausesWithin v [] = Unit {0}
-ClausesWithin v (c ∷ cs) = LiteralsWithin v (literalsIn c) × ClausesWithin v cs
+ClausesWithin v (c ∷ cs) = LiteralsWithin v (clauseLiterals c) × ClausesWithin v cs
 
 -- the values that an input forces: of a gate's new variables, by its controls and its target, for the state s before it
 abbrev pub gateValues : ℕ → ℕ → List Control → List Bool

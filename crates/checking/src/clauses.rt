@@ -30,17 +30,16 @@ fn gate_sizes(k: u64) -> Totals
     requires { ⌜ k ≤ maxLines ⌝ }
     ensures { λ r. ⌜ r ≡ gateSizes k ⌝ }
 {
-    if k < 2 {
-        return Totals {
-            variables: 1,
-            clauses: 1,
-            words: 4 + k,
-        };
+    let mut variables = 1;
+    let mut clauses = 1;
+    if 2 <= k {
+        variables = 2;
+        clauses = k + 2;
     }
     Totals {
-        variables: 2,
-        clauses: k + 2,
-        words: 5 * k + 8,
+        variables,
+        clauses,
+        words: 4 * clauses + k,
     }
 }
 

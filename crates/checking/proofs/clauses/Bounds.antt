@@ -15,7 +15,7 @@ use Rattle.circuit.specs.Gate.{maxLines, maxMiterGates, valid, Control, control
 use Rattle.circuit.specs.Words.{allValid}
 use Rattle.circuit.proofs.gate.Laws.{valid-facts}
 use Rattle.checking.specs.Clauses.{Clause, OR, XOR, plus, minus, inputOf, literalOf, implied, manyClauses, gateClauses, newVariable, usedBy, moved, clausesOfGate, gatesClauses, usedAfter, currentAfter, targeted, upFrom, differenceClause, differenceClauses, clausesOf, variablesOf, countP}
-use Rattle.checking.specs.Satisfaction.{size, LiteralsWithin, literalsIn, ClausesWithin}
+use Rattle.checking.specs.Satisfaction.{size, LiteralsWithin, clauseLiterals, ClausesWithin}
 use Rattle.checking.specs.Stored.{stored, FitsWord, AllFit, wordLimit}
 use Rattle.checking.proofs.clauses.Gates.{Within, controls-within, new-named}
 use Rattle.checking.proofs.clauses.Forced.{Inside, inside-upFrom, used-more, length-upFrom}
@@ -106,7 +106,7 @@ after-named n m used current (g ∷ gs) h named =
     let w : usedBy used g ≤ m = omega (arith, used-more (usedBy used g) gs) in
     after-named n m (usedBy used g) (moved used current g) gs h (moved-named n m used current g w named)
 
-difference-within : (m d a b : ℕ) (hit : Bool) → suc d ≤ m → 1 ≤ a → a ≤ m → 1 ≤ b → b ≤ m → LiteralsWithin m (literalsIn (differenceClause hit (suc d) a b))
+difference-within : (m d a b : ℕ) (hit : Bool) → suc d ≤ m → 1 ≤ a → a ≤ m → 1 ≤ b → b ≤ m → LiteralsWithin m (clauseLiterals (differenceClause hit (suc d) a b))
 difference-within m d a b true h a₁ a₂ b₁ b₂ = (omega arith, (h, (a₁, (a₂, (b₁, (b₂, tt))))))
 difference-within m d a b false h a₁ a₂ b₁ b₂ = (omega arith, (h, tt))
 
@@ -178,7 +178,7 @@ variables-counted n gs = omega (arith, used-counted n gs)
 -- no clause has more than m literals
 abbrev Short : ℕ → List Clause → Type 0
 Short m [] = Unit {0}
-Short m (c ∷ cs) = (length (literalsIn c) ≤ m) × Short m cs
+Short m (c ∷ cs) = (length (clauseLiterals c) ≤ m) × Short m cs
 
 short-append : (m : ℕ) (xs ys : List Clause) → Short m xs → Short m ys → Short m (xs ++ ys)
 short-append m [] ys a b = b
@@ -223,7 +223,7 @@ unfolding differenceClauses
 short-differences m hit left right used [] h = tt
 short-differences m hit left right used (k ∷ ks) h = (one (hit k) (suc used) (left k) (right k) h, short-differences m hit left right (suc used) ks h)
   where
-    one : (b : Bool) (d x y : ℕ) → 3 ≤ m → length (literalsIn (differenceClause b d x y)) ≤ m
+    one : (b : Bool) (d x y : ℕ) → 3 ≤ m → length (clauseLiterals (differenceClause b d x y)) ≤ m
     one true d x y h = h
     one false d x y h = omega arith
 

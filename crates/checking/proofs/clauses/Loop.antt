@@ -29,16 +29,16 @@ use Rattle.checking.proofs.clauses.Tests.{or-false}
 use Rattle.checking.proofs.clauses.Forced.{length-upFrom}
 
 -- the words of a gate, as the code counts them
-pub sizes-few : (k : ℕ) → k < 2 → gateSizes k ≡ totals 1 1 (4 + k)
+pub sizes-few : (k : ℕ) → k < 2 → gateSizes k ≡ totals 1 1 (4 * 1 + k)
 sizes-few zero h = refl
 sizes-few (suc zero) h = refl
 sizes-few (suc (suc k)) h = absurd (omega arith)
 
-pub sizes-many : (k : ℕ) → 2 ≤ k → gateSizes k ≡ totals 2 (k + 2) (5 * k + 8)
+pub sizes-many : (k : ℕ) → 2 ≤ k → gateSizes k ≡ totals 2 (k + 2) (4 * (k + 2) + k)
 sizes-many zero h = absurd (omega arith)
 sizes-many (suc zero) h = absurd (omega arith)
 sizes-many (suc (suc k)) h =
-    let e : suc (suc k) + 3 + 4 * suc (suc k) + 5 ≡ 5 * suc (suc k) + 8 = omega arith in
+    let e : suc (suc k) + 3 + 4 * suc (suc k) + 5 ≡ 4 * (suc (suc k) + 2) + suc (suc k) = omega arith in
     ap (totals 2 (suc (suc k) + 2)) e
 
 -- a gate on at most 64 lines has at most 64 controls

@@ -114,7 +114,7 @@ module _ (n used : ℕ) (current : List ℕ) (g : Gate) (room : ℕ) (ready : Re
             count = is ∙ sym controls-known;
             few = ready .few;
             target = target-small;
-            enough = room-by (5 * k + 8) (ap (λ (t : Totals). t .words) (sizes-many k two));
+            enough = room-by (5 * k + 8) (ap (λ (t : Totals). t .words) (sizes-many k two) ∙ omega arith);
           }
 
       pub written-many : gateStored used current g ≡ manyStored current used target (g .positive) (g .negative) n
