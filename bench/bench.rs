@@ -7,6 +7,7 @@ mod plain;
 #[allow(dead_code)]
 #[path = "../tests/random.rs"]
 mod random;
+mod steps;
 
 use capi::{CountAnswer, RunAnswer};
 use random::Random;
@@ -145,9 +146,15 @@ fn median(mut numbers: Vec<f64>) -> f64 {
 
 /// Prints a row, and tells whether the ratio is within the limit. The sides take turns at being
 /// first in a round, and the ratio is the median of the rounds' ratios.
-fn compare(call: &str, work: &str, library: impl Fn() -> f64, plain: impl Fn() -> f64) -> bool {
+fn compare(
+    call: &str,
+    work: &str,
+    rounds: usize,
+    library: impl Fn() -> f64,
+    plain: impl Fn() -> f64,
+) -> bool {
     let (mut ours, mut theirs, mut ratios) = (Vec::new(), Vec::new(), Vec::new());
-    for round in 0..ROUNDS {
+    for round in 0..rounds {
         let (own, other) = if round % 2 == 0 {
             let own = library();
             (own, plain())
@@ -176,13 +183,14 @@ fn main() {
     for work in &works {
         let library = || time_run(work, library_run);
         let plain = || time_run(work, plain::run);
-        good &= compare("cascade_run", work.name, library, plain);
+        good &= compare("cascade_run", work.name, ROUNDS, library, plain);
     }
     for work in &works {
         let library = || time_inverse(work, library_inverse);
         let plain = || time_inverse(work, plain::inverse);
-        good &= compare("cascade_inverse", work.name, library, plain);
+        good &= compare("cascade_inverse", work.name, ROUNDS, library, plain);
     }
+    good &= steps::good();
     if !good {
         println!("bench: a ratio is above {LIMIT}");
         std::process::exit(1);
