@@ -144,15 +144,15 @@ fn median(mut numbers: Vec<f64>) -> f64 {
     numbers[numbers.len() / 2]
 }
 
-/// Prints a row, and tells whether the ratio is within the limit. The sides take turns at being
-/// first in a round, and the ratio is the median of the rounds' ratios.
+/// Prints a row and gives the ratio. The sides take turns at being first in a round, and the ratio is
+/// the median of the rounds' ratios.
 fn compare(
     call: &str,
     work: &str,
     rounds: usize,
     library: impl Fn() -> f64,
     plain: impl Fn() -> f64,
-) -> bool {
+) -> f64 {
     let (mut ours, mut theirs, mut ratios) = (Vec::new(), Vec::new(), Vec::new());
     for round in 0..rounds {
         let (own, other) = if round % 2 == 0 {
@@ -168,9 +168,8 @@ fn compare(
     }
     let ratio = median(ratios);
     let (ours, theirs) = (median(ours), median(theirs));
-    let verdict = if ratio > LIMIT { "  TOO SLOW" } else { "" };
-    println!("{call:<16} {work:<38} {ours:>9.1} {theirs:>9.1} {ratio:>6.2}{verdict}");
-    ratio <= LIMIT
+    println!("{call:<16} {work:<38} {ours:>9.1} {theirs:>9.1} {ratio:>6.2}");
+    ratio
 }
 
 fn main() {
@@ -179,21 +178,32 @@ fn main() {
     let head = ["call", "cascades", "ns", "plain ns", "ratio"];
     let [call, work, ours, theirs, ratio] = head;
     println!("{call:<16} {work:<38} {ours:>9} {theirs:>9} {ratio:>6}");
-    let mut good = true;
+    let mut highest: f64 = 0.0;
     for work in &works {
         let library = || time_run(work, library_run);
         let plain = || time_run(work, plain::run);
-        good &= compare("cascade_run", work.name, ROUNDS, library, plain);
+        highest = highest.max(compare("cascade_run", work.name, ROUNDS, library, plain));
     }
     for work in &works {
         let library = || time_inverse(work, library_inverse);
         let plain = || time_inverse(work, plain::inverse);
-        good &= compare("cascade_inverse", work.name, ROUNDS, library, plain);
+        highest = highest.max(compare(
+            "cascade_inverse",
+            work.name,
+            ROUNDS,
+            library,
+            plain,
+        ));
     }
-    good &= steps::good();
-    if !good {
-        println!("bench: a ratio is above {LIMIT}");
+    highest = highest.max(steps::highest());
+    println!("bench: the highest ratio is {highest:.2}, the limit {LIMIT}");
+    println!("\nagainst plain Rust with std::hint::select_unpredictable (not judged)");
+    for work in &works {
+        let library = || time_run(work, library_run);
+        let plain = || time_run(work, plain::run_hinted);
+        compare("cascade_run", work.name, ROUNDS, library, plain);
+    }
+    if highest > LIMIT {
         std::process::exit(1);
     }
-    println!("bench: no ratio is above {LIMIT}");
 }

@@ -126,35 +126,39 @@ fn time_miter(work: &Work, call: fn(u64, &[u64], u64, &[u64], &mut [u64]) -> Cou
     start.elapsed().as_nanos() as f64 / 16.0
 }
 
-/// Prints a row for each call and work, and tells whether all ratios are within the limit.
-pub fn good() -> bool {
-    let mut good = true;
+/// Prints a row for each call and work, and gives the highest ratio of a step and of a reduction. No
+/// ratio is asked of the miter, which tests B a second time.
+pub fn highest() -> f64 {
+    let mut highest: f64 = 0.0;
     for work in &works() {
         check_equal(work);
+        let (name, steps, reductions) = (work.name, 101, 31);
+        let (ours, theirs) = (library_step, plain::step);
+        let ratio = compare(
+            "cascade_step",
+            name,
+            steps,
+            || time(work, ours),
+            || time(work, theirs),
+        );
+        highest = highest.max(ratio);
+        let (ours, theirs) = (library_reduce, plain::reduce);
+        let ratio = compare(
+            "cascade_reduce",
+            name,
+            reductions,
+            || time(work, ours),
+            || time(work, theirs),
+        );
+        highest = highest.max(ratio);
         let (ours, theirs) = (library_miter, plain::miter);
-        good &= compare(
+        compare(
             "cascade_miter",
-            work.name,
-            101,
+            name,
+            steps,
             || time_miter(work, ours),
             || time_miter(work, theirs),
         );
-        let (ours, theirs) = (library_step, plain::step);
-        good &= compare(
-            "cascade_step",
-            work.name,
-            101,
-            || time(work, ours),
-            || time(work, theirs),
-        );
-        let (ours, theirs) = (library_reduce, plain::reduce);
-        good &= compare(
-            "cascade_reduce",
-            work.name,
-            31,
-            || time(work, ours),
-            || time(work, theirs),
-        );
     }
-    good
+    highest
 }
