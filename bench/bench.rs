@@ -7,6 +7,7 @@ mod plain;
 #[allow(dead_code)]
 #[path = "../tests/random.rs"]
 mod random;
+mod steps;
 
 use capi::{CountAnswer, RunAnswer, SizesAnswer};
 use random::Random;
@@ -162,9 +163,15 @@ fn median(mut numbers: Vec<f64>) -> f64 {
 
 /// Prints a row and gives the ratio. The sides take turns at being first in a round, and the ratio is
 /// the median of the rounds' ratios.
-fn compare(call: &str, work: &str, library: impl Fn() -> f64, plain: impl Fn() -> f64) -> f64 {
+fn compare(
+    call: &str,
+    work: &str,
+    rounds: usize,
+    library: impl Fn() -> f64,
+    plain: impl Fn() -> f64,
+) -> f64 {
     let (mut ours, mut theirs, mut ratios) = (Vec::new(), Vec::new(), Vec::new());
-    for round in 0..ROUNDS {
+    for round in 0..rounds {
         let (own, other) = if round % 2 == 0 {
             let own = library();
             (own, plain())
@@ -192,24 +199,31 @@ fn main() {
     for work in &works {
         let library = || time_run(work, library_run);
         let plain = || time_run(work, plain::run);
-        highest = highest.max(compare("cascade_run", work.name, library, plain));
+        highest = highest.max(compare("cascade_run", work.name, ROUNDS, library, plain));
     }
     for work in &works {
         let library = || time_inverse(work, library_inverse);
         let plain = || time_inverse(work, plain::inverse);
-        highest = highest.max(compare("cascade_inverse", work.name, library, plain));
+        highest = highest.max(compare(
+            "cascade_inverse",
+            work.name,
+            ROUNDS,
+            library,
+            plain,
+        ));
     }
     for work in &works {
         let library = || time_sizes(work, library_sizes);
         let plain = || time_sizes(work, plain::sizes);
         highest = highest.max(compare("cascade_sizes", work.name, library, plain));
     }
+    highest = highest.max(steps::highest());
     println!("bench: the highest ratio is {highest:.2}, the limit {LIMIT}");
     println!("\nagainst plain Rust with std::hint::select_unpredictable (not judged)");
     for work in &works {
         let library = || time_run(work, library_run);
         let plain = || time_run(work, plain::run_hinted);
-        compare("cascade_run", work.name, library, plain);
+        compare("cascade_run", work.name, ROUNDS, library, plain);
     }
     if highest > LIMIT {
         std::process::exit(1);

@@ -1,6 +1,6 @@
-//! Run, inverse and sizes in plain Rust, written for speed, with the same answers as the C interface.
+//! The calls in plain Rust, written for speed, with the same answers as the C interface.
 
-use crate::capi::{CountAnswer, RunAnswer, SizesAnswer};
+use crate::capi::{CountAnswer, ReduceAnswer, RunAnswer, SizesAnswer, StepAnswer};
 use std::hint::select_unpredictable;
 
 const LIMIT: usize = 1024;
@@ -163,5 +163,143 @@ pub fn sizes(n: u64, words: &[u64]) -> SizesAnswer {
         variables,
         clauses,
         words: total + 2 * u64::from(targeted.count_ones()),
+    }
+}
+
+/// The number and the place of the first of the tests 2, 11, 6, 7 that holds, or 0 and 0.
+#[inline(always)]
+fn refusal(n: u64, words: &[u64], limit: usize) -> (u64, u64) {
+    let number = shape_refusal(n, words, limit);
+    if number != 0 {
+        return (number, 0);
+    }
+    let lines_from_n = lines_from(n);
+    let gates: &[[u64; 3]] = words.as_chunks().0;
+    match gates
+        .iter()
+        .position(|gate| !is_gate(*gate, n, lines_from_n))
+    {
+        Some(index) => (7, index as u64),
+        None => (0, 0),
+    }
+}
+
+/// Tests both, then copies A and B's gates from the last to the first.
+#[inline(never)]
+pub fn miter(na: u64, a: &[u64], nb: u64, b: &[u64], out: &mut [u64]) -> CountAnswer {
+    let refused = |number, place| CountAnswer {
+        number,
+        place,
+        gates: 0,
+    };
+    for (n, words) in [(na, a), (nb, b)] {
+        let (number, place) = refusal(n, words, LIMIT);
+        if number != 0 {
+            return refused(number, place);
+        }
+    }
+    if na != nb {
+        return refused(8, 0);
+    }
+    let Some(out) = out.get_mut(..a.len() + b.len()) else {
+        return refused(10, 0);
+    };
+    let (first, second) = out.split_at_mut(a.len());
+    first.copy_from_slice(a);
+    let gates: &[[u64; 3]] = b.as_chunks().0;
+    for (to, from) in second.as_chunks_mut().0.iter_mut().rev().zip(gates) {
+        *to = *from;
+    }
+    CountAnswer {
+        number: 0,
+        place: 0,
+        gates: (out.len() / 3) as u64,
+    }
+}
+
+/// The first two gates that match, and the masks on which they differ.
+#[inline(always)]
+fn search(gates: &[[u64; 3]]) -> Option<(usize, usize, u64, u64)> {
+    for (i, &[positive, negative, target]) in gates.iter().enumerate() {
+        let lines = positive | negative;
+        let bit = 1u64.wrapping_shl(target as u32);
+        for (after, &[other_positive, other_negative, other]) in gates[i + 1..].iter().enumerate() {
+            if other == target {
+                let (p, q) = (positive ^ other_positive, negative ^ other_negative);
+                let differing = p | q;
+                if differing & differing.wrapping_sub(1) == 0 {
+                    return Some((i, i + 1 + after, p, q));
+                }
+            } else {
+                let other_lines = other_positive | other_negative;
+                if (other_lines & bit) | (lines & 1u64.wrapping_shl(other as u32)) != 0 {
+                    break;
+                }
+            }
+        }
+    }
+    None
+}
+
+/// One step on gates: the places, the kind and the gates left.
+#[inline(always)]
+fn step_gates(gates: &mut [[u64; 3]]) -> Option<(usize, usize, u64, usize)> {
+    let (i, j, p, q) = search(gates)?;
+    let ([gp, gn, _], [hp, hn, target]) = (gates[i], gates[j]);
+    gates.copy_within(i + 1..j, i);
+    let (kind, next) = if p | q == 0 {
+        (0, j - 1)
+    } else if p == q {
+        gates[j - 1] = [gp & hp, gn & hn, target];
+        (1, j)
+    } else {
+        gates[j - 1] = [gp & hp | q, gn & hn | p, target];
+        (2, j)
+    };
+    gates.copy_within(j + 1.., next);
+    let left = next + gates.len() - (j + 1);
+    gates[left..].fill([0; 3]);
+    Some((i, j, kind, left))
+}
+
+#[inline(never)]
+pub fn step(n: u64, words: &mut [u64]) -> StepAnswer {
+    let (number, place) = refusal(n, words, MITER_LIMIT);
+    let found = if number == 0 {
+        step_gates(words.as_chunks_mut().0)
+    } else {
+        None
+    };
+    let (i, j, kind, gates) = found.unwrap_or((0, 0, 0, 0));
+    StepAnswer {
+        number,
+        place,
+        found: found.is_some() as u64,
+        i: i as u64,
+        j: j as u64,
+        kind,
+        gates: gates as u64,
+    }
+}
+
+#[inline(never)]
+pub fn reduce(n: u64, words: &mut [u64]) -> ReduceAnswer {
+    let (number, place) = refusal(n, words, MITER_LIMIT);
+    let (mut left, mut pairs, mut merges) = (0, 0, 0);
+    if number == 0 {
+        let gates: &mut [[u64; 3]] = words.as_chunks_mut().0;
+        left = gates.len();
+        while let Some((_, _, kind, now)) = step_gates(&mut gates[..left]) {
+            left = now;
+            pairs += (kind == 0) as u64;
+            merges += (kind != 0) as u64;
+        }
+    }
+    ReduceAnswer {
+        number,
+        place,
+        gates: left as u64,
+        pairs,
+        merges,
     }
 }

@@ -167,15 +167,15 @@ fn search_gates(words: &[u64]) -> Search
     Search::Nothing
 }
 
-// Moves the words from `from` up to `until` down to `to`.
-fn move_down(words: &mut [u64], to: usize, from: usize, until: usize)
-    requires { ⌜ to ≤ from ⌝ }
-    requires { ⌜ from ≤ until ⌝ }
-    requires { ⌜ until ≤ length (now words) ⌝ }
-    ensures { λ _. ⌜ now (words .exit) ≡ over (take to (now (words .entry)) ++ take (until - from) (drop from (now (words .entry)))) (now (words .entry)) ⌝ }
+// Moves the words after the gate at `to` down to its place.
+fn move_down(words: &mut [u64], to: usize)
+    requires { ⌜ to + 3 ≤ length (now words) ⌝ }
+    ensures { λ _. ⌜ now (words .exit) ≡ over (take to (now (words .entry)) ++ drop (to + 3) (now (words .entry))) (now (words .entry)) ⌝ }
 {
+    let from = to + Gate::WORDS;
+    let count = words.len() - from;
     let mut k = 0;
-    while k < until - from {
+    while k < count {
         words[to + k] = words[from + k];
         k += 1;
     }
@@ -193,15 +193,13 @@ fn clear_from(words: &mut [u64], at: usize)
     }
 }
 
-// Moves the words from `from` on down to `to`, and sets those that this frees at the end to 0.
-fn close_gap(words: &mut [u64], to: usize, from: usize)
-    requires { ⌜ to ≤ from ⌝ }
-    requires { ⌜ from ≤ length (now words) ⌝ }
-    ensures { λ _. ⌜ now (words .exit) ≡ (take to (now (words .entry)) ++ drop from (now (words .entry))) ++ replicate (from - to) 0 ⌝ }
+// Takes the gate at `at` out: the words after it move down, and the three that this frees at the end become 0.
+fn take_out(words: &mut [u64], at: usize)
+    requires { ⌜ at + 3 ≤ length (now words) ⌝ }
+    ensures { λ _. ⌜ now (words .exit) ≡ (take at (now (words .entry)) ++ drop (at + 3) (now (words .entry))) ++ replicate 3 0 ⌝ }
 {
-    let until = words.len();
-    move_down(words, to, from, until);
-    clear_from(words, to + (until - from));
+    move_down(words, at);
+    clear_from(words, words.len() - Gate::WORDS);
 }
 
 // Gates i and j go.
@@ -211,31 +209,20 @@ fn remove_pair(words: &mut [u64], i: usize, j: usize)
     requires { ⌜ length (now words) % 3 ≡ 0 ⌝ }
     ensures { λ _. ⌜ now (words .exit) ≡ filled (replaced i j [] (gatesOf (now (words .entry)))) (length (now (words .entry))) ⌝ }
 {
-    move_down(
-        words,
-        Gate::WORDS * i,
-        Gate::WORDS * (i + 1),
-        Gate::WORDS * j,
-    );
-    close_gap(words, Gate::WORDS * (j - 1), Gate::WORDS * (j + 1));
+    take_out(words, Gate::WORDS * j);
+    take_out(words, Gate::WORDS * i);
 }
 
-// Gate i goes, and r takes place j.
+// Place j takes r, and gate i goes.
 fn merge_pair(words: &mut [u64], i: usize, j: usize, r: Gate)
     requires { ⌜ i < j ⌝ }
     requires { ⌜ j < length (now words) / 3 ⌝ }
     requires { ⌜ length (now words) % 3 ≡ 0 ⌝ }
     ensures { λ _. ⌜ now (words .exit) ≡ filled (replaced i j (r ∷ []) (gatesOf (now (words .entry)))) (length (now (words .entry))) ⌝ }
 {
-    move_down(
-        words,
-        Gate::WORDS * i,
-        Gate::WORDS * (i + 1),
-        Gate::WORDS * j,
-    );
-    let at = Gate::WORDS * (j - 1);
+    let at = Gate::WORDS * j;
     circuit::words::put_gate(&mut words[at..], r);
-    close_gap(words, Gate::WORDS * j, Gate::WORDS * (j + 1));
+    take_out(words, Gate::WORDS * i);
 }
 
 // Makes a step on the words of gates.

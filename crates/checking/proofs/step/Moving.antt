@@ -5,11 +5,11 @@ use Prim.Native.Nat.{ℕ, zero, suc, _+_, _-_, _*_, _/_, _%_, _≤_, _<_}
 use native.Mathlib.Numerals.{add-one}
 use native.Mathlib.Omega.{arith}
 use lib.ListN.{length, take, drop, getD, set, replicate, length-append, length-drop, length-replicate, take-append-drop, replicate-append-replicate}
-use lib.Seq.{take-suc, drop-length, drop-drop, take-at, drop-append-add, getD-append-add, getD-drop, length-take-le}
+use lib.Seq.{take-suc, take-add, take-take, take-append-le, drop-length, drop-drop, drop-append-le, take-at, drop-at, getD-append-add, getD-drop, length-take-le}
 use Rattle.bits.specs.Lists.{over}
 use Rattle.bits.proofs.Lists.{over-push, over-length, rest-lent}
 use Rattle.circuit.specs.declared.gate.Gate.{Gate}
-use Rattle.circuit.specs.Words.{gatesOf, wordsOf}
+use Rattle.circuit.specs.Words.{gatesOf, wordsOf, gateWords}
 use Rattle.circuit.proofs.words.Laws.{gates-length, words-gates, words-append, words-length}
 use Rattle.checking.specs.Step.{between, replaced, filled}
 
@@ -87,19 +87,23 @@ cleared-all ws at k h e =
     ∙ ap (λ (x : List ℕ). cleared ws at (length ws) ++ x) (drop-length ws)
     ∙ append-nil (cleared ws at (length ws))
 
--- the words from `from` on moved down to `to`, and zeros after them
-pub gap-closed : (ws mid last : List ℕ) (to from : ℕ) → to ≤ from → from ≤ length ws → mid ≡ over (moved ws to from (length ws - from)) ws
-    → last ≡ take (to + (length ws - from)) mid ++ replicate (length mid - (to + (length ws - from))) 0
-    → last ≡ (take to ws ++ drop from ws) ++ replicate (from - to) 0
-gap-closed ws mid last to from h l e f =
-    let at : ℕ = to + (length ws - from) in
-    let n : length (moved ws to from (length ws - from)) ≡ at = moved-length ws to from (length ws - from) (omega arith) (omega arith) in
-    let m : length mid ≡ length ws = ap length e ∙ over-length (moved ws to from (length ws - from)) ws (omega arith) in
-    let z : length mid - at ≡ from - to = omega arith in
+-- all words after a gate moved down
+pub moved-all : (ws : List ℕ) (at k : ℕ) → k ≡ length ws - (at + 3) → over (moved ws at (at + 3) k) ws ≡ over (take at ws ++ drop (at + 3) ws) ws
+moved-all ws at k e = ap (λ (l : List ℕ). over (take at ws ++ l) ws) (ap (λ (n : ℕ). take n (drop (at + 3) ws)) e ∙ rest-lent ws (at + 3))
+
+-- a gate taken out: the words after it moved down, and zeros after them
+pub taken-out : (ws mid last : List ℕ) (at : ℕ) → at + 3 ≤ length ws → mid ≡ over (take at ws ++ drop (at + 3) ws) ws
+    → last ≡ take (length mid - 3) mid ++ replicate (length mid - (length mid - 3)) 0
+    → last ≡ (take at ws ++ drop (at + 3) ws) ++ replicate 3 0
+taken-out ws mid last at h e f =
+    let front : List ℕ = take at ws ++ drop (at + 3) ws in
+    let n : length front ≡ length ws - 3 =
+    length-append (take at ws) _ ∙ ap₂ (λ (x y : ℕ). x + y) (length-take-le at ws (omega arith)) (length-drop (at + 3) ws) ∙ omega arith in
+    let m : length mid ≡ length ws = ap length e ∙ over-length front ws (omega arith) in
+    let z : length mid - (length mid - 3) ≡ 3 = omega arith in
+    let k : length front ≡ length mid - 3 = omega arith in
     f
-    ∙ ap₂ (λ (x : List ℕ) (k : ℕ). take at x ++ replicate k 0) e z
-    ∙ ap (λ (x : List ℕ). x ++ replicate (from - to) 0)
-    (take-at (moved ws to from (length ws - from)) _ at n ∙ ap (λ (x : List ℕ). take to ws ++ x) (rest-lent ws from))
+    ∙ ap₂ (λ (x : List ℕ) (c : ℕ). x ++ replicate c 0) (ap (take (length mid - 3)) e ∙ take-at front _ (length mid - 3) k) z
 
 -- ---- a step's words
 
@@ -120,17 +124,11 @@ words-drop (suc i) (g ∷ gs) =
     let e : suc (suc (suc (3 * i))) ≡ 3 * suc i = omega arith in
     words-drop i gs ∙ ap (λ (n : ℕ). drop n (g .positive ∷ g .negative ∷ g .target ∷ wordsOf gs)) e
 
--- what was pushed to the front, and the words behind it
-pub pushed : (front ws w : List ℕ) (to from : ℕ) → length front ≡ to → to ≤ from → w ≡ over front ws → take to w ++ drop from w ≡ front ++ drop from ws
-pushed front ws w to from e h f =
-    let n : ℕ = length front in
-    let d : n + (from - n) ≡ from = omega arith in
-    ap (λ (x : List ℕ). take to x ++ drop from x) f
-    ∙ ap₂ (λ (x y : List ℕ). x ++ y) (take-at front (drop n ws) to e)
-    (ap (λ (k : ℕ). drop k (over front ws)) (sym d)
-    ∙ drop-append-add front (drop n ws) (from - n)
-    ∙ drop-drop (from - n) n ws
-    ∙ ap (λ (k : ℕ). drop k ws) d)
+-- what is left of a part's start
+pub drop-take : (n j : ℕ) (l : List ℕ) → n ≤ j → j ≤ length l → drop n (take j l) ≡ take (j - n) (drop n l)
+drop-take n j l h k =
+    let e : n + (j - n) ≡ j = omega arith in
+    ap (drop n) (ap (λ (m : ℕ). take m l) (sym e) ∙ take-add n (j - n) l) ∙ drop-at (take n l) _ n (length-take-le n l (omega arith))
 
 pub replaced-length : (i j : ℕ) (rest gs : List Gate) → i < j → j < length gs → length (replaced i j rest gs) + 2 ≡ length gs + length rest
 unfolding replaced
@@ -147,9 +145,6 @@ module _ (ws : List ℕ) (i j : ℕ) (rest : List Gate) (order : i < j) (inside 
   -- the words of the gates before j but gate i
   abbrev pub before : List ℕ
   before = moved ws (3 * i) (3 * (i + 1)) (3 * j - 3 * (i + 1))
-
-  pub before-length : length before ≡ 3 * (j - 1)
-  before-length = moved-length ws (3 * i) (3 * (i + 1)) (3 * j - 3 * (i + 1)) (omega arith) (omega arith) ∙ omega arith
 
   words-replaced : wordsOf (replaced i j rest (gatesOf ws)) ≡ (before ++ wordsOf rest) ++ drop (3 * (j + 1)) ws
   unfolding replaced
@@ -169,18 +164,59 @@ module _ (ws : List ℕ) (i j : ℕ) (rest : List Gate) (order : i < j) (inside 
       ∙ sym (append-assoc before (wordsOf rest) _
       ∙ append-assoc (take (3 * i) ws) _ _)
 
+  -- gate i taken out of words that are unchanged before place j
+  out-first : (mid new : List ℕ) → mid ≡ take (3 * j) ws ++ new → take (3 * i) mid ++ drop (3 * i + 3) mid ≡ before ++ new
+  out-first mid new e =
+      let l : length (take (3 * j) ws) ≡ 3 * j = length-take-le (3 * j) ws (omega arith) in
+      let n : 3 * i + 3 ≡ 3 * (i + 1) = omega arith in
+      ap (λ (x : List ℕ). take (3 * i) x ++ drop (3 * i + 3) x) e
+      ∙ ap₂ (λ (x y : List ℕ). x ++ y)
+      (take-append-le (3 * i) (take (3 * j) ws) new (omega arith) ∙ take-take (3 * i) (3 * j) ws (omega arith))
+      (ap (λ (k : ℕ). drop k (take (3 * j) ws ++ new)) n
+      ∙ drop-append-le (3 * (i + 1)) (take (3 * j) ws) new (omega arith)
+      ∙ ap (λ (x : List ℕ). x ++ new) (drop-take (3 * (i + 1)) (3 * j) ws (omega arith) (omega arith)))
+      ∙ sym (append-assoc (take (3 * i) ws) _ new)
+
   -- the words after a step
-  pub step-filled : (mid last : List ℕ) (to : ℕ) → to ≡ 3 * (j - 1) + 3 * length rest → to ≤ 3 * (j + 1) → mid ≡ over (before ++ wordsOf rest) ws
-      → last ≡ (take to mid ++ drop (3 * (j + 1)) mid) ++ replicate (3 * (j + 1) - to) 0
-      → last ≡ filled (replaced i j rest (gatesOf ws)) (length ws)
+  filled-is : (zeros : ℕ) → zeros + 3 * length rest ≡ 6 → filled (replaced i j rest (gatesOf ws)) (length ws) ≡ ((before ++ wordsOf rest) ++ drop (3 * (j + 1)) ws) ++ replicate zeros 0
   unfolding filled
-  step-filled mid last to t h e f =
-      let n : length (before ++ wordsOf rest) ≡ to = length-append before (wordsOf rest) ∙ ap₂ (λ (x y : ℕ). x + y) before-length (words-length rest) ∙ sym t in
+  filled-is zeros h =
       let g = gates-length ws in
       let r = replaced-length i j rest (gatesOf ws) order (omega arith) in
-      let z : 3 * (j + 1) - to ≡ length ws - 3 * length (replaced i j rest (gatesOf ws)) = omega arith in
-      f
-      ∙ ap₂ (λ (x : List ℕ) (k : ℕ). x ++ replicate k 0) (pushed (before ++ wordsOf rest) ws mid to (3 * (j + 1)) n h e ∙ sym words-replaced) z
+      let z : length ws - 3 * length (replaced i j rest (gatesOf ws)) ≡ zeros = omega arith in
+      ap₂ (λ (x : List ℕ) (k : ℕ). x ++ replicate k 0) words-replaced z
+
+-- both gates taken out
+pub pair-removed : (ws mid last : List ℕ) (i j : ℕ) → i < j → j < length ws / 3 → length ws % 3 ≡ 0
+    → mid ≡ (take (3 * j) ws ++ drop (3 * j + 3) ws) ++ replicate 3 0 → last ≡ (take (3 * i) mid ++ drop (3 * i + 3) mid) ++ replicate 3 0
+    → last ≡ filled (replaced i j [] (gatesOf ws)) (length ws)
+unfolding wordsOf
+pair-removed ws mid last i j o h w e f =
+    let n : 3 * j + 3 ≡ 3 * (j + 1) = omega arith in
+    let d : List ℕ = drop (3 * (j + 1)) ws in
+    let b : List ℕ = before ws i j [] o h w in
+    f
+    ∙ ap (λ (x : List ℕ). x ++ replicate 3 0)
+    (out-first ws i j [] o h w mid (d ++ replicate 3 0) (e ∙ append-assoc (take (3 * j) ws) _ _ ∙ ap (λ (k : ℕ). take (3 * j) ws ++ (drop k ws ++ replicate 3 0)) n)
+    ∙ sym (append-assoc b d (replicate 3 0)))
+    ∙ append-assoc (b ++ d) (replicate 3 0) (replicate 3 0)
+    ∙ ap (λ (x : List ℕ). (x ++ d) ++ replicate 6 0) (sym (append-nil b))
+    ∙ sym (filled-is ws i j [] o h w 6 refl)
+
+-- place j taken by the gate that remains, and gate i taken out
+pub pair-merged : (ws mid last : List ℕ) (i j : ℕ) (r : Gate) → i < j → j < length ws / 3 → length ws % 3 ≡ 0
+    → mid ≡ take (3 * j) ws ++ over (gateWords r) (drop (3 * j) ws) → last ≡ (take (3 * i) mid ++ drop (3 * i + 3) mid) ++ replicate 3 0
+    → last ≡ filled (replaced i j (r ∷ []) (gatesOf ws)) (length ws)
+unfolding wordsOf
+pair-merged ws mid last i j r o h w e f =
+    let n : 3 * j + 3 ≡ 3 * (j + 1) = omega arith in
+    let d : List ℕ = drop (3 * (j + 1)) ws in
+    let b : List ℕ = before ws i j (r ∷ []) o h w in
+    let g : over (gateWords r) (drop (3 * j) ws) ≡ gateWords r ++ d = ap (λ (x : List ℕ). gateWords r ++ x) (drop-drop 3 (3 * j) ws ∙ ap (λ (k : ℕ). drop k ws) n) in
+    f
+    ∙ ap (λ (x : List ℕ). x ++ replicate 3 0)
+    (out-first ws i j (r ∷ []) o h w mid (gateWords r ++ d) (e ∙ ap (λ (x : List ℕ). take (3 * j) ws ++ x) g) ∙ sym (append-assoc b (gateWords r) d))
+    ∙ sym (filled-is ws i j (r ∷ []) o h w 3 refl)
 
 pub filled-length : (gs : List Gate) (room : ℕ) → 3 * length gs ≤ room → length (filled gs room) ≡ room
 unfolding filled
