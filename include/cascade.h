@@ -9,8 +9,9 @@
  * buffer. A served call puts its answer at the start of its buffer and leaves the rest.
  *
  *    2  the line count is outside 1 to 64
- *    6  more gates than the limit, 1,024
+ *    6  more gates than the limit: 1,024; for step, reduction and sizes 2,048
  *    7  words that form no gate on these lines; the place is the gate's index
+ *    8  two line counts that differ
  *    9  a state with a bit above the lines
  *   10  the buffer is shorter than the answer
  *   11  the number of words is no multiple of three
@@ -18,8 +19,8 @@
  * Lengths count elements. A pointer is aligned and not null, for a length of 0 too. Buffers that
  * overlap are outside the contract.
  *
- * Three zero words are a gate: NOT on line 0. So a caller passes on just the gates that an answer
- * counts, and no words behind them.
+ * A step and a reduction set freed words to 0. Three zero words are a gate: NOT on line 0. So a
+ * caller passes on just the gates that an answer counts, and no words behind them.
  */
 #ifndef CASCADE_H
 #define CASCADE_H
@@ -44,6 +45,33 @@ struct cascade_run_answer cascade_run(uint64_t lines, const uint64_t *words, siz
 
 /* The inverse of a cascade: its gates in reverse order. Refused with 2, 11, 6, 7, 10. */
 struct cascade_count_answer cascade_inverse(uint64_t lines, const uint64_t *words, size_t words_len, uint64_t *out, size_t out_len);
+
+/* The miter of two cascades: the first's gates, then the second's in reverse order. Refused with
+ * 2, 11, 6, 7 of the first, the same of the second, 8, 10. */
+struct cascade_count_answer cascade_miter(uint64_t a_lines, const uint64_t *a, size_t a_len, uint64_t b_lines, const uint64_t *b, size_t b_len, uint64_t *out, size_t out_len);
+
+/* found is 1 where two gates match: i and j, the kind (0 pair, 1 drop, 2 turn) and the number of
+ * gates that then stand; 0 where none do. */
+struct cascade_step_answer {
+    uint64_t number, place, found, i, j, kind, gates;
+};
+
+struct cascade_reduce_answer {
+    uint64_t number, place, gates, pairs, merges;
+};
+
+/* One reduction step, in place. Refused with 2, 11, 6, 7. */
+struct cascade_step_answer cascade_step(uint64_t lines, uint64_t *words, size_t words_len);
+
+/* Steps until none, in place: the gates left, the pairs and the merges. Refused with 2, 11, 6, 7. */
+struct cascade_reduce_answer cascade_reduce(uint64_t lines, uint64_t *words, size_t words_len);
+
+struct cascade_sizes_answer {
+    uint64_t number, place, variables, clauses, words;
+};
+
+/* The sizes of the clause list of a cascade. Refused with 2, 11, 6, 7. */
+struct cascade_sizes_answer cascade_sizes(uint64_t lines, const uint64_t *words, size_t words_len);
 
 #ifdef __cplusplus
 }

@@ -15,7 +15,7 @@ static void expect(const char *row, uint64_t got, uint64_t right)
 int main(void)
 {
     const uint64_t toffoli[3] = {3, 0, 2};
-    const uint64_t two[6] = {1, 0, 1, 0, 0, 0};
+    uint64_t two[6] = {1, 0, 1, 0, 0, 0};
     uint64_t out[7] = {9, 9, 9, 9, 9, 9, 9};
     struct cascade_run_answer run = cascade_run(3, toffoli, 3, 3);
     expect("run number", run.number, 0);
@@ -32,5 +32,19 @@ int main(void)
     expect("inverse rest", out[6], 9);
     inverse = cascade_inverse(2, two, 6, out, 5);
     expect("inverse without room", inverse.number, 10);
+    uint64_t miter[6] = {0};
+    struct cascade_count_answer made = cascade_miter(3, toffoli, 3, 3, toffoli, 3, miter, 6);
+    expect("miter gates", made.gates, 2);
+    struct cascade_sizes_answer sizes = cascade_sizes(3, toffoli, 3);
+    expect("sizes variables", sizes.variables, 8);
+    expect("sizes clauses", sizes.clauses, 8);
+    expect("sizes words", sizes.words, 34);
+    struct cascade_step_answer step = cascade_step(3, miter, 6);
+    expect("step found", step.found, 1);
+    expect("step j", step.j, 1);
+    expect("step gates", step.gates, 0);
+    struct cascade_reduce_answer reduce = cascade_reduce(2, two, 6);
+    expect("reduce gates", reduce.gates, 2);
+    expect("reduce pairs", reduce.pairs, 0);
     return failed;
 }
