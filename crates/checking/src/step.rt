@@ -4,14 +4,16 @@ use circuit::gate::Gate;
 use circuit::refusal::Refusal;
 use circuit::words::CountAnswer;
 ghost use mathlib.Core.Path.{_≡_};
-ghost use Prim.Native.Nat.{_+_, _-_, _*_, _/_, _%_, _<_, _≤_};
+ghost use mathlib.Core.Bool.{true};
+ghost use Prim.Native.Nat.{_+_, _-_, _*_, _/_, _%_, _^_, _<_, _≤_};
 ghost use lib.Dec.{eqb};
 ghost use lib.Count.{ones};
 ghost use lib.ListN.{length, take, drop, replicate};
 ghost use mathlib.Core.List.{[], _∷_, _++_};
 ghost use Rattle.bits.specs.Lists.{over};
 ghost use Rattle.circuit.specs.Outcome.{Yields};
-ghost use Rattle.circuit.specs.Words.{gatesOf, gateAt};
+ghost use Rattle.circuit.specs.Gate.{maxLines};
+ghost use Rattle.circuit.specs.Words.{gatesOf, gateAt, allValid};
 ghost use Rattle.checking.specs.Step.{mayPass, matchOf, scanFrom, searchFrom, replaced, filled, stepGates, counted, stepWords, stepOutcome, stepBuffer, ofStepped, ofStep};
 
 // Which match it was (01: pair, drop, turn).
@@ -79,18 +81,25 @@ fn single(mask: u64) -> bool
     (mask & (mask - 1)) == 0
 }
 
+// The mask of line k alone.
+fn line(k: u64) -> u64
+    requires { ⌜ k < maxLines ⌝ }
+    ensures { λ r. ⌜ r ≡ 2 ^ k ⌝ }
+{
+    1 << k
+}
+
 // Whether two gates may pass each other: neither's target is a control of the other.
-pub fn may_pass(g: Gate, h: Gate) -> bool
+fn may_pass(g: Gate, h: Gate) -> bool
+    requires { ⌜ g .target < maxLines ⌝ }
+    requires { ⌜ h .target < maxLines ⌝ }
     ensures { λ r. ⌜ r ≡ mayPass g h ⌝ }
 {
     let g_lines = g.positive | g.negative;
     let g_target = g.target;
     let h_lines = h.positive | h.negative;
     let h_target = h.target;
-    if !circuit::gate::clear(h_lines, g_target) {
-        return false;
-    }
-    circuit::gate::clear(g_lines, h_target)
+    ((h_lines & line(g_target)) | (g_lines & line(h_target))) == 0
 }
 
 // Whether and how two gates match.
@@ -131,6 +140,7 @@ pub fn match_gates(g: Gate, h: Gate) -> Verdict
 // The first gate after gate i that it matches, where it may pass those between.
 fn scan_after(words: &[u64], i: usize) -> Scan
     requires { ⌜ i < length (now words) / 3 ⌝ }
+    requires { ⌜ allValid maxLines (gatesOf (now words)) ≡ true ⌝ }
     ensures { λ r. ⌜ r ≡ scanFrom (i + 1) (gateAt (now (words .entry)) i) (gatesOf (drop (3 * (i + 1)) (now (words .entry)))) ⌝ }
 {
     let gates = words.len() / Gate::WORDS;
@@ -153,6 +163,7 @@ fn scan_after(words: &[u64], i: usize) -> Scan
 
 // The lowest i, then the lowest j above it, of two gates that match.
 fn search_gates(words: &[u64]) -> Search
+    requires { ⌜ allValid maxLines (gatesOf (now words)) ≡ true ⌝ }
     ensures { λ r. ⌜ r ≡ searchFrom 0 (gatesOf (now (words .entry))) ⌝ }
 {
     let gates = words.len() / Gate::WORDS;
@@ -228,6 +239,7 @@ fn merge_pair(words: &mut [u64], i: usize, j: usize, r: Gate)
 // Makes a step on the words of gates.
 pub(crate) fn step_gates(words: &mut [u64]) -> Stepped
     requires { ⌜ length (now words) % 3 ≡ 0 ⌝ }
+    requires { ⌜ allValid maxLines (gatesOf (now words)) ≡ true ⌝ }
     ensures { λ r. ⌜ Yields (ofStepped r) (now (words .exit)) (counted (stepGates (gatesOf (now (words .entry))))) (stepWords (stepGates (gatesOf (now (words .entry)))) (now (words .entry))) ⌝ }
 {
     let gates = words.len() / Gate::WORDS;
