@@ -178,13 +178,14 @@ fn search_gates(words: &[u64]) -> Search
     Search::Nothing
 }
 
-// Moves the words after the gate at `to` down to its place.
-fn move_down(words: &mut [u64], to: usize)
-    requires { ⌜ to + 3 ≤ length (now words) ⌝ }
-    ensures { λ _. ⌜ now (words .exit) ≡ over (take to (now (words .entry)) ++ drop (to + 3) (now (words .entry))) (now (words .entry)) ⌝ }
+// Moves the words from `to + gap` up to `until` down to `to`.
+fn move_down(words: &mut [u64], to: usize, gap: usize, until: usize)
+    requires { ⌜ to + gap ≤ until ⌝ }
+    requires { ⌜ until ≤ length (now words) ⌝ }
+    ensures { λ _. ⌜ now (words .exit) ≡ over (take to (now (words .entry)) ++ take (until - (to + gap)) (drop (to + gap) (now (words .entry)))) (now (words .entry)) ⌝ }
 {
-    let from = to + Gate::WORDS;
-    let count = words.len() - from;
+    let from = to + gap;
+    let count = until - from;
     let mut k = 0;
     while k < count {
         words[to + k] = words[from + k];
@@ -204,13 +205,14 @@ fn clear_from(words: &mut [u64], at: usize)
     }
 }
 
-// Takes the gate at `at` out: the words after it move down, and the three that this frees at the end become 0.
-fn take_out(words: &mut [u64], at: usize)
-    requires { ⌜ at + 3 ≤ length (now words) ⌝ }
-    ensures { λ _. ⌜ now (words .exit) ≡ (take at (now (words .entry)) ++ drop (at + 3) (now (words .entry))) ++ replicate 3 0 ⌝ }
+// Moves the words from `to + gap` on down to `to`; those that this frees at the end become 0.
+fn close_gap(words: &mut [u64], to: usize, gap: usize)
+    requires { ⌜ to + gap ≤ length (now words) ⌝ }
+    ensures { λ _. ⌜ now (words .exit) ≡ (take to (now (words .entry)) ++ drop (to + gap) (now (words .entry))) ++ replicate gap 0 ⌝ }
 {
-    move_down(words, at);
-    clear_from(words, words.len() - Gate::WORDS);
+    let until = words.len();
+    move_down(words, to, gap, until);
+    clear_from(words, until - gap);
 }
 
 // Gates i and j go.
@@ -220,8 +222,8 @@ fn remove_pair(words: &mut [u64], i: usize, j: usize)
     requires { ⌜ length (now words) % 3 ≡ 0 ⌝ }
     ensures { λ _. ⌜ now (words .exit) ≡ filled (replaced i j [] (gatesOf (now (words .entry)))) (length (now (words .entry))) ⌝ }
 {
-    take_out(words, Gate::WORDS * j);
-    take_out(words, Gate::WORDS * i);
+    move_down(words, Gate::WORDS * i, Gate::WORDS, Gate::WORDS * j);
+    close_gap(words, Gate::WORDS * (j - 1), 2 * Gate::WORDS);
 }
 
 // Place j takes r, and gate i goes.
@@ -233,7 +235,7 @@ fn merge_pair(words: &mut [u64], i: usize, j: usize, r: Gate)
 {
     let at = Gate::WORDS * j;
     circuit::words::put_gate(&mut words[at..], r);
-    take_out(words, Gate::WORDS * i);
+    close_gap(words, Gate::WORDS * i, Gate::WORDS);
 }
 
 // Makes a step on the words of gates.
