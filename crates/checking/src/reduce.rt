@@ -6,10 +6,12 @@ use circuit::gate::Gate;
 use circuit::refusal::Refusal;
 use circuit::words::CountAnswer;
 ghost use mathlib.Core.Path.{_≡_};
+ghost use mathlib.Core.Bool.{true};
 ghost use Prim.Native.Nat.{_%_};
 ghost use lib.ListN.{length};
 ghost use Rattle.circuit.specs.Outcome.{Yields};
-ghost use Rattle.circuit.specs.Words.{gatesOf};
+ghost use Rattle.circuit.specs.Gate.{maxLines};
+ghost use Rattle.circuit.specs.Words.{gatesOf, allValid};
 ghost use Rattle.checking.specs.Step.{filled};
 ghost use Rattle.checking.specs.Reduce.{reduceGates, numbered, reduceOutcome, reduceBuffer, ofReduction, ofReduce};
 
@@ -33,6 +35,7 @@ pub enum ReduceAnswer {
 // Makes steps on the words of gates until there is none.
 fn reduce_gates(words: &mut [u64]) -> Reduction
     requires { ⌜ length (now words) % 3 ≡ 0 ⌝ }
+    requires { ⌜ allValid maxLines (gatesOf (now words)) ≡ true ⌝ }
     ensures { λ r. ⌜ Yields (ofReduction r) (now (words .exit)) (numbered (reduceGates (gatesOf (now (words .entry))))) (filled (reduceGates (gatesOf (now (words .entry))) .left) (length (now (words .entry)))) ⌝ }
 {
     let mut gates = words.len() / Gate::WORDS;

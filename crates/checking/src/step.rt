@@ -4,14 +4,16 @@ use circuit::gate::Gate;
 use circuit::refusal::Refusal;
 use circuit::words::CountAnswer;
 ghost use mathlib.Core.Path.{_≡_};
-ghost use Prim.Native.Nat.{_+_, _-_, _*_, _/_, _%_, _<_, _≤_};
+ghost use mathlib.Core.Bool.{true};
+ghost use Prim.Native.Nat.{_+_, _-_, _*_, _/_, _%_, _^_, _<_, _≤_};
 ghost use lib.Dec.{eqb};
 ghost use lib.Count.{ones};
 ghost use lib.ListN.{length, take, drop, replicate};
 ghost use mathlib.Core.List.{[], _∷_, _++_};
 ghost use Rattle.bits.specs.Lists.{over};
 ghost use Rattle.circuit.specs.Outcome.{Yields};
-ghost use Rattle.circuit.specs.Words.{gatesOf, gateAt};
+ghost use Rattle.circuit.specs.Gate.{maxLines};
+ghost use Rattle.circuit.specs.Words.{gatesOf, gateAt, allValid};
 ghost use Rattle.checking.specs.Step.{mayPass, matchOf, scanFrom, searchFrom, replaced, filled, stepGates, counted, stepWords, stepOutcome, stepBuffer, ofStepped, ofStep};
 
 // Which match it was (01: pair, drop, turn).
@@ -79,18 +81,25 @@ fn single(mask: u64) -> bool
     (mask & (mask - 1)) == 0
 }
 
+// The mask of line k alone.
+fn line(k: u64) -> u64
+    requires { ⌜ k < maxLines ⌝ }
+    ensures { λ r. ⌜ r ≡ 2 ^ k ⌝ }
+{
+    1 << k
+}
+
 // Whether two gates may pass each other: neither's target is a control of the other.
-pub fn may_pass(g: Gate, h: Gate) -> bool
+fn may_pass(g: Gate, h: Gate) -> bool
+    requires { ⌜ g .target < maxLines ⌝ }
+    requires { ⌜ h .target < maxLines ⌝ }
     ensures { λ r. ⌜ r ≡ mayPass g h ⌝ }
 {
     let g_lines = g.positive | g.negative;
     let g_target = g.target;
     let h_lines = h.positive | h.negative;
     let h_target = h.target;
-    if !circuit::gate::clear(h_lines, g_target) {
-        return false;
-    }
-    circuit::gate::clear(g_lines, h_target)
+    ((h_lines & line(g_target)) | (g_lines & line(h_target))) == 0
 }
 
 // Whether and how two gates match.
@@ -131,6 +140,7 @@ pub fn match_gates(g: Gate, h: Gate) -> Verdict
 // The first gate after gate i that it matches, where it may pass those between.
 fn scan_after(words: &[u64], i: usize) -> Scan
     requires { ⌜ i < length (now words) / 3 ⌝ }
+    requires { ⌜ allValid maxLines (gatesOf (now words)) ≡ true ⌝ }
     ensures { λ r. ⌜ r ≡ scanFrom (i + 1) (gateAt (now (words .entry)) i) (gatesOf (drop (3 * (i + 1)) (now (words .entry)))) ⌝ }
 {
     let gates = words.len() / Gate::WORDS;
@@ -153,6 +163,7 @@ fn scan_after(words: &[u64], i: usize) -> Scan
 
 // The lowest i, then the lowest j above it, of two gates that match.
 fn search_gates(words: &[u64]) -> Search
+    requires { ⌜ allValid maxLines (gatesOf (now words)) ≡ true ⌝ }
     ensures { λ r. ⌜ r ≡ searchFrom 0 (gatesOf (now (words .entry))) ⌝ }
 {
     let gates = words.len() / Gate::WORDS;
@@ -167,13 +178,14 @@ fn search_gates(words: &[u64]) -> Search
     Search::Nothing
 }
 
-// Moves the words after the gate at `to` down to its place.
-fn move_down(words: &mut [u64], to: usize)
-    requires { ⌜ to + 3 ≤ length (now words) ⌝ }
-    ensures { λ _. ⌜ now (words .exit) ≡ over (take to (now (words .entry)) ++ drop (to + 3) (now (words .entry))) (now (words .entry)) ⌝ }
+// Moves the words from `to + gap` up to `until` down to `to`.
+fn move_down(words: &mut [u64], to: usize, gap: usize, until: usize)
+    requires { ⌜ to + gap ≤ until ⌝ }
+    requires { ⌜ until ≤ length (now words) ⌝ }
+    ensures { λ _. ⌜ now (words .exit) ≡ over (take to (now (words .entry)) ++ take (until - (to + gap)) (drop (to + gap) (now (words .entry)))) (now (words .entry)) ⌝ }
 {
-    let from = to + Gate::WORDS;
-    let count = words.len() - from;
+    let from = to + gap;
+    let count = until - from;
     let mut k = 0;
     while k < count {
         words[to + k] = words[from + k];
@@ -193,13 +205,14 @@ fn clear_from(words: &mut [u64], at: usize)
     }
 }
 
-// Takes the gate at `at` out: the words after it move down, and the three that this frees at the end become 0.
-fn take_out(words: &mut [u64], at: usize)
-    requires { ⌜ at + 3 ≤ length (now words) ⌝ }
-    ensures { λ _. ⌜ now (words .exit) ≡ (take at (now (words .entry)) ++ drop (at + 3) (now (words .entry))) ++ replicate 3 0 ⌝ }
+// Moves the words from `to + gap` on down to `to`; those that this frees at the end become 0.
+fn close_gap(words: &mut [u64], to: usize, gap: usize)
+    requires { ⌜ to + gap ≤ length (now words) ⌝ }
+    ensures { λ _. ⌜ now (words .exit) ≡ (take to (now (words .entry)) ++ drop (to + gap) (now (words .entry))) ++ replicate gap 0 ⌝ }
 {
-    move_down(words, at);
-    clear_from(words, words.len() - Gate::WORDS);
+    let until = words.len();
+    move_down(words, to, gap, until);
+    clear_from(words, until - gap);
 }
 
 // Gates i and j go.
@@ -209,8 +222,8 @@ fn remove_pair(words: &mut [u64], i: usize, j: usize)
     requires { ⌜ length (now words) % 3 ≡ 0 ⌝ }
     ensures { λ _. ⌜ now (words .exit) ≡ filled (replaced i j [] (gatesOf (now (words .entry)))) (length (now (words .entry))) ⌝ }
 {
-    take_out(words, Gate::WORDS * j);
-    take_out(words, Gate::WORDS * i);
+    move_down(words, Gate::WORDS * i, Gate::WORDS, Gate::WORDS * j);
+    close_gap(words, Gate::WORDS * (j - 1), 2 * Gate::WORDS);
 }
 
 // Place j takes r, and gate i goes.
@@ -222,12 +235,13 @@ fn merge_pair(words: &mut [u64], i: usize, j: usize, r: Gate)
 {
     let at = Gate::WORDS * j;
     circuit::words::put_gate(&mut words[at..], r);
-    take_out(words, Gate::WORDS * i);
+    close_gap(words, Gate::WORDS * i, Gate::WORDS);
 }
 
 // Makes a step on the words of gates.
 pub(crate) fn step_gates(words: &mut [u64]) -> Stepped
     requires { ⌜ length (now words) % 3 ≡ 0 ⌝ }
+    requires { ⌜ allValid maxLines (gatesOf (now words)) ≡ true ⌝ }
     ensures { λ r. ⌜ Yields (ofStepped r) (now (words .exit)) (counted (stepGates (gatesOf (now (words .entry))))) (stepWords (stepGates (gatesOf (now (words .entry)))) (now (words .entry))) ⌝ }
 {
     let gates = words.len() / Gate::WORDS;

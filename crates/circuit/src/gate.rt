@@ -41,7 +41,7 @@ fn line(k: u64) -> u64
 }
 
 // Whether line k does not stand in the mask.
-pub fn clear(mask: u64, k: u64) -> bool
+fn clear(mask: u64, k: u64) -> bool
     ensures { λ r. ⌜ r ≡ eqb (bitAnd mask (2 ^ k)) 0 ⌝ }
 {
     if (mask >> (k % Gate::MAX_LINES)) % 2 == 0 {

@@ -1,5 +1,6 @@
 -- The laws of the reduction over words: what stands at each turn of the loop. Assumes nothing.
 use mathlib.Core.Path.{_≡_, refl, sym, ap, ap₂, _∙_, subst}
+use mathlib.Core.Bool.{true}
 use mathlib.Core.List.{List, [], _∷_, _++_, append-assoc, append-nil}
 use Prim.Native.Nat.{ℕ, zero, suc, _+_, _-_, _*_, _/_, _%_, _≤_, _<_}
 use native.Mathlib.Omega.{arith}
@@ -8,7 +9,8 @@ use lib.Seq.{take-at, drop-at}
 use borrow.Rule.Slice.PartMut.{putMid}
 use Rattle.circuit.specs.declared.gate.Gate.{Gate}
 use Rattle.circuit.specs.Outcome.{Yields}
-use Rattle.circuit.specs.Words.{gatesOf, wordsOf}
+use Rattle.circuit.specs.Gate.{maxLines}
+use Rattle.circuit.specs.Words.{gatesOf, wordsOf, allValid}
 use Rattle.circuit.proofs.words.Laws.{gates-length, gates-words, words-gates, words-length}
 use Rattle.checking.specs.declared.step.Kind.{Kind}
 use Rattle.checking.specs.declared.step.Kind.the-variants.{Cancel, RemoveControl, InvertControl}
@@ -16,6 +18,7 @@ use Rattle.checking.specs.Step.{Step, found, none, stepGates, counted, s
 use Rattle.checking.specs.Reduce.{Reduced, tallied, reduceGates, numbered}
 use Rattle.checking.specs.StepLaws.{taken}
 use Rattle.checking.proofs.step.Moving.{filled-length}
+use Rattle.checking.proofs.step.Laws.{step-is, step-keeps}
 use Rattle.checking.proofs.reduce.Laws.{step-shrinks, reduce-found, reduce-none}
 
 -- pairs and merges counted before
@@ -59,12 +62,13 @@ pub record Standing (first words : List ℕ) (gates pairs merges : ℕ) : Type 0
   pub size : length now ≡ gates
   pub long : length words ≡ length first
   pub fits : 3 * gates ≤ length first
+  pub good : allValid maxLines now ≡ true
   pub budget : gates + (2 * pairs + merges) ≡ length first / 3
   pub sum : reduceGates (gatesOf first) ≡ plus pairs merges (reduceGates now)
 
-pub standing-first : (ws : List ℕ) → length ws % 3 ≡ 0 → Standing ws ws (length ws / 3) 0 0
+pub standing-first : (ws : List ℕ) → length ws % 3 ≡ 0 → allValid maxLines (gatesOf ws) ≡ true → Standing ws ws (length ws / 3) 0 0
 unfolding filled
-standing-first ws w =
+standing-first ws w v =
     let n = gates-length ws in
     let z : length ws - 3 * length (gatesOf ws) ≡ 0 = omega arith in
     record {
@@ -73,6 +77,7 @@ standing-first ws w =
       size = n;
       long = refl;
       fits = omega arith;
+      good = v;
       budget = omega arith;
       sum = same (reduceGates (gatesOf ws));
     }
@@ -103,6 +108,9 @@ module _ (first words : List ℕ) (gates pairs merges : ℕ) (s : Standing first
 
   lent-gates : gatesOf lent ≡ s .now
   lent-gates = ap gatesOf lent-words ∙ gates-words (s .now)
+
+  pub lent-valid : allValid maxLines (gatesOf lent) ≡ true
+  lent-valid = ap (allValid maxLines) lent-gates ∙ s .good
 
   pub lent-whole : length lent % 3 ≡ 0
   lent-whole = let e : length lent ≡ 3 * gates = ap length lent-words ∙ words-length (s .now) ∙ ap (λ (k : ℕ). 3 * k) (s .size) in omega arith
@@ -180,6 +188,7 @@ module _ (first words : List ℕ) (gates pairs merges : ℕ) (s : Standing first
           size = l;
           long = ap length w ∙ filled-length hs (length first) (omega arith);
           fits = omega arith;
+          good = step-keeps maxLines (s .now) (omega arith) (s .good) i j k hs (step-is (s .now) (s .good) _ q) .good;
           budget = omega arith;
           sum = s .sum ∙ ap (plus pairs merges) (reduce-found (s .now) i j k hs q) ∙ plus-tallied k pairs merges (reduceGates hs) ∙ ap₂ (λ (x y : ℕ). plus x y (reduceGates hs)) (sym pe) (sym me);
         }

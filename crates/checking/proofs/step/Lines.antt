@@ -4,7 +4,7 @@ use mathlib.Core.Bool.{Bool, true, false, not, cond, _&&_, _||_, xor, false≢tr
 use Prim.Native.Nat.{ℕ, _^_, _<_, _≤_}
 use native.Mathlib.Omega.{arith}
 use lib.Dec.{eqb, ltb}
-use lib.Bits.{bitAnd, bitOr, bitXor}
+use lib.Bits.{bitAnd, bitOr, bitXor, or-add-and, and-le-l, and-le-r, or-self}
 use borrow.Author.Tests.{eqb-true, eqb-false, eq-eqb, ne-eqb, ltb-true, ltb-false}
 use Rattle.bits.specs.Digits.{bit}
 use Rattle.bits.specs.Lists.{fold}
@@ -153,6 +153,25 @@ module _ (g h : Gate) (vg : valid maxLines g ≡ true) (clear : Uncontrolled h (
       ∙ ap₂ (λ (x f : Bool). xor x (f && eqb l (h .target))) (apply-bit g s l vg) fires-past
 
 -- ---- gates that may pass commute
+
+-- two masks are 0 exactly where both together are
+or-none : (a b : ℕ) → eqb (bitOr a b) 0 ≡ (eqb a 0 && eqb b 0)
+or-none a b =
+    same-test (eqb (bitOr a b) 0) (eqb a 0 && eqb b 0)
+    (λ e.
+    let z : bitOr a b ≡ 0 = eqb-true _ _ e in
+    let p : a ≡ 0 = omega (arith, or-add-and a b, and-le-r a b) in
+    let q : b ≡ 0 = omega (arith, or-add-and a b, and-le-l a b) in
+    both (eq-eqb _ _ p) (eq-eqb _ _ q))
+    (λ e. let (p, q) = and-parts (eqb a 0) (eqb b 0) e in eq-eqb _ _ (ap₂ bitOr (eqb-true a 0 p) (eqb-true b 0 q) ∙ or-self 0))
+
+-- the test of passing by one mask
+pub pass-test : (g h : Gate) (x y : ℕ) → x ≡ 2 ^ g .target → y ≡ 2 ^ h .target
+    → eqb (bitOr (bitAnd (bitOr (h .positive) (h .negative)) x) (bitAnd (bitOr (g .positive) (g .negative)) y)) 0 ≡ mayPass g h
+unfolding mayPass controlLines
+pass-test g h x y e f =
+    or-none (bitAnd (bitOr (h .positive) (h .negative)) x) (bitAnd (bitOr (g .positive) (g .negative)) y)
+    ∙ ap₂ (λ (u v : ℕ). eqb (bitAnd (bitOr (h .positive) (h .negative)) u) 0 && eqb (bitAnd (bitOr (g .positive) (g .negative)) v) 0) e f
 
 clear-line : (p q t : ℕ) → bitAnd (bitOr p q) (2 ^ t) ≡ 0 → (bit p t ≡ false) × (bit q t ≡ false)
 clear-line p q t e =

@@ -5,7 +5,7 @@ use Prim.Native.Nat.{ℕ, zero, suc, _+_, _-_, _*_, _/_, _%_, _≤_, _<_}
 use native.Mathlib.Numerals.{add-one}
 use native.Mathlib.Omega.{arith}
 use lib.ListN.{length, take, drop, getD, set, replicate, length-append, length-drop, length-replicate, take-append-drop, replicate-append-replicate}
-use lib.Seq.{take-suc, take-add, take-take, take-append-le, drop-length, drop-drop, drop-append-le, take-at, drop-at, getD-append-add, getD-drop, length-take-le}
+use lib.Seq.{take-suc, take-add, take-take, take-append-le, drop-length, drop-drop, drop-append-le, drop-append-add, take-at, drop-at, getD-append-add, getD-drop, length-take-le}
 use Rattle.bits.specs.Lists.{over}
 use Rattle.bits.proofs.Lists.{over-push, over-length, rest-lent}
 use Rattle.circuit.specs.declared.gate.Gate.{Gate}
@@ -87,23 +87,18 @@ cleared-all ws at k h e =
     ∙ ap (λ (x : List ℕ). cleared ws at (length ws) ++ x) (drop-length ws)
     ∙ append-nil (cleared ws at (length ws))
 
--- all words after a gate moved down
-pub moved-all : (ws : List ℕ) (at k : ℕ) → k ≡ length ws - (at + 3) → over (moved ws at (at + 3) k) ws ≡ over (take at ws ++ drop (at + 3) ws) ws
-moved-all ws at k e = ap (λ (l : List ℕ). over (take at ws ++ l) ws) (ap (λ (n : ℕ). take n (drop (at + 3) ws)) e ∙ rest-lent ws (at + 3))
-
--- a gate taken out: the words after it moved down, and zeros after them
-pub taken-out : (ws mid last : List ℕ) (at : ℕ) → at + 3 ≤ length ws → mid ≡ over (take at ws ++ drop (at + 3) ws) ws
-    → last ≡ take (length mid - 3) mid ++ replicate (length mid - (length mid - 3)) 0
-    → last ≡ (take at ws ++ drop (at + 3) ws) ++ replicate 3 0
-taken-out ws mid last at h e f =
-    let front : List ℕ = take at ws ++ drop (at + 3) ws in
-    let n : length front ≡ length ws - 3 =
-    length-append (take at ws) _ ∙ ap₂ (λ (x y : ℕ). x + y) (length-take-le at ws (omega arith)) (length-drop (at + 3) ws) ∙ omega arith in
+-- a gap closed: the words after it moved down, and zeros after them
+pub gap-closed : (ws mid last : List ℕ) (to gap : ℕ) → to + gap ≤ length ws → mid ≡ over (moved ws to (to + gap) (length ws - (to + gap))) ws
+    → last ≡ take (length ws - gap) mid ++ replicate (length mid - (length ws - gap)) 0
+    → last ≡ (take to ws ++ drop (to + gap) ws) ++ replicate gap 0
+gap-closed ws mid last to gap h e f =
+    let front : List ℕ = moved ws to (to + gap) (length ws - (to + gap)) in
+    let n : length front ≡ length ws - gap = moved-length ws to (to + gap) (length ws - (to + gap)) (omega arith) (omega arith) ∙ omega arith in
     let m : length mid ≡ length ws = ap length e ∙ over-length front ws (omega arith) in
-    let z : length mid - (length mid - 3) ≡ 3 = omega arith in
-    let k : length front ≡ length mid - 3 = omega arith in
+    let z : length mid - (length ws - gap) ≡ gap = omega arith in
     f
-    ∙ ap₂ (λ (x : List ℕ) (c : ℕ). x ++ replicate c 0) (ap (take (length mid - 3)) e ∙ take-at front _ (length mid - 3) k) z
+    ∙ ap₂ (λ (x : List ℕ) (c : ℕ). x ++ replicate c 0)
+    (ap (take (length ws - gap)) e ∙ take-at front _ (length ws - gap) n ∙ ap (λ (x : List ℕ). take to ws ++ x) (rest-lent ws (to + gap))) z
 
 -- ---- a step's words
 
@@ -123,6 +118,18 @@ words-drop (suc i) [] = sym (lib.Seq.drop-nil (3 * suc i))
 words-drop (suc i) (g ∷ gs) =
     let e : suc (suc (suc (3 * i))) ≡ 3 * suc i = omega arith in
     words-drop i gs ∙ ap (λ (n : ℕ). drop n (g .positive ∷ g .negative ∷ g .target ∷ wordsOf gs)) e
+
+-- what was moved to the front, and the words behind it
+pushed : (front ws w : List ℕ) (to from : ℕ) → length front ≡ to → to ≤ from → w ≡ over front ws → take to w ++ drop from w ≡ front ++ drop from ws
+pushed front ws w to from e h f =
+    let n : ℕ = length front in
+    let d : n + (from - n) ≡ from = omega arith in
+    ap (λ (x : List ℕ). take to x ++ drop from x) f
+    ∙ ap₂ (λ (x y : List ℕ). x ++ y) (take-at front (drop n ws) to e)
+    (ap (λ (k : ℕ). drop k (over front ws)) (sym d)
+    ∙ drop-append-add front (drop n ws) (from - n)
+    ∙ drop-drop (from - n) n ws
+    ∙ ap (λ (k : ℕ). drop k ws) d)
 
 -- what is left of a part's start
 pub drop-take : (n j : ℕ) (l : List ℕ) → n ≤ j → j ≤ length l → drop n (take j l) ≡ take (j - n) (drop n l)
@@ -186,21 +193,21 @@ module _ (ws : List ℕ) (i j : ℕ) (rest : List Gate) (order : i < j) (inside 
       let z : length ws - 3 * length (replaced i j rest (gatesOf ws)) ≡ zeros = omega arith in
       ap₂ (λ (x : List ℕ) (k : ℕ). x ++ replicate k 0) words-replaced z
 
--- both gates taken out
+-- gate i, and then place j, closed up
 pub pair-removed : (ws mid last : List ℕ) (i j : ℕ) → i < j → j < length ws / 3 → length ws % 3 ≡ 0
-    → mid ≡ (take (3 * j) ws ++ drop (3 * j + 3) ws) ++ replicate 3 0 → last ≡ (take (3 * i) mid ++ drop (3 * i + 3) mid) ++ replicate 3 0
+    → mid ≡ over (moved ws (3 * i) (3 * i + 3) (3 * j - (3 * i + 3))) ws
+    → last ≡ (take (3 * (j - 1)) mid ++ drop (3 * (j - 1) + 6) mid) ++ replicate 6 0
     → last ≡ filled (replaced i j [] (gatesOf ws)) (length ws)
 unfolding wordsOf
 pair-removed ws mid last i j o h w e f =
-    let n : 3 * j + 3 ≡ 3 * (j + 1) = omega arith in
-    let d : List ℕ = drop (3 * (j + 1)) ws in
+    let n : 3 * i + 3 ≡ 3 * (i + 1) = omega arith in
+    let m : 3 * (j - 1) + 6 ≡ 3 * (j + 1) = omega arith in
     let b : List ℕ = before ws i j [] o h w in
+    let l : length b ≡ 3 * (j - 1) = moved-length ws (3 * i) (3 * (i + 1)) (3 * j - 3 * (i + 1)) (omega arith) (omega arith) ∙ omega arith in
     f
-    ∙ ap (λ (x : List ℕ). x ++ replicate 3 0)
-    (out-first ws i j [] o h w mid (d ++ replicate 3 0) (e ∙ append-assoc (take (3 * j) ws) _ _ ∙ ap (λ (k : ℕ). take (3 * j) ws ++ (drop k ws ++ replicate 3 0)) n)
-    ∙ sym (append-assoc b d (replicate 3 0)))
-    ∙ append-assoc (b ++ d) (replicate 3 0) (replicate 3 0)
-    ∙ ap (λ (x : List ℕ). (x ++ d) ++ replicate 6 0) (sym (append-nil b))
+    ∙ ap (λ (x : List ℕ). x ++ replicate 6 0)
+    (pushed b ws mid (3 * (j - 1)) (3 * (j - 1) + 6) l (omega arith) (e ∙ ap (λ (k : ℕ). over (moved ws (3 * i) k (3 * j - k)) ws) n)
+    ∙ ap₂ (λ (x : List ℕ) (k : ℕ). x ++ drop k ws) (sym (append-nil b)) m)
     ∙ sym (filled-is ws i j [] o h w 6 refl)
 
 -- place j taken by the gate that remains, and gate i taken out

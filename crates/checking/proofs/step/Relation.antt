@@ -2,7 +2,7 @@
 use mathlib.Core.Path.{_≡_, refl, sym, ap, ap₂, _∙_, subst}
 use mathlib.Core.Bool.{Bool, true, false, cond, _&&_, false≢true, true≢false}
 use mathlib.Core.List.{List, [], _∷_}
-use Prim.Native.Nat.{ℕ, zero, suc, _+_, _-_, _≤_, _<_}
+use Prim.Native.Nat.{ℕ, zero, suc, _+_, _-_, _/_, _≤_, _<_}
 use native.Mathlib.Omega.{arith}
 use lib.Dec.{ltb, leb}
 use lib.ListN.{length, getD}
@@ -10,7 +10,10 @@ use borrow.Author.Tests.{ltb-true, ltb-false, leb-true, leb-false}
 use Rattle.bits.proofs.Bools.{and-parts, either, refuted}
 use Rattle.circuit.specs.declared.gate.Gate.{Gate}
 use Rattle.circuit.specs.Gate.{maxLines, notGate, valid}
-use Rattle.circuit.specs.Words.{allValid}
+use Rattle.circuit.specs.Laws.{ValidByLines}
+use Rattle.circuit.specs.Words.{gatesOf, gateAt, allValid}
+use Rattle.circuit.proofs.gate.Laws.{valid-by-lines}
+use Rattle.circuit.proofs.words.Laws.{gates-length}
 use Rattle.checking.specs.declared.step.Match.{Match}
 use Rattle.checking.specs.declared.step.Verdict.{Verdict}
 use Rattle.checking.specs.declared.step.Verdict.the-variants.{Apart, Matched}
@@ -169,6 +172,13 @@ unfolding allValid
 gate-valid n [] i v h = absurd (omega arith)
 gate-valid n (g ∷ gs) zero v h = and-parts (valid n g) (allValid n gs) v .0
 gate-valid n (g ∷ gs) (suc i) v h = gate-valid n gs i (and-parts (valid n g) (allValid n gs) v .1) (omega arith)
+
+-- a target stands below 64
+pub target-low : (ws : List ℕ) (i : ℕ) (g : Gate) → allValid maxLines (gatesOf ws) ≡ true → i < length ws / 3 → g ≡ gateAt ws i → g .target < maxLines
+target-low ws i g v h e =
+    let n = gates-length ws in
+    let l : valid maxLines g ≡ true = ap (valid maxLines) e ∙ gate-valid maxLines (gatesOf ws) i v (omega arith) in
+    valid-by-lines maxLines g l .target-below
 
 never-matched : (v : Verdict) (m : Match) → v ≡ Apart → v ≡ Matched m → ⊥
 never-matched v m e f = let z : _≡_ {A = ℕ} 0 1 = cc in omega arith

@@ -2,10 +2,10 @@
 use mathlib.Core.Path.{_≡_, sym, ap, _∙_}
 use native.Mathlib.Omega.{arith}
 use borrow.Author.Needs.{needs}
-use Rattle.circuit.specs.Gate.{maxMiterGates}
+use Rattle.circuit.specs.Gate.{maxLines, maxMiterGates}
 use Rattle.circuit.specs.Outcome.{served}
 use Rattle.circuit.specs.Words.{ofCount, checkOutcome}
-use Rattle.circuit.proofs.words.Laws.{check-served}
+use Rattle.circuit.proofs.words.Laws.{check-served, valid-all-more}
 use Rattle.checking.proofs.reduce.Laws.{reduce-refused, reduce-made}
 use Rattle.checking.proofs.reduce.reduce.Statement.{statement}
 use Rattle.checking.proofs.reduce.reduce.Tie as tie
@@ -26,7 +26,9 @@ enum-told : tie.Need-enum-told
 enum-told c = search needs
 
 reduce-gates-requires : tie.Need-reduce-gates-requires
-reduce-gates-requires c κs = let k = check-served _ _ _ _ (good (c .before)) in omega (arith, k .size)
+reduce-gates-requires c κs =
+    let k = check-served _ _ _ _ (good (c .before)) in
+    (omega (arith, k .size), valid-all-more _ maxLines _ (k .lines-high) (k .gates))
 
 same-length : tie.Need-same-length
 same-length c = search needs

@@ -8,7 +8,7 @@ use Rattle.checking.specs.declared.step.Kind.{Kind}
 use Rattle.checking.specs.declared.step.Kind.the-variants.{Cancel, RemoveControl, InvertControl}
 use Rattle.checking.specs.Step.{found, none, ofStepped}
 use Rattle.checking.specs.StepLaws.{taken}
-use Rattle.checking.proofs.reduce.Turns.{Standing, standing-first, lent-whole, ended, left-less, onward, pairsOf, mergesOf}
+use Rattle.checking.proofs.reduce.Turns.{Standing, standing-first, lent-whole, lent-valid, ended, left-less, onward, pairsOf, mergesOf}
 use Rattle.checking.proofs.reduce.reduce_gates.Statement.{statement}
 use Rattle.checking.proofs.reduce.reduce_gates.Tie as tie
 
@@ -46,7 +46,7 @@ again c k e p m pe me =
     (hit c ∙ ap (λ (x : Kind). found (f .0) (f .1 .0) x (f .1 .1 .1 .0)) e) p m pe me
 
 loop-holds : tie.Need-loop-holds Inv-loop μ-loop
-loop-holds c = standing-first _ (c .before .pre)
+loop-holds c = standing-first _ (c .before .pre .0) (c .before .pre .1)
 
 mul-end : tie.Need-mul-end Inv-loop μ-loop
 mul-end c = omega arith
@@ -61,7 +61,11 @@ part-step-gates-end : tie.Need-part-step-gates-end Inv-loop μ-loop
 part-step-gates-end c = search needs
 
 step-gates-requires : tie.Need-step-gates-requires Inv-loop μ-loop
-step-gates-requires c κs = let l = c .before .loop in lent-whole _ (l .words) (l .gates) (l .pairs) (l .merges) (l .inv)
+step-gates-requires c κs =
+    let l = c .before .loop in (
+      lent-whole _ (l .words) (l .gates) (l .pairs) (l .merges) (l .inv),
+      lent-valid _ (l .words) (l .gates) (l .pairs) (l .merges) (l .inv),
+    )
 
 enum-told : tie.Need-enum-told Inv-loop μ-loop
 enum-told c = search needs

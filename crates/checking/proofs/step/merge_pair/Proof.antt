@@ -31,11 +31,11 @@ part-put-gate-end c = search needs
 put-gate-requires : tie.Need-put-gate-requires
 put-gate-requires c κs = search needs
 
-mul-take-out : tie.Need-mul-take-out
-mul-take-out c = search needs
+mul-close-gap : tie.Need-mul-close-gap
+mul-close-gap c = search needs
 
-take-out-requires : tie.Need-take-out-requires
-take-out-requires c κs = search needs
+close-gap-requires : tie.Need-close-gap-requires
+close-gap-requires c κs = search needs
 
 same-length : tie.Need-same-length
 same-length c = search needs
@@ -49,10 +49,10 @@ returns c =
     let ws : List ℕ = a .words .now in
     let at : ℕ = 3 * a .j in
     let fits : 3 ≤ length (take (length ws - at) (drop at ws)) = omega (arith, length-take (length ws - at) (drop at ws), length-drop at ws, s .pre .1 .0) in
-    pair-merged ws _ (k .take-out .last .0) (a .i) (a .j) (a .r) (s .pre .0) (s .pre .1 .0) (s .pre .1 .1)
+    pair-merged ws _ (k .close-gap .last .0) (a .i) (a .j) (a .r) (s .pre .0) (s .pre .1 .0) (s .pre .1 .1)
     (rest-back ws (p .put-gate .last .0) at (omega (arith, s .pre .1 .0))
     ∙ ap (λ (x : List ℕ). take at ws ++ x) (p .put-gate .ensures ∙ put-fits (a .r) (take (length ws - at) (drop at ws)) fits ∙ ap (over (gateWords (a .r))) (rest-lent ws at)))
-    (k .take-out .ensures)
+    (k .close-gap .ensures)
 
 pub merge-pair-spec : {M : Type 1} → statement M
 merge-pair-spec =
@@ -64,7 +64,7 @@ merge-pair-spec =
     part-put-gate-start
     part-put-gate-end
     put-gate-requires
-    mul-take-out
-    take-out-requires
+    mul-close-gap
+    close-gap-requires
     same-length
     returns)

@@ -1,19 +1,19 @@
 -- `checking::step::move_down` meets its contract. The loop's invariant: k words have moved, the words after them are as they were. Assumes nothing.
-use mathlib.Core.Path.{_≡_, refl, _∙_}
+use mathlib.Core.Path.{_≡_, refl, ap, _∙_}
 use Prim.Native.Nat.{ℕ, _≤_, _-_, _+_}
 use native.Mathlib.Omega.{arith}
 use lib.ListN.{length, length-set}
 use borrow.Author.Needs.{needs}
 use Rattle.bits.specs.Lists.{over}
-use Rattle.checking.proofs.step.Moving.{moved, moved-none, moved-more, moved-all}
+use Rattle.checking.proofs.step.Moving.{moved, moved-none, moved-more}
 use Rattle.checking.proofs.step.move_down.Statement.{statement}
 use Rattle.checking.proofs.step.move_down.Tie as tie
 
 abbrev Inv-loop : tie.InvT-loop
-Inv-loop words₀ to from count k₀ words k = (k ≤ count) × (length words ≡ length words₀) × (words ≡ over (moved words₀ to from k) words₀)
+Inv-loop words₀ to gap until from count k₀ words k = (k ≤ count) × (length words ≡ length words₀) × (words ≡ over (moved words₀ to from k) words₀)
 
 abbrev μ-loop : tie.MeasureT-loop
-μ-loop words₀ to from count k₀ words k = count - k
+μ-loop words₀ to gap until from count k₀ words k = count - k
 
 add-from : tie.Need-add-from Inv-loop μ-loop
 add-from c = search needs
@@ -22,7 +22,7 @@ sub-count : tie.Need-sub-count Inv-loop μ-loop
 sub-count c = search needs
 
 loop-holds : tie.Need-loop-holds Inv-loop μ-loop
-loop-holds c = let a = c .args in (omega arith, refl, moved-none (a .words .now) (a .to) (a .to + 3) (omega arith))
+loop-holds c = let a = c .args in (omega arith, refl, moved-none (a .words .now) (a .to) (a .to + a .gap) (omega arith))
 
 add-words : tie.Need-add-words Inv-loop μ-loop
 add-words c = search needs
@@ -55,7 +55,7 @@ loop-again c =
     let i = l .loop .inv in (
       omega arith,
       length-set (l .loop .words) _ _ ∙ i .1,
-      moved-more (a .words .now) (a .to) (a .to + 3) (l .loop .words) (l .loop .k) (omega arith) (omega arith) (i .2),
+      moved-more (a .words .now) (a .to) (a .to + a .gap) (l .loop .words) (l .loop .k) (omega arith) (omega arith) (i .2),
     )
 
 same-length : tie.Need-same-length Inv-loop μ-loop
@@ -65,7 +65,8 @@ returns : tie.Need-returns Inv-loop μ-loop
 returns c =
     let a = c .before .before .args in
     let i = c .before .loop .inv in
-    i .2 ∙ moved-all (a .words .now) (a .to) (c .before .loop .k) (omega arith)
+    let e : c .before .loop .k ≡ a .until - (a .to + a .gap) = omega arith in
+    i .2 ∙ ap (λ (k : ℕ). over (moved (a .words .now) (a .to) (a .to + a .gap) k) (a .words .now)) e
 
 pub move-down-spec : {M : Type 1} → statement M
 move-down-spec =

@@ -8,6 +8,7 @@ use borrow.Author.Tests.{not-true, not-false}
 use Rattle.circuit.specs.declared.gate.Gate.{Gate}
 use Rattle.circuit.specs.Words.{gatesOf, gateAt}
 use Rattle.checking.specs.Step.{scanFrom}
+use Rattle.checking.proofs.step.Relation.{target-low}
 use Rattle.checking.proofs.step.Searching.{words-hit, words-stop, words-on, words-end}
 use Rattle.checking.proofs.step.scan_after.Statement.{statement}
 use Rattle.checking.proofs.step.scan_after.Tie as tie
@@ -49,7 +50,14 @@ enum-told : tie.Need-enum-told Inv-loop μ-loop
 enum-told c = search needs
 
 may-pass-requires : tie.Need-may-pass-requires Inv-loop μ-loop
-may-pass-requires c κs = search needs
+may-pass-requires c κs =
+    let m = c .before .before in
+    let l = m .before .before .before in
+    let s = l .before .before .before in
+    let ws = s .args .words .now in (
+      target-low ws (s .args .i) _ (s .pre .1) (s .pre .0) (l .before .gate-at .ensures),
+      target-low ws (l .loop .j) _ (s .pre .1) (m .before .before .loop-test .taken) (m .before .gate-at2 .ensures),
+    )
 
 returns-2 : tie.Need-returns-2 Inv-loop μ-loop
 returns-2 c =

@@ -20,7 +20,7 @@ loop-holds : tie.Need-loop-holds Inv-loop μ-loop
 loop-holds c = (omega arith, refl)
 
 scan-after-requires : tie.Need-scan-after-requires Inv-loop μ-loop
-scan-after-requires c κs = search needs
+scan-after-requires c κs = (c .loop-test .taken, c .before .before .before .pre)
 
 enum-known-j : tie.Need-enum-known-j Inv-loop μ-loop
 enum-known-j c = search needs

@@ -2,10 +2,10 @@
 use mathlib.Core.Path.{_≡_, refl, sym, ap, _∙_}
 use native.Mathlib.Omega.{arith}
 use borrow.Author.Needs.{needs}
-use Rattle.circuit.specs.Gate.{maxMiterGates}
+use Rattle.circuit.specs.Gate.{maxLines, maxMiterGates}
 use Rattle.circuit.specs.Outcome.{served, Yields}
 use Rattle.circuit.specs.Words.{ofCount, checkOutcome}
-use Rattle.circuit.proofs.words.Laws.{check-served}
+use Rattle.circuit.proofs.words.Laws.{check-served, valid-all-more}
 use Rattle.checking.specs.Step.{ofStepped}
 use Rattle.checking.proofs.step.Calls.{step-refused, step-made}
 use Rattle.checking.proofs.step.step.Statement.{statement}
@@ -27,7 +27,9 @@ enum-told : tie.Need-enum-told
 enum-told c = search needs
 
 step-gates-requires : tie.Need-step-gates-requires
-step-gates-requires c κs = let k = check-served _ _ _ _ (good (c .before)) in omega (arith, k .size)
+step-gates-requires c κs =
+    let k = check-served _ _ _ _ (good (c .before)) in
+    (omega (arith, k .size), valid-all-more _ maxLines _ (k .lines-high) (k .gates))
 
 enum-told-2 : tie.Need-enum-told-2
 enum-told-2 c = search needs

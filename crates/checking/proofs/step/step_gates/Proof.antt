@@ -25,7 +25,7 @@ inside : (c : tie.After-known-told)
 inside c = places _ _ _ _ (at c)
 
 search-gates-requires : tie.Need-search-gates-requires
-search-gates-requires c κs = search needs
+search-gates-requires c κs = c .before .before .pre .1
 
 enum-told : tie.Need-enum-told
 enum-told c = search needs
@@ -39,7 +39,7 @@ enum-told-2 c = search needs
 remove-pair-requires : tie.Need-remove-pair-requires
 remove-pair-requires c κs =
     let f = c .before .before .before in
-    (inside f .0, (inside f .1, f .before .before .before .before .before .before .pre))
+    (inside f .0, (inside f .1, f .before .before .before .before .before .before .pre .0))
 
 sub-t18 : tie.Need-sub-t18
 sub-t18 c = let (a, b) = inside (c .before .before .before .before .before .before) in omega arith
@@ -50,7 +50,7 @@ enum-known-by c = search needs
 merge-pair-requires : tie.Need-merge-pair-requires
 merge-pair-requires c κs =
     let f = c .before .before .before .before in
-    (inside f .0, (inside f .1, f .before .before .before .before .before .before .pre))
+    (inside f .0, (inside f .1, f .before .before .before .before .before .before .pre .0))
 
 sub-t23 : tie.Need-sub-t23
 sub-t23 c = let (a, b) = inside (c .before .before .before .before .before .before .before) in omega arith
@@ -61,7 +61,7 @@ enum-known-by-2 c = search needs
 merge-pair-requires-2 : tie.Need-merge-pair-requires-2
 merge-pair-requires-2 c κs =
     let f = c .before .before .before .before in
-    (inside f .0, (inside f .1, f .before .before .before .before .before .before .pre))
+    (inside f .0, (inside f .1, f .before .before .before .before .before .before .pre .0))
 
 sub-t28 : tie.Need-sub-t28
 sub-t28 c = let (a, b) = inside (c .before .before .before .before .before .before .before) in omega arith

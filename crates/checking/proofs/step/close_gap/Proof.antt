@@ -1,8 +1,8 @@
--- `checking::step::take_out` meets its contract. Assumes nothing.
-use Rattle.checking.proofs.step.Moving.{taken-out}
+-- `checking::step::close_gap` meets its contract. Assumes nothing.
+use Rattle.checking.proofs.step.Moving.{gap-closed}
 use borrow.Author.Needs.{needs}
-use Rattle.checking.proofs.step.take_out.Statement.{statement}
-use Rattle.checking.proofs.step.take_out.Tie as tie
+use Rattle.checking.proofs.step.close_gap.Statement.{statement}
+use Rattle.checking.proofs.step.close_gap.Tie as tie
 
 move-down-requires : tie.Need-move-down-requires
 move-down-requires c κs = search needs
@@ -22,8 +22,8 @@ returns c =
     let m = k .before .before .before .before in
     let s = m .before .before .before in
     let a = s .args in
-    taken-out (a .words .now) (m .move-down .last .0) (k .clear-from .last .0) (a .at) (s .pre) (m .move-down .ensures) (k .clear-from .ensures)
+    gap-closed (a .words .now) (m .move-down .last .0) (k .clear-from .last .0) (a .to) (a .gap) (s .pre) (m .move-down .ensures) (k .clear-from .ensures)
 
-pub take-out-spec : {M : Type 1} → statement M
-take-out-spec =
+pub close-gap-spec : {M : Type 1} → statement M
+close-gap-spec =
     tie.close (tie.spec move-down-requires sub-clear-from clear-from-requires same-length returns)
