@@ -9,4 +9,5 @@ pub mod StandIns
 pub mod Sums
 pub mod Rows
 pub mod Loop
+pub mod Answers
 pub mod Laws

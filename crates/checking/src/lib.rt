@@ -4,6 +4,7 @@ ghost use Rattle.checking.specs.Laws.{CheckingLaws};
 
 pub mod clauses;
 pub mod compare;
+mod emission;
 mod emitter;
 pub mod faults;
 pub mod miter;
