@@ -1,5 +1,6 @@
 // The C interface: each call of include/cascade.h, over the call of the same name.
 pub mod count;
+pub mod emit;
 pub mod inverse;
 pub mod miter;
 pub mod reduce;

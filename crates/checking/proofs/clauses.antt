@@ -10,4 +10,5 @@ pub mod Sums
 pub mod Rows
 pub mod Loop
 pub mod Maps
+pub mod Answers
 pub mod Laws

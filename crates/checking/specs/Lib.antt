@@ -9,6 +9,7 @@ pub mod Stored
 pub mod Sizes
 pub mod ClauseRows
 pub mod Emitter
+pub mod Emission
 pub mod Emit
 pub mod Equality
 pub mod Check

@@ -1,4 +1,4 @@
-// The clause list of a cascade: its sizes.
+// The clause list of a cascade: its sizes, and its emission.
 
 use circuit::gate::Gate;
 use circuit::refusal::Refusal;
@@ -8,9 +8,10 @@ ghost use Prim.Native.Nat.{_/_, _^_, _<_, _≤_};
 ghost use lib.Bits.{bitOr};
 ghost use lib.ListN.{length};
 ghost use Rattle.circuit.specs.Gate.{maxLines, maxMiterGates};
-ghost use Rattle.circuit.specs.Outcome.{served, andThen};
+ghost use Rattle.circuit.specs.Outcome.{served, andThen, Yields};
 ghost use Rattle.circuit.specs.Words.{gatesOf, validFrom};
 ghost use Rattle.checking.specs.Sizes.{gateSizes, sizesOf, sizesOutcome, ofSizes};
+ghost use Rattle.checking.specs.Emit.{emitOutcome, emitBuffer};
 
 // The variables, clauses and words of a clause list.
 pub struct Totals {
@@ -93,5 +94,21 @@ pub fn sizes(n: u64, words: &[u64]) -> SizesAnswer
     match circuit::words::check_size(words, Gate::MAX_MITER_GATES) {
         CountAnswer::Refused(why) => SizesAnswer::Refused(why),
         CountAnswer::Gates(_) => list_sizes(n, words),
+    }
+}
+
+// The stored clauses of a cascade at the buffer's start, and their sizes; else 2, 11, 6, 7 or 10.
+pub fn emit(n: u64, words: &[u64], out: &mut [i16]) -> SizesAnswer
+    ensures { λ r. ⌜ Yields (ofSizes r) (now (out .exit)) (emitOutcome n (now (words .entry)) (length (now (out .entry)))) (emitBuffer n (now (words .entry)) (now (out .entry))) ⌝ }
+{
+    match sizes(n, words) {
+        SizesAnswer::Refused(why) => SizesAnswer::Refused(why),
+        SizesAnswer::Sizes(t) => {
+            if (out.len() as u64) < t.words {
+                return SizesAnswer::Refused(Refusal::no_room());
+            }
+            crate::emission::put_list(n, words, out);
+            SizesAnswer::Sizes(t)
+        }
     }
 }

@@ -15,7 +15,7 @@ ghost use Rattle.checking.specs.Stored.{stored, wordLimit};
 ghost use Rattle.checking.specs.Emitter.{literalWord, controlsIn, literalsIn, Currents, Many, manyStored, gateStored, Ready};
 
 // The number as a word.
-fn number(x: u64) -> i16
+pub(crate) fn number(x: u64) -> i16
     requires { ⌜ x < wordLimit ⌝ }
     ensures { λ r. ⌜ r ≡ pos x ⌝ }
 {
@@ -23,7 +23,7 @@ fn number(x: u64) -> i16
 }
 
 // The literal of a variable.
-fn literal(variable: u64, positive: bool) -> i16
+pub(crate) fn literal(variable: u64, positive: bool) -> i16
     requires { ⌜ variable < wordLimit ⌝ }
     ensures { λ r. ⌜ r ≡ literalWord positive variable ⌝ }
 {
@@ -43,7 +43,7 @@ fn has(mask: u64, k: u64) -> bool
 }
 
 // Three words at the buffer's start.
-fn put_3(out: &mut [i16], a: i16, b: i16, c: i16)
+pub(crate) fn put_3(out: &mut [i16], a: i16, b: i16, c: i16)
     requires { ⌜ 3 ≤ length (now out) ⌝ }
     ensures { λ _. ⌜ now (out .exit) ≡ over (a ∷ (b ∷ (c ∷ []))) (now (out .entry)) ⌝ }
 {
@@ -64,7 +64,7 @@ fn put_4(out: &mut [i16], a: i16, b: i16, c: i16, d: i16)
 }
 
 // Five words at the buffer's start.
-fn put_5(out: &mut [i16], a: i16, b: i16, c: i16, d: i16, e: i16)
+pub(crate) fn put_5(out: &mut [i16], a: i16, b: i16, c: i16, d: i16, e: i16)
     requires { ⌜ 5 ≤ length (now out) ⌝ }
     ensures { λ _. ⌜ now (out .exit) ≡ over (a ∷ (b ∷ (c ∷ (d ∷ (e ∷ []))))) (now (out .entry)) ⌝ }
 {

@@ -124,7 +124,7 @@ unfolding upFrom
 last-within m i zero one h = tt
 last-within m i (suc k) one h = (one, (omega arith, last-within m (suc i) k (omega arith) (omega arith)))
 
-inputs-named : (n m : ℕ) → n ≤ m → Named n m inputOf
+pub inputs-named : (n m : ℕ) → n ≤ m → Named n m inputOf
 inputs-named n m h = record { low = λ k l. omega arith; high = λ k l. omega arith }
 
 -- every literal of the list is one of a variable from 1 to V
@@ -143,7 +143,7 @@ clauses-within n gs few v =
 -- ---- words
 
 -- at most two new variables a gate
-used-bound : (used : ℕ) (gs : List Gate) → usedAfter used gs ≤ used + 2 * length gs
+pub used-bound : (used : ℕ) (gs : List Gate) → usedAfter used gs ≤ used + 2 * length gs
 unfolding usedAfter
 used-bound used [] = omega arith
 used-bound used (g ∷ gs) = omega (arith, new-bound used (length (controlsOf g)), used-bound (usedBy used g) gs)

@@ -69,7 +69,7 @@ targeted-below n (g ∷ gs) k v h =
     let below = valid-facts n g a .target-below in
     ap₂ _||_ (ne-eqb k (g .target) (λ e. omega arith)) (targeted-below n gs k b h)
 
-upFrom-more : (i m : ℕ) → upFrom i (suc m) ≡ upFrom i m ++ ((i + m) ∷ [])
+pub upFrom-more : (i m : ℕ) → upFrom i (suc m) ≡ upFrom i m ++ ((i + m) ∷ [])
 unfolding upFrom
 upFrom-more i zero = let e : i ≡ i + 0 = omega arith in ap (λ (j : ℕ). j ∷ []) e
 upFrom-more i (suc m) =

@@ -53,7 +53,7 @@ many-words p w v ls =
       implied-words p ls,
     )
 
-gate-sizes : (used v : ℕ) (ls : List ℤ) → sizesIn (gateSizes (length ls) .variables) (gateClauses used v ls) ≡ gateSizes (length ls)
+pub gate-sizes : (used v : ℕ) (ls : List ℤ) → sizesIn (gateSizes (length ls) .variables) (gateClauses used v ls) ≡ gateSizes (length ls)
 unfolding stored
 gate-sizes used v [] = refl
 gate-sizes used v (c ∷ []) = refl
@@ -111,7 +111,7 @@ lines-sizes hit left right used (k ∷ ks) =
     ∙ sizes-append 1 (length ks) (c ∷ []) cs
     ∙ ap₂ added (line-sizes (hit k) (suc used) (left k) (right k)) (lines-sizes hit left right (suc used) ks)
 
-last-sizes : (i n : ℕ) → sizesIn 0 (OR (map plus (upFrom i n)) ∷ []) ≡ totals 0 1 (n + 2)
+pub last-sizes : (i n : ℕ) → sizesIn 0 (OR (map plus (upFrom i n)) ∷ []) ≡ totals 0 1 (n + 2)
 unfolding stored
 last-sizes i n =
     let e : length (map plus (upFrom i n) ++ []) ≡ n = ap length (append-nil (map plus (upFrom i n))) ∙ length-map (upFrom i n) plus ∙ length-upFrom i n in
