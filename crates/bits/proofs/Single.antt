@@ -1,6 +1,5 @@
 -- The laws of a number with exactly one digit: it is a power of two, and has no digit in common with the number before it. Assumes nothing.
-use mathlib.Core.Path.{_≡_, refl, sym, ap, ap₂, _∙_}
-use mathlib.Core.Bool.{Bool, true, false}
+use mathlib.Core.Path.{_≡_, refl, ap, ap₂, _∙_}
 use Prim.Native.Nat.{ℕ, zero, suc, _+_, _-_, _*_, _/_, _%_, _^_, _<_, min}
 use native.Mathlib.Omega.{arith}
 use lib.Dec.{eqb}

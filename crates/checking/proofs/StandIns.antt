@@ -4,13 +4,12 @@ use mathlib.Core.Bool.{true}
 use mathlib.Core.List.{List, [], _∷_}
 use Prim.Native.Nat.{ℕ}
 use native.Mathlib.Omega.{arith}
-use lib.Count.{ones, onesIn}
 use lib.ListN.{length}
 use Rattle.circuit.specs.declared.gate.Gate.{Gate}
 use Rattle.circuit.specs.Gate.{maxLines, notGate, valid}
 use Rattle.circuit.specs.Words.{allValid}
 use Rattle.checking.specs.declared.step.Kind.the-variants.{Cancel}
-use Rattle.checking.specs.Step.{controlLines, mayPass, differing, matchOf, scanFrom, searchFrom, replaced, Step, found, none, stepGates}
+use Rattle.checking.specs.Step.{differing, matchOf, scanFrom, searchFrom, replaced, Step, found, none, stepGates}
 use Rattle.checking.specs.Reduce.{Reduced, reduceBy, reduceGates}
 use Rattle.checking.specs.StandIns.{StepOf, ReductionOf, alwaysNone, copying, idle, onceOnly, inventing, exchanging, StandInLaws}
 use Rattle.checking.proofs.step.Laws.{step-is, steps-step}

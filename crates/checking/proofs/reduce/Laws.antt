@@ -1,5 +1,5 @@
 -- The laws of the reduction: a step takes one gate or two away, so a reduction ends, and it is its first step and the reduction of what then stands. Assumes nothing.
-use mathlib.Core.Path.{_≡_, refl, sym, ap, ap₂, _∙_, subst}
+use mathlib.Core.Path.{_≡_, refl, sym, ap, _∙_, subst}
 use mathlib.Core.List.{List, [], _∷_}
 use Prim.Native.Nat.{ℕ, zero, suc, _+_, _≤_, _<_}
 use native.Mathlib.Omega.{arith}
@@ -14,7 +14,7 @@ use Rattle.circuit.specs.Gate.{maxMiterGates}
 use Rattle.circuit.specs.Outcome.{Outcome, served, refused, Yields}
 use Rattle.circuit.specs.Words.{gatesOf, checkOutcome}
 use Rattle.circuit.proofs.Outcome.{then-served, then-refused}
-use Rattle.checking.specs.Step.{searchFrom, kindOf, remaining, replaced, Step, found, none, searched, stepGates, filled, servedWords}
+use Rattle.checking.specs.Step.{searchFrom, remaining, Step, found, none, searched, stepGates, filled, servedWords}
 use Rattle.checking.specs.StepLaws.{taken}
 use Rattle.checking.specs.Reduce.{Reduced, tallied, continued, reduceBy, reduceGates, numbered, reduceOutcome, reduceBuffer}
 use Rattle.checking.proofs.step.Moving.{replaced-length}

@@ -1,5 +1,5 @@
 -- The reduction is exactly the relation in document 01's words, and keeps the run and validity. Assumes nothing.
-use mathlib.Core.Path.{_≡_, refl, sym, ap, ap₂, _∙_, subst}
+use mathlib.Core.Path.{_≡_, refl, sym, ap, _∙_, subst}
 use mathlib.Core.Logic.{_↔_}
 use mathlib.Core.Bool.{true}
 use mathlib.Core.List.{List}
@@ -15,7 +15,7 @@ use Rattle.circuit.proofs.words.Laws.{gates-length, valid-all-more, served-chec
 use Rattle.checking.specs.declared.step.Kind.{Kind}
 use Rattle.checking.specs.declared.step.Kind.the-variants.{Cancel, RemoveControl, InvertControl}
 use Rattle.checking.specs.Step.{Step, found, none, stepGates, filled, servedWords}
-use Rattle.checking.specs.StepLaws.{Steps, taken, Keeps, Stands}
+use Rattle.checking.specs.StepLaws.{Steps, Keeps, Stands}
 use Rattle.checking.specs.Reduce.{Reduced, tallied, reduceGates, numbered, reduceOutcome, reduceBuffer}
 use Rattle.checking.specs.ReduceLaws.{Reduces, ends, pairs, drops, turns, ReduceLaws}
 use Rattle.checking.proofs.step.Laws.{step-keeps, step-count, step-is, steps-step, filled-stands, refused-first}

@@ -1,10 +1,10 @@
 -- The laws of the reduction over words: what stands at each turn of the loop. Assumes nothing.
-use mathlib.Core.Path.{_≡_, refl, sym, ap, ap₂, _∙_, subst}
+use mathlib.Core.Path.{_≡_, refl, sym, ap, ap₂, _∙_}
 use mathlib.Core.Bool.{true}
-use mathlib.Core.List.{List, [], _∷_, _++_, append-assoc, append-nil}
-use Prim.Native.Nat.{ℕ, zero, suc, _+_, _-_, _*_, _/_, _%_, _≤_, _<_}
+use mathlib.Core.List.{List, _++_, append-assoc, append-nil}
+use Prim.Native.Nat.{ℕ, _+_, _-_, _*_, _/_, _%_, _≤_}
 use native.Mathlib.Omega.{arith}
-use lib.ListN.{length, take, drop, replicate, length-append, length-replicate, replicate-append-replicate}
+use lib.ListN.{length, take, drop, replicate, replicate-append-replicate}
 use lib.Seq.{take-at, drop-at}
 use borrow.Rule.Slice.PartMut.{putMid}
 use Rattle.circuit.specs.declared.gate.Gate.{Gate}

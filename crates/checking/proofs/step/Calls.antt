@@ -1,13 +1,12 @@
 -- What a step on words answers and leaves. Assumes nothing.
-use mathlib.Core.Path.{_≡_, refl, sym, ap, ap₂, _∙_}
-use mathlib.Core.Bool.{true}
+use mathlib.Core.Path.{_≡_, refl, sym, ap, _∙_}
 use mathlib.Core.List.{List}
-use Prim.Native.Nat.{ℕ, _+_, _/_, _<_, _≤_}
+use Prim.Native.Nat.{ℕ, _+_, _/_, _<_}
 use native.Mathlib.Omega.{arith}
 use lib.ListN.{length}
 use Rattle.circuit.specs.declared.gate.Gate.{Gate}
 use Rattle.circuit.specs.Gate.{maxMiterGates}
-use Rattle.circuit.specs.Outcome.{Outcome, served, refused, andThen, Yields}
+use Rattle.circuit.specs.Outcome.{Outcome, served, refused, Yields}
 use Rattle.circuit.specs.Words.{gatesOf, checkOutcome}
 use Rattle.circuit.proofs.Outcome.{then-served, then-refused}
 use Rattle.circuit.proofs.words.Laws.{gates-length}

@@ -1,8 +1,8 @@
 -- A step keeps the run on every state, validity on every n, and takes one gate or two away. Assumes nothing.
 use mathlib.Core.Path.{_≡_, refl, sym, ap, ap₂, _∙_}
-use mathlib.Core.Bool.{Bool, true, false, _&&_}
+use mathlib.Core.Bool.{true}
 use mathlib.Core.List.{List, [], _∷_, _++_}
-use Prim.Native.Nat.{ℕ, zero, suc, _+_, _-_, _≤_, _<_}
+use Prim.Native.Nat.{ℕ, suc, _+_, _-_, _<_}
 use native.Mathlib.Numerals.{add-one}
 use native.Mathlib.Omega.{arith}
 use lib.ListN.{length, take, drop, getD, length-drop}
@@ -20,7 +20,6 @@ use Rattle.checking.specs.declared.step.Match.the-variants as match
 use Rattle.checking.specs.Step.{mayPass, kindOf, remaining, between, replaced}
 use Rattle.checking.specs.StepLaws.{Matches, gateIn, Candidate, taken}
 use Rattle.checking.proofs.step.Lines.{passing, match-run, match-valid}
-use Rattle.checking.proofs.step.Relation.{gate-valid}
 
 -- the parts of a list of valid gates
 pub valid-parts : (n : ℕ) (xs ys : List Gate) → allValid n (xs ++ ys) ≡ true → (allValid n xs ≡ true) × (allValid n ys ≡ true)

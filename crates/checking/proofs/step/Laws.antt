@@ -5,21 +5,20 @@ use mathlib.Core.Bool.{true}
 use mathlib.Core.List.{List, [], _∷_, _++_}
 use Prim.Native.Nat.{ℕ, _+_, _-_, _*_, _≤_, _<_}
 use native.Mathlib.Omega.{arith}
-use lib.ListN.{length, take, drop, getD, replicate, getD-replicate}
+use lib.ListN.{length, take, getD, replicate, getD-replicate}
 use lib.Seq.{take-at, getD-append-add}
 use Rattle.bits.specs.Lists.{fold}
 use Rattle.circuit.specs.declared.gate.Gate.{Gate}
 use Rattle.circuit.specs.Gate.{maxLines, maxMiterGates, valid}
 use Rattle.circuit.specs.Outcome.{Outcome, served, refused, andThen}
 use Rattle.circuit.specs.Words.{gatesOf, wordsOf, allValid, checkOutcome, Cascade, WordsFault}
-use Rattle.circuit.specs.Run.{run}
 use Rattle.circuit.proofs.Outcome.{never, then-served, then-refused}
 use Rattle.circuit.proofs.gate.Laws.{valid-more}
 use Rattle.circuit.proofs.words.Laws.{gates-length, gates-words, words-length, valid-all-more, served-check, check-refused, refused-check}
 use Rattle.checking.specs.declared.step.Kind.{Kind}
 use Rattle.checking.specs.declared.step.Match.{Match}
-use Rattle.checking.specs.Step.{kindOf, remaining, replaced, filled, Step, found, none, stepGates, counted, stepWords, servedWords, stepOutcome, stepBuffer}
-use Rattle.checking.specs.StepLaws.{Matches, Candidate, Steps, finds, idles, taken, Keeps, Stands, StepLaws}
+use Rattle.checking.specs.Step.{remaining, filled, Step, found, none, stepGates, counted, stepWords, servedWords, stepOutcome, stepBuffer}
+use Rattle.checking.specs.StepLaws.{Matches, Candidate, Steps, finds, taken, Keeps, Stands, StepLaws}
 use Rattle.checking.proofs.step.Lines.{pass-clear, clear-pass, passing, match-run, match-valid}
 use Rattle.checking.proofs.step.Verdicts.{match-found, found-match, match-unique}
 use Rattle.checking.proofs.step.Relation.{step-relation, steps-unique}

@@ -1,15 +1,15 @@
 -- The laws of two gates by lines: gates that may pass commute, and a match keeps the function and validity. Assumes nothing.
 use mathlib.Core.Path.{_≡_, refl, sym, ap, ap₂, _∙_, subst}
-use mathlib.Core.Bool.{Bool, true, false, not, cond, _&&_, _||_, xor, false≢true, true≢false}
+use mathlib.Core.Bool.{Bool, true, false, not, _&&_, _||_, xor, false≢true, true≢false}
 use Prim.Native.Nat.{ℕ, _^_, _<_, _≤_}
 use native.Mathlib.Omega.{arith}
 use lib.Dec.{eqb, ltb}
-use lib.Bits.{bitAnd, bitOr, bitXor, or-add-and, and-le-l, and-le-r, or-self}
+use lib.Bits.{bitAnd, bitOr, or-add-and, and-le-l, and-le-r, or-self}
 use borrow.Author.Tests.{eqb-true, eqb-false, eq-eqb, ne-eqb, ltb-true, ltb-false}
 use Rattle.bits.specs.Digits.{bit}
 use Rattle.bits.specs.Lists.{fold}
 use Rattle.bits.proofs.Bools.{and-parts, both, either, same-test, refuted}
-use Rattle.bits.proofs.Digits.{bit-and, bit-or, bit-xor, bit-pow, bit-none, bits-equal}
+use Rattle.bits.proofs.Digits.{bit-and, bit-or, bit-pow, bit-none, bits-equal}
 use Rattle.circuit.specs.declared.gate.Gate.{Gate}
 use Rattle.circuit.specs.Gate.{maxLines, fires, valid, apply}
 use Rattle.circuit.specs.Laws.{FiresByLines, ValidByLines}
@@ -17,7 +17,6 @@ use Rattle.circuit.specs.Words.{allValid}
 use Rattle.circuit.specs.Run.{run}
 use Rattle.circuit.proofs.gate.Laws.{fires-lines, lines-fires, valid-by-lines, lines-valid, apply-bit, apply-twice}
 use Rattle.checking.specs.declared.step.Match.{Match}
-use Rattle.checking.specs.declared.step.Match.the-variants as match
 use Rattle.checking.specs.Step.{controlLines, mayPass, remaining}
 use Rattle.checking.specs.StepLaws.{Uncontrolled, OneMore, Matches, pair, drop, turn-first, turn-second}
 

@@ -1,9 +1,8 @@
 -- The cases of a match by masks. Assumes nothing.
-use mathlib.Core.Path.{_≡_, refl, sym, ap, ap₂, _∙_}
-use mathlib.Core.Bool.{Bool, true, false, cond}
-use Prim.Native.Nat.{ℕ}
+use mathlib.Core.Path.{_≡_, _∙_}
+use mathlib.Core.Bool.{true, false}
 use lib.Dec.{eqb}
-use lib.Bits.{bitAnd, bitOr, bitXor}
+use lib.Bits.{bitXor}
 use lib.Count.{ones}
 use borrow.Author.Tests.{eq-eqb, ne-eqb}
 use Rattle.bits.proofs.Bools.{cond-true, cond-false}

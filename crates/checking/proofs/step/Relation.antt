@@ -1,15 +1,15 @@
 -- The search finds the lowest i and then the lowest j, and a step is exactly the relation in document 01's words. Assumes nothing.
 use mathlib.Core.Path.{_≡_, refl, sym, ap, ap₂, _∙_, subst}
-use mathlib.Core.Bool.{Bool, true, false, cond, _&&_, false≢true, true≢false}
+use mathlib.Core.Bool.{Bool, true, false, cond}
 use mathlib.Core.List.{List, [], _∷_}
-use Prim.Native.Nat.{ℕ, zero, suc, _+_, _-_, _/_, _≤_, _<_}
+use Prim.Native.Nat.{ℕ, zero, suc, _+_, _/_, _<_}
 use native.Mathlib.Omega.{arith}
-use lib.Dec.{ltb, leb}
-use lib.ListN.{length, getD}
-use borrow.Author.Tests.{ltb-true, ltb-false, leb-true, leb-false}
+use lib.Dec.{leb}
+use lib.ListN.{length}
+use borrow.Author.Tests.{leb-true, leb-false}
 use Rattle.bits.proofs.Bools.{and-parts, either, refuted}
 use Rattle.circuit.specs.declared.gate.Gate.{Gate}
-use Rattle.circuit.specs.Gate.{maxLines, notGate, valid}
+use Rattle.circuit.specs.Gate.{maxLines, valid}
 use Rattle.circuit.specs.Laws.{ValidByLines}
 use Rattle.circuit.specs.Words.{gatesOf, gateAt, allValid}
 use Rattle.circuit.proofs.gate.Laws.{valid-by-lines}
@@ -21,7 +21,7 @@ use Rattle.checking.specs.declared.step.Scan.{Scan}
 use Rattle.checking.specs.declared.step.Scan.the-variants as scans
 use Rattle.checking.specs.declared.step.Search.{Search}
 use Rattle.checking.specs.declared.step.Search.the-variants as hits
-use Rattle.checking.specs.Step.{mayPass, matchOf, judged, scanFrom, scanned, searchFrom, kindOf, remaining, replaced, Step, found, none, searched, stepGates}
+use Rattle.checking.specs.Step.{mayPass, matchOf, judged, scanFrom, scanned, searchFrom, kindOf, remaining, replaced, Step, found, searched, stepGates}
 use Rattle.checking.specs.StepLaws.{Matches, gateIn, Candidate, Steps, finds, idles}
 use Rattle.checking.proofs.step.Verdicts.{match-found, found-match, match-unique}
 

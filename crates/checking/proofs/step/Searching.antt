@@ -1,7 +1,7 @@
 -- The laws of the search over words: one gate at a time. Assumes nothing.
-use mathlib.Core.Path.{_≡_, refl, sym, ap, ap₂, _∙_}
+use mathlib.Core.Path.{_≡_, sym, ap, _∙_}
 use mathlib.Core.Bool.{Bool, true, false, cond}
-use mathlib.Core.List.{List, [], _∷_}
+use mathlib.Core.List.{List, _∷_}
 use Prim.Native.Nat.{ℕ, _+_, _*_, _/_, _≤_, _<_}
 use lib.ListN.{length, drop}
 use Rattle.circuit.specs.declared.gate.Gate.{Gate}

@@ -8,7 +8,6 @@ use lib.Bits.{bitAnd, bitOr, bitXor, xor-self, or-self}
 use lib.Count.{ones}
 use borrow.Author.Tests.{eqb-true, eqb-false, eq-eqb, ne-eqb}
 use Rattle.bits.specs.Digits.{bit}
-use Rattle.bits.proofs.Bools.{either, refuted}
 use Rattle.bits.proofs.Digits.{bit-and, bit-or, bit-xor, bit-pow, bit-none, bits-equal}
 use Rattle.bits.proofs.Single.{ones-zero, single-pow, pow-single}
 use Rattle.circuit.specs.declared.gate.Gate.{Gate}

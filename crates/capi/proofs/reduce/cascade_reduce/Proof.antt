@@ -1,5 +1,5 @@
 -- `capi::reduce::cascade_reduce` meets its contract. Assumes nothing.
-use mathlib.Core.Path.{_≡_, sym, ap, _∙_}
+use mathlib.Core.Path.{sym, ap, _∙_}
 use borrow.Author.Needs.{needs}
 use Rattle.checking.specs.Reduce.{ofReduce}
 use Rattle.capi.specs.Reduce.{reduceAnswer}

@@ -1,5 +1,5 @@
 -- `capi::run::cascade_run` meets its contract. Assumes nothing.
-use mathlib.Core.Path.{_≡_, sym, ap, _∙_}
+use mathlib.Core.Path.{sym, ap, _∙_}
 use borrow.Author.Needs.{needs}
 use Rattle.circuit.specs.Run.{ofRun}
 use Rattle.capi.specs.Run.{runAnswer}

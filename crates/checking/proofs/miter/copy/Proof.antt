@@ -1,11 +1,10 @@
 -- `checking::miter::copy` meets its contract. The loop's invariant: the first i words stand at the buffer's start. Assumes nothing.
-use mathlib.Core.Path.{_≡_, refl, sym, ap, _∙_}
+use mathlib.Core.Path.{_≡_, refl, ap, _∙_}
 use mathlib.Core.List.{List}
 use Prim.Native.Nat.{ℕ, _≤_, _<_, _-_, _+_}
 use native.Mathlib.Omega.{arith}
 use lib.ListN.{length, take, getD, set, length-set}
 use lib.Seq.{take-length}
-use borrow.Author.Needs.{needs}
 use Rattle.bits.specs.Lists.{over}
 use Rattle.bits.proofs.Lists.{over-prefix}
 use Rattle.checking.proofs.miter.copy.Statement.{statement}

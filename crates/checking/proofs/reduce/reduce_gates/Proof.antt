@@ -1,12 +1,12 @@
 -- `checking::reduce::reduce_gates` meets its contract. The loop's invariant: the gates that now stand, whose reduction is what is left to do. Assumes nothing.
-use mathlib.Core.Path.{_≡_, refl, sym, ap, _∙_}
+use mathlib.Core.Path.{_≡_, sym, ap, _∙_}
 use Prim.Native.Nat.{ℕ, _+_, _*_, _-_}
 use native.Mathlib.Omega.{arith}
 use borrow.Author.Needs.{needs}
 use borrow.Rule.Slice.PartMut.{putMid, same-len-mid}
 use Rattle.checking.specs.declared.step.Kind.{Kind}
 use Rattle.checking.specs.declared.step.Kind.the-variants.{Cancel, RemoveControl, InvertControl}
-use Rattle.checking.specs.Step.{found, none, ofStepped}
+use Rattle.checking.specs.Step.{found, ofStepped}
 use Rattle.checking.specs.StepLaws.{taken}
 use Rattle.checking.proofs.reduce.Turns.{Standing, standing-first, lent-whole, lent-valid, ended, left-less, onward, pairsOf, mergesOf}
 use Rattle.checking.proofs.reduce.reduce_gates.Statement.{statement}

@@ -1,10 +1,8 @@
 -- `checking::step::clear_from` meets its contract. The loop's invariant: the words from `at` up to k are 0, the others as they were. Assumes nothing.
-use mathlib.Core.Path.{_≡_, refl, sym, ap, _∙_}
-use mathlib.Core.List.{List, append-nil}
-use Prim.Native.Nat.{ℕ, _≤_, _-_}
+use mathlib.Core.Path.{_≡_, refl, _∙_}
+use Prim.Native.Nat.{_≤_, _-_}
 use native.Mathlib.Omega.{arith}
-use lib.ListN.{length, take, drop, length-set, take-append-drop}
-use lib.Seq.{length-take-le}
+use lib.ListN.{length, length-set}
 use borrow.Author.Needs.{needs}
 use Rattle.bits.specs.Lists.{over}
 use Rattle.checking.proofs.step.Moving.{cleared, cleared-none, cleared-more, cleared-all}

@@ -1,5 +1,5 @@
 -- `checking::step::match_gates` meets its contract. Assumes nothing.
-use mathlib.Core.Path.{_≡_, sym, _∙_}
+use mathlib.Core.Path.{sym, _∙_}
 use borrow.Author.Needs.{needs}
 use borrow.Author.Tests.{not-true, not-false}
 use Rattle.checking.specs.Step.{differing, controlRemoved, controlInverted}

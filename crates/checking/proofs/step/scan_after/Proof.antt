@@ -1,8 +1,8 @@
 -- `checking::step::scan_after` meets its contract. The loop's invariant: gate i matches none of the gates passed, so what is left decides. Assumes nothing.
-use mathlib.Core.Path.{_≡_, refl, sym, ap, ap₂, _∙_}
-use Prim.Native.Nat.{ℕ, _≤_, _<_, _-_, _*_, _/_, _+_}
+use mathlib.Core.Path.{_≡_, sym, ap, _∙_}
+use Prim.Native.Nat.{_≤_, _<_, _-_, _*_, _+_}
 use native.Mathlib.Omega.{arith}
-use lib.ListN.{length, drop}
+use lib.ListN.{drop}
 use borrow.Author.Needs.{needs}
 use borrow.Author.Tests.{not-true, not-false}
 use Rattle.circuit.specs.declared.gate.Gate.{Gate}
