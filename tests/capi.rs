@@ -58,6 +58,13 @@ extern "C" {
         out_len: usize,
     ) -> CountAnswer;
     pub fn cascade_sizes(lines: u64, words: *const u64, words_len: usize) -> SizesAnswer;
+    pub fn cascade_emit(
+        lines: u64,
+        words: *const u64,
+        words_len: usize,
+        out: *mut i16,
+        out_len: usize,
+    ) -> SizesAnswer;
     pub fn cascade_miter(
         a_lines: u64,
         a: *const u64,

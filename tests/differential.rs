@@ -5,6 +5,7 @@
 //! expected.rs, and a file in calls/ whose `section` stands in the list below.
 
 mod calls {
+    pub mod emit;
     pub mod inverse;
     pub mod miter;
     pub mod reduce;
@@ -34,6 +35,7 @@ const SECTIONS: &[fn(&mut Random) -> Counts] = &[
     calls::miter::section,
     calls::step::section,
     calls::reduce::section,
+    calls::emit::section,
 ];
 
 fn main() {

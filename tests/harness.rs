@@ -21,6 +21,12 @@ impl Element for u64 {
     }
 }
 
+impl Element for i16 {
+    fn guard(index: usize) -> i16 {
+        0x5a00 + index as i16
+    }
+}
+
 /// A buffer to lend to a call, with guards before and after.
 pub struct Buffer<T> {
     memory: Vec<T>,

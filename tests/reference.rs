@@ -510,3 +510,28 @@ pub fn sizes(n: u64, words: &[u64]) -> Result<Sizes, Refusal> {
         words: total,
     })
 }
+
+/// The clause as it is stored: 0 for OR or 1 for XOR, the literal count, the literals.
+fn stored(clause: &Clause) -> Vec<i64> {
+    let (kind, literals) = match clause {
+        Clause::Or(literals) => (0, literals),
+        Clause::Xor(literals) => (1, literals),
+    };
+    let mut words = vec![kind, literals.len() as i64];
+    words.extend(literals);
+    words
+}
+
+/// The sizes; the stored clauses are at the buffer's start.
+pub fn emit(n: u64, words: &[u64], out: &mut [i16]) -> Result<Sizes, Refusal> {
+    let sizes = sizes(n, words)?;
+    let list = clause_list(n, &gates_of(words));
+    let answer: Vec<i64> = list.clauses.iter().flat_map(stored).collect();
+    if short_buffer(out, answer.len()) {
+        return refuse(10, 0);
+    }
+    for (word, value) in out.iter_mut().zip(answer) {
+        *word = i16::try_from(value).expect("every word of a list fits 16 bits");
+    }
+    Ok(sizes)
+}

@@ -10,6 +10,7 @@ pub fn check() {
     pairs();
     clauses();
     sizes();
+    emission();
     miter();
     starred_steps();
     reductions();
@@ -135,6 +136,24 @@ fn sizes() {
     };
     assert_eq!(reference::sizes(1, &[]), sizes(2, 2, 6));
     assert_eq!(reference::sizes(3, &[3, 0, 2]), sizes(8, 8, 34));
+}
+
+/// 01's printed example in words, with the rest of the buffer; and a buffer one word short.
+fn emission() {
+    let printed = [1, 3, -3, 2, 1, 0, 1, -4, 1, 3, -5, 2, 3, 0, 2, 4, 5];
+    let mut out = [9; 19];
+    let sizes = Sizes {
+        variables: 5,
+        clauses: 4,
+        words: 17,
+    };
+    assert_eq!(reference::emit(2, &[1, 0, 1], &mut out), Ok(sizes));
+    assert_eq!(out[..17], printed);
+    assert_eq!(out[17..], [9, 9]);
+    let mut short = [9; 16];
+    let answer = reference::emit(2, &[1, 0, 1], &mut short);
+    assert_eq!(answer, refusal(10, 0));
+    assert_eq!(short, [9; 16]);
 }
 
 /// A's gates, then B's reversed; the rest stays.

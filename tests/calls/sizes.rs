@@ -67,7 +67,7 @@ fn each_control_count(random: &mut Random, counts: &mut Counts) {
 }
 
 /// A gate on 64 lines with so many controls, those in `positive` positive.
-fn gate(random: &mut Random, controls: u32, positive: u64) -> [u64; 3] {
+pub fn gate(random: &mut Random, controls: u32, positive: u64) -> [u64; 3] {
     let target = random.below(64);
     let mut mask: u64 = 0;
     while mask.count_ones() < controls {
