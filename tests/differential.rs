@@ -5,6 +5,10 @@
 //! expected.rs, and a file in calls/ whose `section` stands in the list below.
 
 mod calls {
+    pub mod differs;
+    pub mod faults;
+    pub mod fewer;
+    pub mod first_difference;
     pub mod inverse;
     pub mod miter;
     pub mod reduce;
@@ -34,6 +38,10 @@ const SECTIONS: &[fn(&mut Random) -> Counts] = &[
     calls::miter::section,
     calls::step::section,
     calls::reduce::section,
+    calls::first_difference::section,
+    calls::differs::section,
+    calls::fewer::section,
+    calls::faults::section,
 ];
 
 fn main() {

@@ -1,5 +1,7 @@
 // The C interface: each call of include/cascade.h, over the call of the same name.
+pub mod compare;
 pub mod count;
+pub mod faults;
 pub mod inverse;
 pub mod miter;
 pub mod reduce;
