@@ -1,8 +1,10 @@
 //! Times the C interface of the library against plain Rust, in one run and on the same inputs. Fails
 //! where the library takes more than `LIMIT` times as long.
 
+#[allow(dead_code)]
 #[path = "../tests/capi.rs"]
 mod capi;
+mod faults;
 mod plain;
 #[allow(dead_code)]
 #[path = "../tests/random.rs"]
@@ -215,9 +217,10 @@ fn main() {
     for work in &works {
         let library = || time_sizes(work, library_sizes);
         let plain = || time_sizes(work, plain::sizes);
-        highest = highest.max(compare("cascade_sizes", work.name, library, plain));
+        highest = highest.max(compare("cascade_sizes", work.name, ROUNDS, library, plain));
     }
     highest = highest.max(steps::highest());
+    highest = highest.max(faults::highest());
     println!("bench: the highest ratio is {highest:.2}, the limit {LIMIT}");
     println!("\nagainst plain Rust with std::hint::select_unpredictable (not judged)");
     for work in &works {

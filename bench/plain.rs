@@ -1,6 +1,6 @@
 //! The calls in plain Rust, written for speed, with the same answers as the C interface.
 
-use crate::capi::{CountAnswer, ReduceAnswer, RunAnswer, SizesAnswer, StepAnswer};
+use crate::capi::{CountAnswer, ReduceAnswer, RunAnswer, SizesAnswer, StateAnswer, StepAnswer};
 use std::hint::select_unpredictable;
 
 const LIMIT: usize = 1024;
@@ -184,6 +184,20 @@ fn refusal(n: u64, words: &[u64], limit: usize) -> (u64, u64) {
     }
 }
 
+/// The number and place of what is wrong with two cascades, or 0 and 0.
+fn pair_refusal(na: u64, a: &[u64], nb: u64, b: &[u64]) -> (u64, u64) {
+    for (n, words) in [(na, a), (nb, b)] {
+        let (number, place) = refusal(n, words, LIMIT);
+        if number != 0 {
+            return (number, place);
+        }
+    }
+    if na != nb {
+        return (8, 0);
+    }
+    (0, 0)
+}
+
 /// Tests both, then copies A and B's gates from the last to the first.
 #[inline(never)]
 pub fn miter(na: u64, a: &[u64], nb: u64, b: &[u64], out: &mut [u64]) -> CountAnswer {
@@ -192,14 +206,9 @@ pub fn miter(na: u64, a: &[u64], nb: u64, b: &[u64], out: &mut [u64]) -> CountAn
         place,
         gates: 0,
     };
-    for (n, words) in [(na, a), (nb, b)] {
-        let (number, place) = refusal(n, words, LIMIT);
-        if number != 0 {
-            return refused(number, place);
-        }
-    }
-    if na != nb {
-        return refused(8, 0);
+    let (number, place) = pair_refusal(na, a, nb, b);
+    if number != 0 {
+        return refused(number, place);
     }
     let Some(out) = out.get_mut(..a.len() + b.len()) else {
         return refused(10, 0);
@@ -302,4 +311,88 @@ pub fn reduce(n: u64, words: &mut [u64]) -> ReduceAnswer {
         pairs,
         merges,
     }
+}
+
+/// The output of gates that are known to be valid.
+#[inline(always)]
+fn output(gates: &[[u64; 3]], state: u64) -> u64 {
+    gates
+        .iter()
+        .fold(state, |state, &[positive, negative, target]| {
+            let fires = (state ^ positive) & (positive | negative) == 0;
+            state ^ (fires as u64) << (target & 63)
+        })
+}
+
+/// One state at a time, from 0 on.
+#[inline(never)]
+pub fn first_difference(na: u64, a: &[u64], nb: u64, b: &[u64]) -> StateAnswer {
+    let answer = |number, place, found, state| StateAnswer {
+        number,
+        place,
+        found,
+        state,
+    };
+    let (number, place) = pair_refusal(na, a, nb, b);
+    if number != 0 {
+        return answer(number, place, 0, 0);
+    }
+    if na > 16 {
+        return answer(13, 0, 0, 0);
+    }
+    let (first, second) = (a.as_chunks().0, b.as_chunks().0);
+    for state in 0..1 << na {
+        if output(first, state) != output(second, state) {
+            return answer(0, 0, 1, state);
+        }
+    }
+    answer(0, 0, 0, 0)
+}
+
+/// Tests the list, then narrows the masks of all gates by one state at a time.
+#[inline(never)]
+pub fn fault_masks(
+    na: u64,
+    a: &[u64],
+    nb: u64,
+    b: &[u64],
+    states: &[u64],
+    out: &mut [u64],
+) -> CountAnswer {
+    let answer = |number, place, gates| CountAnswer {
+        number,
+        place,
+        gates,
+    };
+    let (number, place) = pair_refusal(na, a, nb, b);
+    if number != 0 {
+        return answer(number, place, 0);
+    }
+    let lines_from_n = lines_from(na);
+    if let Some(index) = states.iter().position(|state| state & lines_from_n != 0) {
+        return answer(9, index as u64, 0);
+    }
+    let (suspect, reference) = (a.as_chunks().0, b.as_chunks().0);
+    let agree = |state: &u64| output(suspect, *state) == output(reference, *state);
+    if let Some(index) = states.iter().position(agree) {
+        return answer(12, index as u64, 0);
+    }
+    let Some(out) = out.get_mut(..2 * suspect.len()) else {
+        return answer(10, 0, 0);
+    };
+    let masks = out.as_chunks_mut().0;
+    for (masks, [positive, negative, target]) in masks.iter_mut().zip(suspect) {
+        *masks = [!(positive | negative | 1u64.wrapping_shl(*target as u32) | lines_from_n); 2];
+    }
+    for &state in states {
+        let mut state = state;
+        for ([first, second], &[positive, negative, target]) in masks.iter_mut().zip(suspect) {
+            let fires = ((state ^ positive) & (positive | negative) == 0) as u64;
+            let all = fires.wrapping_neg();
+            *first &= !state & all;
+            *second &= state & all;
+            state ^= fires << (target & 63);
+        }
+    }
+    answer(0, 0, suspect.len() as u64)
 }

@@ -48,6 +48,32 @@ pub struct ReduceAnswer {
     pub merges: u64,
 }
 
+#[repr(C)]
+#[derive(Clone, Copy, Debug, PartialEq)]
+pub struct StateAnswer {
+    pub number: u64,
+    pub place: u64,
+    pub found: u64,
+    pub state: u64,
+}
+
+#[repr(C)]
+#[derive(Clone, Copy, Debug, PartialEq)]
+pub struct DiffersAnswer {
+    pub number: u64,
+    pub place: u64,
+    pub differs: u64,
+}
+
+#[repr(C)]
+#[derive(Clone, Copy, Debug, PartialEq)]
+pub struct FewerAnswer {
+    pub number: u64,
+    pub place: u64,
+    pub second: u64,
+    pub gates: u64,
+}
+
 extern "C" {
     pub fn cascade_run(lines: u64, words: *const u64, words_len: usize, state: u64) -> RunAnswer;
     pub fn cascade_inverse(
@@ -77,4 +103,41 @@ extern "C" {
     ) -> CountAnswer;
     pub fn cascade_step(lines: u64, words: *mut u64, words_len: usize) -> StepAnswer;
     pub fn cascade_reduce(lines: u64, words: *mut u64, words_len: usize) -> ReduceAnswer;
+    pub fn cascade_first_difference(
+        a_lines: u64,
+        a: *const u64,
+        a_len: usize,
+        b_lines: u64,
+        b: *const u64,
+        b_len: usize,
+    ) -> StateAnswer;
+    pub fn cascade_differs(
+        a_lines: u64,
+        a: *const u64,
+        a_len: usize,
+        b_lines: u64,
+        b: *const u64,
+        b_len: usize,
+        state: u64,
+    ) -> DiffersAnswer;
+    pub fn cascade_fewer_gates(
+        a_lines: u64,
+        a: *const u64,
+        a_len: usize,
+        b_lines: u64,
+        b: *const u64,
+        b_len: usize,
+    ) -> FewerAnswer;
+    pub fn cascade_fault_masks(
+        a_lines: u64,
+        a: *const u64,
+        a_len: usize,
+        b_lines: u64,
+        b: *const u64,
+        b_len: usize,
+        states: *const u64,
+        states_len: usize,
+        out: *mut u64,
+        out_len: usize,
+    ) -> CountAnswer;
 }

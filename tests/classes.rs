@@ -1,7 +1,8 @@
 //! Classes of cases that must occur for every call that is given a cascade.
 
 use crate::harness::Counts;
-use crate::reference::{self, has, Gate};
+use crate::inputs::Cascade;
+use crate::reference::{self, has, Gate, CASCADE_GATES};
 
 /// The classes that `count_cascade` counts.
 pub const CASCADE: &[&str] = &[
@@ -53,6 +54,30 @@ pub fn cascade_offences(lines: u64, words: &[u64], limit: usize) -> Vec<u64> {
         if holds {
             offences.push(number);
         }
+    }
+    offences
+}
+
+/// The tests of two cascades by name: those of the first, those of the second, then 8.
+pub fn pair_tests() -> Vec<String> {
+    let mut names = Vec::new();
+    for which in ["first", "second"] {
+        names.extend([2, 11, 6, 7].map(|number| format!("{number} of the {which}")));
+    }
+    names.push("8".to_string());
+    names
+}
+
+/// The names of the tests that hold of two cascades, each judged by itself.
+pub fn pair_offences(a: &Cascade, b: &Cascade) -> Vec<String> {
+    let mut offences = Vec::new();
+    for (cascade, which) in [(a, "first"), (b, "second")] {
+        for number in cascade_offences(cascade.lines, &cascade.words, CASCADE_GATES) {
+            offences.push(format!("{number} of the {which}"));
+        }
+    }
+    if a.lines != b.lines {
+        offences.push("8".to_string());
     }
     offences
 }

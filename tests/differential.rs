@@ -6,6 +6,10 @@
 
 mod calls {
     pub mod emit;
+    pub mod differs;
+    pub mod faults;
+    pub mod fewer;
+    pub mod first_difference;
     pub mod inverse;
     pub mod miter;
     pub mod reduce;
@@ -36,6 +40,10 @@ const SECTIONS: &[fn(&mut Random) -> Counts] = &[
     calls::step::section,
     calls::reduce::section,
     calls::emit::section,
+    calls::first_difference::section,
+    calls::differs::section,
+    calls::fewer::section,
+    calls::faults::section,
 ];
 
 fn main() {

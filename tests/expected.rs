@@ -1,8 +1,9 @@
 //! The reference's answers in the numbers of the C interface: number 0 for a served call, and 0 for
 //! each value that a case does not have.
 
-use crate::capi::{CountAnswer, ReduceAnswer, RunAnswer, SizesAnswer, StepAnswer};
-use crate::reference::{Found, Match, Reduced, Refusal, Sizes};
+use crate::capi::{CountAnswer, DiffersAnswer, FewerAnswer, ReduceAnswer};
+use crate::capi::{RunAnswer, SizesAnswer, StateAnswer, StepAnswer};
+use crate::reference::{Found, Match, Picked, Reduced, Refusal, Sizes};
 
 pub fn run_answer(answer: Result<u64, Refusal>) -> RunAnswer {
     match answer {
@@ -100,5 +101,44 @@ pub fn reduce_answer(answer: Result<Reduced, Refusal>) -> ReduceAnswer {
             pairs: 0,
             merges: 0,
         },
+    }
+}
+
+pub fn state_answer(answer: Result<Option<u64>, Refusal>) -> StateAnswer {
+    let (number, place, found, state) = match answer {
+        Ok(Some(state)) => (0, 0, 1, state),
+        Ok(None) => (0, 0, 0, 0),
+        Err(Refusal { number, place }) => (number, place, 0, 0),
+    };
+    StateAnswer {
+        number,
+        place,
+        found,
+        state,
+    }
+}
+
+pub fn differs_answer(answer: Result<bool, Refusal>) -> DiffersAnswer {
+    let (number, place, differs) = match answer {
+        Ok(differs) => (0, 0, u64::from(differs)),
+        Err(Refusal { number, place }) => (number, place, 0),
+    };
+    DiffersAnswer {
+        number,
+        place,
+        differs,
+    }
+}
+
+pub fn fewer_answer(answer: Result<Picked, Refusal>) -> FewerAnswer {
+    let (number, place, second, gates) = match answer {
+        Ok(picked) => (0, 0, u64::from(picked.second), picked.gates as u64),
+        Err(Refusal { number, place }) => (number, place, 0, 0),
+    };
+    FewerAnswer {
+        number,
+        place,
+        second,
+        gates,
     }
 }

@@ -1,6 +1,7 @@
 //! Inputs of the calls: line counts, gates, cascades good and damaged, states, buffer lengths.
 
 use crate::random::Random;
+use crate::reference::{self, CASCADE_GATES};
 
 /// A line count and words as a call gets them, good or bad, and a state to start from.
 #[derive(Clone, Debug)]
@@ -309,6 +310,90 @@ pub fn faulty_cascade(random: &mut Random, faults: [bool; 4], limit: usize) -> C
         cascade.lines = bad_line_count(random);
     }
     cascade
+}
+
+// ---- two cascades
+
+/// Hands over two cascades with each choice of faults, on the same lines and on any.
+pub fn each_faulty_pair(
+    random: &mut Random,
+    check: &mut impl FnMut(&mut Random, Cascade, Cascade),
+) {
+    for mask in 0..256u32 {
+        let faults = |shift: u32| [0, 1, 2, 3].map(|bit| mask >> (shift + bit) & 1 == 1);
+        for same_lines in [true, false] {
+            let a = faulty_cascade(random, faults(0), CASCADE_GATES);
+            let mut b = faulty_cascade(random, faults(4), CASCADE_GATES);
+            if same_lines {
+                b.lines = a.lines;
+            }
+            check(random, a, b);
+        }
+    }
+}
+
+/// Two cascades, mostly on the same lines, the second often the first or nearly so.
+pub fn pair(random: &mut Random) -> (Cascade, Cascade) {
+    let a = cascade(random, CASCADE_GATES);
+    let mut b = cascade(random, CASCADE_GATES);
+    if random.one_in(2) {
+        b = a.clone();
+    }
+    if random.one_in(4) && reference::test_cascade(b.lines, &b.words, CASCADE_GATES).is_ok() {
+        change_gate(random, b.lines, &mut b.words);
+    }
+    if !random.one_in(6) {
+        b.lines = a.lines;
+    }
+    (a, b)
+}
+
+/// A control that a gate of the suspect lacks.
+#[derive(Clone, Copy, Debug)]
+pub struct Missing {
+    pub gate: usize,
+    pub line: u64,
+    pub positive: bool,
+}
+
+/// A suspect that lacks one control of the reference, and states on which the two differ: before the
+/// gate, its other controls are met and the missing one is not.
+pub fn suspect(right: &Cascade, missing: Missing, states: &[u64]) -> (Cascade, Vec<u64>) {
+    let mut suspect = right.clone();
+    let at = 3 * missing.gate;
+    let bit = 1 << missing.line;
+    suspect.words[at] &= !bit;
+    suspect.words[at + 1] &= !bit;
+    let (before, gate) = (&suspect.words[..at], &suspect.words[at..at + 3]);
+    let not_met = if missing.positive { 0 } else { bit };
+    let input = |state: &u64| {
+        let failing = ((state | gate[0]) & !gate[1] & !bit) | not_met;
+        before.rchunks(3).fold(failing, |state, gate| {
+            let fires = (state ^ gate[0]) & (gate[0] | gate[1]) == 0;
+            state ^ (u64::from(fires) << gate[2])
+        })
+    };
+    let states = states.iter().map(input).collect();
+    (suspect, states)
+}
+
+/// One of the controls of a cascade's gates, where it has any.
+pub fn any_control(random: &mut Random, cascade: &Cascade) -> Option<Missing> {
+    let mut controls = Vec::new();
+    for (gate, words) in cascade.words.chunks(3).enumerate() {
+        for line in 0..64 {
+            for (mask, positive) in [(words[0], true), (words[1], false)] {
+                if mask >> line & 1 == 1 {
+                    controls.push(Missing {
+                        gate,
+                        line,
+                        positive,
+                    });
+                }
+            }
+        }
+    }
+    (!controls.is_empty()).then(|| random.pick(&controls))
 }
 
 // ---- every edge of the rules

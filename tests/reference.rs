@@ -535,3 +535,136 @@ pub fn emit(n: u64, words: &[u64], out: &mut [i16]) -> Result<Sizes, Refusal> {
     }
     Ok(sizes)
 }
+
+// ---- sweep
+
+/// The most lines of a sweep.
+pub const SWEEP_LINES: u64 = 16;
+
+/// 13: a sweep with n over 16.
+pub fn too_wide(n: u64) -> bool {
+    n > SWEEP_LINES
+}
+
+/// The output of gates on a state.
+fn output(gates: &[Gate], state: u64) -> u64 {
+    gates.iter().fold(state, |state, gate| gate.apply(state))
+}
+
+/// The lowest state on which the two differ, or none.
+pub fn first_difference(na: u64, a: &[u64], nb: u64, b: &[u64]) -> Result<Option<u64>, Refusal> {
+    let (first, second) = test_pair(na, a, nb, b)?;
+    if too_wide(na) {
+        return refuse(13, 0);
+    }
+    for state in 0..1 << na {
+        if output(&first, state) != output(&second, state) {
+            return Ok(Some(state));
+        }
+    }
+    Ok(None)
+}
+
+// ---- input check
+
+/// Whether the two differ on the state.
+pub fn differs(na: u64, a: &[u64], nb: u64, b: &[u64], state: u64) -> Result<bool, Refusal> {
+    let (first, second) = test_pair(na, a, nb, b)?;
+    if bad_state(na, state) {
+        return refuse(9, 0);
+    }
+    Ok(output(&first, state) != output(&second, state))
+}
+
+// ---- pick
+
+/// Which of two cascades is picked, and how many gates it has.
+#[derive(Clone, Copy, Debug, PartialEq)]
+pub struct Picked {
+    pub second: bool,
+    pub gates: usize,
+}
+
+/// The one with fewer gates, the first on a tie.
+pub fn pick(na: u64, a: &[u64], nb: u64, b: &[u64]) -> Result<Picked, Refusal> {
+    let (first, second) = test_pair(na, a, nb, b)?;
+    if second.len() < first.len() {
+        return Ok(Picked {
+            second: true,
+            gates: second.len(),
+        });
+    }
+    Ok(Picked {
+        second: false,
+        gates: first.len(),
+    })
+}
+
+// ---- faults
+
+/// 9: the index of the first state of the list that is 2^n or more.
+pub fn first_bad_state(n: u64, states: &[u64]) -> Option<u64> {
+    let index = states.iter().position(|state| bad_state(n, *state))?;
+    Some(index as u64)
+}
+
+/// 12: the index of the first state of the list on which the two agree.
+pub fn first_agreeing_state(suspect: &[Gate], reference: &[Gate], states: &[u64]) -> Option<u64> {
+    let agree = |state: &u64| output(suspect, *state) == output(reference, *state);
+    Some(states.iter().position(agree)? as u64)
+}
+
+/// The lines that may be a missing positive control of the gate, and a missing negative one. `runs`
+/// has the state before the gate in the suspect's run, for each given state.
+fn gate_masks(n: u64, gate: Gate, runs: &[u64]) -> [u64; 2] {
+    let mut masks = [0; 2];
+    let fires = runs.iter().all(|state| gate.fires(*state));
+    for line in 0..n {
+        if line == gate.target || gate.control(line).is_some() {
+            continue;
+        }
+        if fires && runs.iter().all(|state| !has(*state, line)) {
+            masks[0] += 1 << line;
+        }
+        if fires && runs.iter().all(|state| has(*state, line)) {
+            masks[1] += 1 << line;
+        }
+    }
+    masks
+}
+
+/// The suspect's gate count; two masks a gate of it are at the buffer's start.
+pub fn fault_masks(
+    na: u64,
+    suspect: &[u64],
+    nb: u64,
+    reference: &[u64],
+    states: &[u64],
+    out: &mut [u64],
+) -> Result<u64, Refusal> {
+    let (gates, right) = test_pair(na, suspect, nb, reference)?;
+    if let Some(index) = first_bad_state(na, states) {
+        return refuse(9, index);
+    }
+    if let Some(index) = first_agreeing_state(&gates, &right, states) {
+        return refuse(12, index);
+    }
+    if short_buffer(out, 2 * gates.len()) {
+        return refuse(10, 0);
+    }
+    let mut runs = states.to_vec();
+    for (i, gate) in gates.iter().enumerate() {
+        out[2 * i..2 * i + 2].copy_from_slice(&gate_masks(na, *gate, &runs));
+        for state in &mut runs {
+            *state = gate.apply(*state);
+        }
+    }
+    Ok(gates.len() as u64)
+}
+
+/// The gates with one control more, at a gate's line that is neither its target nor a control.
+pub fn with_added_control(gates: &[Gate], index: usize, line: u64, positive: bool) -> Vec<Gate> {
+    let mut repaired = gates.to_vec();
+    repaired[index] = repaired[index].with_control(line, Some(positive));
+    repaired
+}

@@ -1,6 +1,7 @@
 //! Checks of the reference itself: the starred rows of document 01 and small cases worked by hand.
 
-use crate::reference::{self, Clause, ClauseList, Found, Gate, Match, Reduced, Refusal, Sizes};
+use crate::reference::{self, Clause, ClauseList, Found, Gate};
+use crate::reference::{Match, Picked, Reduced, Refusal, Sizes};
 
 pub fn check() {
     starred_runs();
@@ -14,6 +15,8 @@ pub fn check() {
     miter();
     starred_steps();
     reductions();
+    comparisons();
+    faults();
     models();
 }
 
@@ -214,6 +217,61 @@ fn reductions() {
     assert_eq!(reduce(&[[0, 0, 0]; 4]), reduced(0, 2, 0));
     assert_eq!(reduce(&[[3, 0, 2], [1, 2, 2], [1, 0, 2]]), reduced(0, 1, 1));
     assert_eq!(reduce(&[[1, 0, 2], [0, 0, 0]]), reduced(2, 0, 0));
+}
+
+/// The lowest of several differences, none, the input check, the pick, and tests that compete.
+fn comparisons() {
+    let (t2_with_0, t2_with_0_and_1) = ([1, 0, 2], [3, 0, 2]);
+    let two_nots = [0; 6];
+    let sweep = reference::first_difference;
+    assert_eq!(sweep(3, &t2_with_0, 3, &t2_with_0_and_1), Ok(Some(1)));
+    assert_eq!(sweep(3, &t2_with_0_and_1, 3, &[]), Ok(Some(3)));
+    assert_eq!(sweep(3, &two_nots, 3, &[]), Ok(None));
+    assert_eq!(sweep(17, &[], 17, &[]), refusal(13, 0));
+    assert_eq!(sweep(17, &[], 16, &[]), refusal(8, 0));
+    assert_eq!(sweep(17, &[], 17, &[0, 0, 17]), refusal(7, 0));
+    let differs = reference::differs;
+    assert_eq!(differs(3, &t2_with_0, 3, &t2_with_0_and_1, 1), Ok(true));
+    assert_eq!(differs(3, &t2_with_0, 3, &t2_with_0_and_1, 3), Ok(false));
+    assert_eq!(differs(3, &[], 3, &[], 8), refusal(9, 0));
+    assert_eq!(differs(3, &[], 4, &[], 8), refusal(8, 0));
+    let picked = |second, gates| Ok(Picked { second, gates });
+    assert_eq!(reference::pick(3, &two_nots, 3, &[]), picked(true, 0));
+    assert_eq!(reference::pick(3, &[], 3, &two_nots), picked(false, 0));
+    assert_eq!(reference::pick(3, &t2_with_0, 3, &[0; 3]), picked(false, 1));
+    assert_eq!(reference::pick(3, &[], 4, &[]), refusal(8, 0));
+}
+
+/// The starred row on faults; no states; the network 3_17 of document 002; tests that compete.
+fn faults() {
+    let (t2_with_0, t2_with_0_and_1) = ([1, 0, 2], [3, 0, 2]);
+    let masks = |suspect: &[u64], right: &[u64], states: &[u64], out: &mut [u64]| {
+        reference::fault_masks(3, suspect, 3, right, states, out)
+    };
+    let mut out = [9; 3];
+    assert_eq!(masks(&t2_with_0, &t2_with_0_and_1, &[1], &mut out), Ok(1));
+    assert_eq!(out, [2, 0, 9]);
+    assert_eq!(masks(&t2_with_0, &[], &[], &mut out), Ok(1));
+    assert_eq!(out, [2, 2, 9]);
+    let mut refused = |states: &[u64], room| {
+        let answer = masks(&t2_with_0, &t2_with_0_and_1, states, &mut out[..room]);
+        assert_eq!(out, [2, 2, 9]);
+        answer
+    };
+    assert_eq!(refused(&[3, 8], 1), refusal(9, 1));
+    assert_eq!(refused(&[1, 3], 1), refusal(12, 1));
+    assert_eq!(refused(&[1], 1), refusal(10, 0));
+    let first = [1, 0, 1];
+    let rest = [[0, 0, 2], [4, 0, 1], [1, 0, 2], [6, 0, 0]].concat();
+    let right = [&first[..], &[6, 0, 0], &rest].concat();
+    let suspect = [&first[..], &[4, 0, 0], &rest].concat();
+    assert_eq!(
+        reference::first_difference(3, &suspect, 3, &right),
+        Ok(Some(4))
+    );
+    let mut out = [9; 12];
+    assert_eq!(masks(&suspect, &right, &[4, 7], &mut out), Ok(6));
+    assert_eq!(out[..4], [0, 0, 2, 0], "only line 1 of the second gate");
 }
 
 /// Every assignment of small lists: an input that the gates change is spelled by exactly one that

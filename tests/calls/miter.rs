@@ -34,20 +34,14 @@ struct Case {
 
 pub fn section(random: &mut Random) -> Counts {
     let mut counts = Counts::new("cascade_miter");
-    counts.require_tests(&tests());
+    let mut tests = classes::pair_tests();
+    tests.push("10".to_string());
+    counts.require_tests(&tests);
     classes::require_pointers(&mut counts, &["a", "b", "out"]);
     counts.require(CLASSES);
-    for mask in 0..256u32 {
-        let faults = |shift: u32| [0, 1, 2, 3].map(|bit| mask >> (shift + bit) & 1 == 1);
-        for same_lines in [true, false] {
-            let a = inputs::faulty_cascade(random, faults(0), CASCADE_GATES);
-            let mut b = inputs::faulty_cascade(random, faults(4), CASCADE_GATES);
-            if same_lines {
-                b.lines = a.lines;
-            }
-            each_length(random, a, b, &mut counts);
-        }
-    }
+    inputs::each_faulty_pair(random, &mut |random, a, b| {
+        each_length(random, a, b, &mut counts);
+    });
     for (first, second) in [(1024, 1024), (1024, 0), (0, 1024), (0, 0), (1, 1023)] {
         let a = inputs::good_cascade(random, 64, first);
         let b = inputs::good_cascade(random, 64, second);
@@ -58,16 +52,6 @@ pub fn section(random: &mut Random) -> Counts {
         check(&case, &mut counts);
     }
     counts
-}
-
-/// The tests by name: those of the first cascade, those of the second, then 8 and 10.
-fn tests() -> Vec<String> {
-    let mut names = Vec::new();
-    for which in ["first", "second"] {
-        names.extend([2, 11, 6, 7].map(|number| format!("{number} of the {which}")));
-    }
-    names.extend(["8".to_string(), "10".to_string()]);
-    names
 }
 
 fn each_length(random: &mut Random, a: Cascade, b: Cascade, counts: &mut Counts) {
@@ -82,16 +66,8 @@ fn each_length(random: &mut Random, a: Cascade, b: Cascade, counts: &mut Counts)
     }
 }
 
-/// Two cascades, mostly on the same lines, the second often the first or nearly so.
 fn random_case(random: &mut Random) -> Case {
-    let a = inputs::cascade(random, CASCADE_GATES);
-    let mut b = inputs::cascade(random, CASCADE_GATES);
-    if random.one_in(2) {
-        b = a.clone();
-    }
-    if !random.one_in(6) {
-        b.lines = a.lines;
-    }
+    let (a, b) = inputs::pair(random);
     let length = inputs::buffer_length(random, a.words.len() + b.words.len());
     let out = random.words(length);
     Case {
@@ -167,16 +143,8 @@ fn check_identity(case: &Case, miter: &[u64]) -> bool {
 
 fn count(case: &Case, number: u64, counts: &mut Counts) {
     let Case { a, b, out, .. } = case;
-    let mut offences = Vec::new();
-    for (cascade, which) in [(a, "first"), (b, "second")] {
-        for number in classes::cascade_offences(cascade.lines, &cascade.words, CASCADE_GATES) {
-            offences.push(format!("{number} of the {which}"));
-        }
-    }
+    let mut offences = classes::pair_offences(a, b);
     let needed = a.words.len() + b.words.len();
-    if a.lines != b.lines {
-        offences.push("8".to_string());
-    }
     if reference::short_buffer(out, needed) {
         offences.push("10".to_string());
     }

@@ -3,3 +3,4 @@ pub mod Run
 pub mod Sizes
 pub mod Step
 pub mod Reduce
+pub mod Compare

@@ -1,0 +1,2 @@
+-- `Laws` has the laws of `specs/Compare.antt`.
+pub mod Laws
