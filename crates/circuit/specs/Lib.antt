@@ -4,4 +4,6 @@ pub mod Gate
 pub mod Words
 pub mod Run
 pub mod Inverse
+pub mod Text
+pub mod File
 pub mod Laws
