@@ -6,6 +6,10 @@ use lib.Dec.{eqb, leb, ltb}
 use lib.Bits.{bitOr}
 use lib.ListN.{length}
 use Rattle.circuit.specs.declared.gate.Gate.{Gate}
+use Rattle.circuit.specs.declared.file.ReadAnswer.{ReadAnswer}
+use Rattle.circuit.specs.declared.file.ReadAnswer.the-variants as read
+use Rattle.circuit.specs.declared.file.WriteAnswer.{WriteAnswer}
+use Rattle.circuit.specs.declared.file.WriteAnswer.the-variants as write
 use Rattle.circuit.specs.Gate.{maxGates, Control}
 use Rattle.circuit.specs.Outcome.{Outcome, served, refused, demand, andThen, written}
 use Rattle.circuit.specs.Refusal.{wrongForm, badLineCount, lineOutside, targetControlled, notRising, tooManyGates, noRoom}
@@ -164,3 +168,47 @@ unfoldable pub reading : List ℕ → Outcome Reading
 reading text =
     andThen (headerOn (firstLine (linesOf text))) (λ n.
     readFrom n [] (size (firstLine (linesOf text))) (laterLines (linesOf text)))
+
+-- ---- the two calls
+
+-- what a served reading tells: the line count, the number of gates, the bytes taken
+pub record ReadCounts : Type 0 where
+  pub lines : ℕ
+  pub gates : ℕ
+  pub taken : ℕ
+
+abbrev pub countsOf : Reading → ReadCounts
+countsOf c = record { lines = c .lines; gates = length (c .gates); taken = c .taken }
+
+abbrev pub gatesRead : Outcome Reading → List Gate
+gatesRead (served c) = c .gates
+gatesRead (refused number place) = []
+
+-- 1 to 6 by line, then 10: the buffer has room for three words a gate
+unfoldable pub readOutcome : List ℕ → ℕ → Outcome ReadCounts
+readOutcome text room =
+    andThen (reading text) (λ c.
+    demand (leb (3 * length (c .gates)) room) noRoom 0 (served (countsOf c)))
+
+-- the gates' words at the buffer's start
+unfoldable pub readBuffer : List ℕ → List ℕ → List ℕ
+readBuffer text out = written (readOutcome text (length out)) (wordsOf (gatesRead (reading text))) out
+
+-- 2, 11, 6, 7, 10: the buffer has room for the text
+unfoldable pub writeOutcome : ℕ → List ℕ → ℕ → Outcome ℕ
+writeOutcome n ws room =
+    andThen (checkOutcome n ws maxGates) (λ k.
+    demand (leb (length (textOf n (gatesOf ws))) room) noRoom 0 (served (length (textOf n (gatesOf ws)))))
+
+-- the cascade's text at the buffer's start
+unfoldable pub writeBuffer : ℕ → List ℕ → List ℕ → List ℕ
+writeBuffer n ws out = written (writeOutcome n ws (length out)) (textOf n (gatesOf ws)) out
+
+-- the answers in document 01's numbers and values
+abbrev pub ofRead : ReadAnswer → Outcome ReadCounts
+ofRead (read.Cascade header gates taken) = served (record { lines = header .lines; gates = gates; taken = taken })
+ofRead (read.Refused r) = refused (r .number) (r .place)
+
+abbrev pub ofWrite : WriteAnswer → Outcome ℕ
+ofWrite (write.Bytes k) = served k
+ofWrite (write.Refused r) = refused (r .number) (r .place)

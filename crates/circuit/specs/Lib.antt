@@ -6,4 +6,5 @@ pub mod Run
 pub mod Inverse
 pub mod Text
 pub mod File
+pub mod FileLaws
 pub mod Laws

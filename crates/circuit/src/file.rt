@@ -9,7 +9,11 @@ pub struct Header {
 
 // A cascade that was read, its number of gates and the bytes that it took; or a refusal.
 pub enum ReadAnswer {
-    Cascade { header: Header, gates: usize, taken: usize },
+    Cascade {
+        header: Header,
+        gates: usize,
+        taken: usize,
+    },
     Refused(Refusal),
 }
 
@@ -18,4 +22,3 @@ pub enum WriteAnswer {
     Bytes(usize),
     Refused(Refusal),
 }
-
