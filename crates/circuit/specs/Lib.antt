@@ -7,4 +7,5 @@ pub mod Inverse
 pub mod Text
 pub mod File
 pub mod FileLaws
+pub mod Scan
 pub mod Laws

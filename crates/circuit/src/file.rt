@@ -2,6 +2,8 @@
 
 use crate::refusal::Refusal;
 
+pub mod scan;
+
 // What the first line of a file says.
 pub struct Header {
     pub lines: u64,

@@ -1,0 +1,2 @@
+-- The laws of `specs/Scan.antt`.
+pub mod Laws
