@@ -128,7 +128,7 @@ longer-some : (b : ℕ) (fs : List (List ℕ)) → longer b fs ≡ [] → ⊥
 longer-some b [] e = mathlib.Core.List.cons≢nil e
 longer-some b (f ∷ fs) e = mathlib.Core.List.cons≢nil e
 
-fields-some : (bs : List ℕ) → fieldsOf bs ≡ [] → ⊥
+pub fields-some : (bs : List ℕ) → fieldsOf bs ≡ [] → ⊥
 fields-some [] e = mathlib.Core.List.cons≢nil (sym fields-none ∙ e)
 fields-some (b ∷ bs) e =
     either (eqb b tab)

@@ -11,8 +11,8 @@ ghost use lib.Bits.{bitOr};
 ghost use lib.ListN.{length, drop, getD};
 ghost use Rattle.circuit.specs.Gate.{maxLines};
 ghost use Rattle.circuit.specs.Text.{plus, minus};
-ghost use Rattle.circuit.specs.File.{isDigit, numberOf, lineOf, controlOf};
-ghost use Rattle.circuit.specs.Scan.{isStop, fieldAt, startsWith, orHundred, width, added, headerNext, gateNext, controlsNext, ofLine, ofControl, ofGate, ofHeader};
+ghost use Rattle.circuit.specs.File.{isDigit, numberOf, lineOf, controlOf, isEnd};
+ghost use Rattle.circuit.specs.Scan.{isStop, fieldAt, lineAt, startsWith, orHundred, width, added, headerNext, gateNext, controlsNext, ofLine, ofControl, ofGate, ofHeader};
 
 const TAB: u64 = 9;
 
@@ -243,5 +243,95 @@ impl Seen {
             rising: rises(self.rising, self.low, k),
             apart: avoids(self.apart, target, k),
         }
+    }
+}
+
+// The gate of a line with this target, whose controls start at a position, and the position after the line; else 1, 3, 4 or 5.
+fn controls(text: &[u8], first: usize, n: u64, place: u64, target: u64) -> GateAnswer
+    requires { ⌜ (first ≤ length (now text)) × (n ≤ maxLines) × (fieldAt (drop first (now text)) ≡ []) ⌝ }
+    ensures { λ r. ⌜ ofGate r ≡ controlsNext n place target first (drop first (now (text .entry))) ⌝ }
+{
+    let mut at = first;
+    let mut seen = Seen::none();
+    while byte(text, at) == TAB {
+        match control(text, at + 1, n, place) {
+            ControlAnswer::Refused(why) => {
+                return GateAnswer::Refused(why);
+            }
+            ControlAnswer::Control { line, positive } => {
+                seen = seen.add(target, line, positive);
+                at += 2 + digits(line);
+            }
+        }
+    }
+    if text.len() <= at {
+        return GateAnswer::Refused(Refusal::wrong_form(place));
+    }
+    if !seen.apart {
+        return GateAnswer::Refused(Refusal::target_controlled(place));
+    }
+    if !seen.rising {
+        return GateAnswer::Refused(Refusal::not_rising(place));
+    }
+    GateAnswer::Gate {
+        gate: Gate {
+            positive: seen.positive,
+            negative: seen.negative,
+            target,
+        },
+        next: at + 1,
+    }
+}
+
+// The gate of the line at a position, and the position after it; else 6, 1, 3, 4 or 5.
+pub(crate) fn gate_line(text: &[u8], start: usize, n: u64, place: u64) -> GateAnswer
+    requires { ⌜ (start ≤ length (now text)) × (n ≤ maxLines) ⌝ }
+    ensures { λ r. ⌜ ofGate r ≡ gateNext n place start (drop start (now (text .entry))) ⌝ }
+{
+    if !starts(text, start, b"g\t") {
+        return GateAnswer::Refused(Refusal::wrong_form(place));
+    }
+    if (Gate::MAX_GATES as u64) < place {
+        return GateAnswer::Refused(Refusal::too_many_gates(place));
+    }
+    let at = start + 2;
+    match line(text, at, n, place) {
+        LineAnswer::Refused(why) => GateAnswer::Refused(why),
+        LineAnswer::Line(target) => controls(text, at + digits(target), n, place, target),
+    }
+}
+
+// Whether the line at a position is `end` with its LF.
+pub(crate) fn ends(text: &[u8], at: usize) -> bool
+    requires { ⌜ at ≤ length (now text) ⌝ }
+    ensures { λ r. ⌜ r ≡ isEnd (lineAt (drop at (now (text .entry)))) ⌝ }
+{
+    starts(text, at, b"end\n")
+}
+
+// The line count of a text and the position after its first line; else 1 or 2.
+pub(crate) fn header(text: &[u8]) -> HeaderAnswer
+    ensures { λ r. ⌜ ofHeader r ≡ headerNext (now (text .entry)) ⌝ }
+{
+    if !starts(text, 0, b"lines\t") {
+        return HeaderAnswer::Refused(Refusal::wrong_form(0));
+    }
+    let n = number(text, 6);
+    if n == NO_NUMBER {
+        return HeaderAnswer::Refused(Refusal::wrong_form(0));
+    }
+    if !crate::words::line_count_good(n) {
+        return HeaderAnswer::Refused(Refusal::bad_line_count());
+    }
+    let at = 6 + digits(n);
+    if text.len() <= at {
+        return HeaderAnswer::Refused(Refusal::wrong_form(0));
+    }
+    if text[at] != 10 {
+        return HeaderAnswer::Refused(Refusal::wrong_form(0));
+    }
+    HeaderAnswer::Lines {
+        lines: n,
+        next: at + 1,
     }
 }

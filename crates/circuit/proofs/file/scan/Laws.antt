@@ -7,7 +7,7 @@ use native.Mathlib.Omega.{arith}
 use lib.Dec.{eqb, leb, ltb}
 use lib.ListN.{length, drop, getD, drop-of-length-le}
 use lib.Seq.{getD-drop, drop-cons}
-use borrow.Author.Tests.{eqb-true, eq-eqb, ne-eqb, le-leb, lt-leb, leb-true, le-ltb, lt-ltb}
+use borrow.Author.Tests.{eqb-true, eq-eqb, ne-eqb, le-leb, lt-leb, leb-true, le-ltb, lt-ltb, ltb-true, ltb-false}
 use Rattle.bits.proofs.Bools.{either, and-parts, both, not-held, refuted, cond-true, cond-false}
 use Rattle.circuit.specs.Gate.{Control}
 use Rattle.circuit.specs.Outcome.{Outcome, served, refused, demand, andThen}
@@ -38,6 +38,10 @@ width-short k h = cond-false (leb 10 k) 2 1 (lt-leb 10 k h)
 
 pub width-long : (k : ℕ) → 10 ≤ k → width k ≡ 2
 width-long k h = cond-true (leb 10 k) 2 1 (le-leb 10 k h)
+
+pub width-two : (k : ℕ) → width k ≤ 2
+width-two k =
+    either (ltb k 10) (λ t. omega (arith, width-short k (ltb-true k 10 t))) (λ t. omega (arith, width-long k (ltb-false k 10 t)))
 
 -- ---- the field at the start of a text
 
@@ -175,7 +179,7 @@ line-wrong n i f e = go (numberOf i f) refl
         absurd (omega arith)
     go (refused number place) q = then-refused _ _ wrongForm i (number-wrong i f number place q)
 
-number-told : (i : ℕ) (f : List ℕ) (k : ℕ) → orHundred (numberOf 0 f) ≡ k → (k ≡ 100 → ⊥) → numberOf i f ≡ served k
+pub number-told : (i : ℕ) (f : List ℕ) (k : ℕ) → orHundred (numberOf 0 f) ≡ k → (k ≡ 100 → ⊥) → numberOf i f ≡ served k
 number-told i f k e h = go (numberOf 0 f) refl
   where
     go : (o : Outcome ℕ) → numberOf 0 f ≡ o → numberOf i f ≡ served k
