@@ -6,3 +6,4 @@ pub mod Controls
 pub mod Texts
 pub mod Offences
 pub mod Laws
+pub mod Steps

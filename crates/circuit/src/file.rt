@@ -1,6 +1,18 @@
 // Cascade files: reading and writing.
 
+use crate::file::scan::GateAnswer;
+use crate::file::scan::HeaderAnswer;
+use crate::gate::Gate;
 use crate::refusal::Refusal;
+ghost use mathlib.Core.Path.{_≡_};
+ghost use mathlib.Core.List.{[]};
+ghost use Prim.Native.Nat.{_*_, _≤_};
+ghost use lib.ListN.{length, drop};
+ghost use Rattle.bits.specs.Lists.{over};
+ghost use Rattle.circuit.specs.Gate.{maxLines};
+ghost use Rattle.circuit.specs.Outcome.{Yields, served, andThen};
+ghost use Rattle.circuit.specs.Words.{wordsOf};
+ghost use Rattle.circuit.specs.File.{linesOf, readFrom, countsOf, gatesRead, readOutcome, readBuffer, ofRead};
 
 pub mod scan;
 
@@ -23,4 +35,78 @@ pub enum ReadAnswer {
 pub enum WriteAnswer {
     Bytes(usize),
     Refused(Refusal),
+}
+
+// The counts of a cascade on n lines whose gate lines start at a position; else 1, 3, 4, 5 or 6 by line. Nothing is written.
+fn judge(text: &[u8], n: u64, start: usize) -> ReadAnswer
+    requires { ⌜ (start ≤ length (now text)) × (n ≤ maxLines) ⌝ }
+    ensures { λ r. ⌜ ofRead r ≡ andThen (readFrom n [] start (linesOf (drop start (now (text .entry))))) (λ c. served (countsOf c)) ⌝ }
+{
+    let mut at = start;
+    let mut gates = 0;
+    while !crate::file::scan::ends(text, at) {
+        match crate::file::scan::gate_line(text, at, n, gates as u64 + 1) {
+            GateAnswer::Refused(why) => {
+                return ReadAnswer::Refused(why);
+            }
+            GateAnswer::Gate { gate: _, next } => {
+                at = next;
+                gates += 1;
+            }
+        }
+    }
+    ReadAnswer::Cascade {
+        header: Header { lines: n },
+        gates,
+        taken: at + 4,
+    }
+}
+
+// Writes the gates of a text that was judged good at the buffer's start.
+fn fill(text: &[u8], n: u64, start: usize, gates: usize, out: &mut [u64])
+    requires { ⌜ (start ≤ length (now text)) × (n ≤ maxLines) × (3 * gates ≤ length (now out)) × (andThen (readFrom n [] start (linesOf (drop start (now text)))) (λ c. served (length (c .gates))) ≡ served gates) ⌝ }
+    ensures { λ _. ⌜ now (out .exit) ≡ over (wordsOf (gatesRead (readFrom n [] start (linesOf (drop start (now (text .entry))))))) (now (out .entry)) ⌝ }
+{
+    let mut at = start;
+    let mut i = 0;
+    while i < gates {
+        match crate::file::scan::gate_line(text, at, n, i as u64 + 1) {
+            GateAnswer::Refused(_) => {
+                return;
+            }
+            GateAnswer::Gate { gate, next } => {
+                let to = Gate::WORDS * i;
+                crate::words::put_gate(&mut out[to..], gate);
+                at = next;
+                i += 1;
+            }
+        }
+    }
+}
+
+// The cascade at the start of a text, its words at the buffer's start; else 1 to 6 by line, or 10.
+pub fn read(text: &[u8], out: &mut [u64]) -> ReadAnswer
+    ensures { λ r. ⌜ Yields (ofRead r) (now (out .exit)) (readOutcome (now (text .entry)) (length (now (out .entry)))) (readBuffer (now (text .entry)) (now (out .entry))) ⌝ }
+{
+    match crate::file::scan::header(text) {
+        HeaderAnswer::Refused(why) => ReadAnswer::Refused(why),
+        HeaderAnswer::Lines { lines, next } => match judge(text, lines, next) {
+            ReadAnswer::Refused(why) => ReadAnswer::Refused(why),
+            ReadAnswer::Cascade {
+                header,
+                gates,
+                taken,
+            } => {
+                if out.len() / Gate::WORDS < gates {
+                    return ReadAnswer::Refused(Refusal::no_room());
+                }
+                fill(text, lines, next, gates, out);
+                ReadAnswer::Cascade {
+                    header,
+                    gates,
+                    taken,
+                }
+            }
+        },
+    }
 }
