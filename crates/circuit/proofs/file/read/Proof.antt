@@ -97,7 +97,7 @@ returns-4 c =
     let a = h .before .before .before .before .before .before .before .before .before .args in
     read-told _ _ _ (served (counts h)) _ refl
     (read-fits (a .text .now) (length (a .out .now)) (r .0) (r .1) (omega (arith, e .if1 .left)) ∙ ap served (r .2))
-    (f .fill .ensures ∙ ap (λ (o : Outcome Reading). over (wordsOf (gatesRead o)) _) (sym (s .is)))
+    (f .fill .ensures ∙ ap (λ (o : Outcome Reading). over (wordsOf (gatesRead o)) (a .out .now)) (sym (s .is)))
 
 pub read-spec : {M : Type 1} → statement M
 read-spec =
