@@ -8,4 +8,5 @@ pub mod Text
 pub mod File
 pub mod FileLaws
 pub mod Scan
+pub mod Put
 pub mod Laws

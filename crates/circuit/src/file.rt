@@ -14,6 +14,7 @@ ghost use Rattle.circuit.specs.Outcome.{Yields, served, andThen};
 ghost use Rattle.circuit.specs.Words.{wordsOf};
 ghost use Rattle.circuit.specs.File.{linesOf, readFrom, countsOf, gatesRead, readOutcome, readBuffer, ofRead};
 
+pub mod put;
 pub mod scan;
 
 // What the first line of a file says.

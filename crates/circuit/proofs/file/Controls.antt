@@ -301,11 +301,11 @@ controls-within n g e (suc m) =
 -- ---- rising controls are those of their gate
 
 -- the controls on lines j to j + k - 1
-unfoldable stretch : ℕ → ℕ → Gate → List Control
+unfoldable pub stretch : ℕ → ℕ → Gate → List Control
 stretch j zero g = []
 stretch j (suc k) g = controlAt g j ++ stretch (suc j) k g
 
-below-stretch : (g : Gate) (k j : ℕ) → controlsBelow (j + k) g ≡ controlsBelow j g ++ stretch j k g
+pub below-stretch : (g : Gate) (k j : ℕ) → controlsBelow (j + k) g ≡ controlsBelow j g ++ stretch j k g
 unfolding controlsBelow stretch
 below-stretch g zero j = ap (λ (m : ℕ). controlsBelow m g) (add-zero j) ∙ sym (append-nil (controlsBelow j g))
 below-stretch g (suc k) j =
