@@ -7,3 +7,4 @@ pub mod Texts
 pub mod Offences
 pub mod Laws
 pub mod Steps
+pub mod Writes
