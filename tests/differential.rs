@@ -6,11 +6,14 @@
 
 mod calls {
     pub mod inverse;
+    pub mod read;
     pub mod run;
+    pub mod write;
 }
 mod capi;
 mod classes;
 mod expected;
+mod files;
 mod harness;
 mod inputs;
 mod random;
@@ -23,7 +26,12 @@ use random::Random;
 const SEED: u64 = 20_240_601;
 
 /// One section a call. It checks its cases and returns its table.
-const SECTIONS: &[fn(&mut Random) -> Counts] = &[calls::run::section, calls::inverse::section];
+const SECTIONS: &[fn(&mut Random) -> Counts] = &[
+    calls::run::section,
+    calls::inverse::section,
+    calls::read::section,
+    calls::write::section,
+];
 
 fn main() {
     let seed = match std::env::args().nth(1) {

@@ -21,6 +21,12 @@ impl Element for u64 {
     }
 }
 
+impl Element for u8 {
+    fn guard(index: usize) -> u8 {
+        0xa5 ^ index as u8
+    }
+}
+
 /// A buffer to lend to a call, with guards before and after.
 pub struct Buffer<T> {
     memory: Vec<T>,
