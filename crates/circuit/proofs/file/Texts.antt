@@ -96,8 +96,13 @@ module _ (n : ℕ) (lines-high : n ≤ maxLines) where
       ap linesOf (append-assoc (gateText g) (lineFeed ∷ []) r)
       ∙ lines-cut (gateText g) r (gate-free (g .target) (controlsOf g) (valid-facts n g v .target-below) (controls-within n g v maxLines))
 
+  -- controls that rise and leave the target out
+  closed-good : (i t : ℕ) (cs : List Control) → among t cs ≡ false → risingFrom 0 cs ≡ true → closedGate i true t cs ≡ served (gateOf t cs)
+  unfolding closedGate
+  closed-good i t cs a r = simp (a, r)
+
   pub gate-read : (g : Gate) (i : ℕ) → valid n g ≡ true → i ≤ maxGates → gateOn n i (record { bytes = gateText g; ended = true }) ≡ served g
-  unfolding gateFields closedGate
+  unfolding gateFields
   gate-read g i v few =
       let w = controls-within n g v maxLines in
       let t = valid-facts n g v .target-below in
@@ -107,8 +112,7 @@ module _ (n : ℕ) (lines-high : n ≤ maxLines) where
       ∙ demand-met _ _ _ _ (le-leb i maxGates few)
       ∙ then-served _ _ (g .target) (line-text n i (g .target) t (omega arith))
       ∙ then-served _ _ (controlsOf g) (controls-text n i [] (controlsOf g) w (omega arith))
-      ∙ demand-met _ _ _ _ (ap not (target-apart g m))
-      ∙ demand-met _ _ _ _ (controls-rising g)
+      ∙ closed-good i (g .target) (controlsOf g) (target-apart g m) (controls-rising g)
       ∙ ap served (gate-controls g m)
 
   -- the gate lines of a cascade
