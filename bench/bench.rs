@@ -143,9 +143,9 @@ fn median(mut numbers: Vec<f64>) -> f64 {
     numbers[numbers.len() / 2]
 }
 
-/// Prints a row, and tells whether the ratio is within the limit. The sides take turns at being
-/// first in a round, and the ratio is the median of the rounds' ratios.
-fn compare(call: &str, work: &str, library: impl Fn() -> f64, plain: impl Fn() -> f64) -> bool {
+/// Prints a row and gives the ratio. The sides take turns at being first in a round, and the ratio is
+/// the median of the rounds' ratios.
+fn compare(call: &str, work: &str, library: impl Fn() -> f64, plain: impl Fn() -> f64) -> f64 {
     let (mut ours, mut theirs, mut ratios) = (Vec::new(), Vec::new(), Vec::new());
     for round in 0..ROUNDS {
         let (own, other) = if round % 2 == 0 {
@@ -161,9 +161,8 @@ fn compare(call: &str, work: &str, library: impl Fn() -> f64, plain: impl Fn() -
     }
     let ratio = median(ratios);
     let (ours, theirs) = (median(ours), median(theirs));
-    let verdict = if ratio > LIMIT { "  TOO SLOW" } else { "" };
-    println!("{call:<16} {work:<38} {ours:>9.1} {theirs:>9.1} {ratio:>6.2}{verdict}");
-    ratio <= LIMIT
+    println!("{call:<16} {work:<38} {ours:>9.1} {theirs:>9.1} {ratio:>6.2}");
+    ratio
 }
 
 fn main() {
@@ -172,20 +171,25 @@ fn main() {
     let head = ["call", "cascades", "ns", "plain ns", "ratio"];
     let [call, work, ours, theirs, ratio] = head;
     println!("{call:<16} {work:<38} {ours:>9} {theirs:>9} {ratio:>6}");
-    let mut good = true;
+    let mut highest: f64 = 0.0;
     for work in &works {
         let library = || time_run(work, library_run);
         let plain = || time_run(work, plain::run);
-        good &= compare("cascade_run", work.name, library, plain);
+        highest = highest.max(compare("cascade_run", work.name, library, plain));
     }
     for work in &works {
         let library = || time_inverse(work, library_inverse);
         let plain = || time_inverse(work, plain::inverse);
-        good &= compare("cascade_inverse", work.name, library, plain);
+        highest = highest.max(compare("cascade_inverse", work.name, library, plain));
     }
-    if !good {
-        println!("bench: a ratio is above {LIMIT}");
+    println!("bench: the highest ratio is {highest:.2}, the limit {LIMIT}");
+    println!("\nagainst plain Rust with std::hint::select_unpredictable (not judged)");
+    for work in &works {
+        let library = || time_run(work, library_run);
+        let plain = || time_run(work, plain::run_hinted);
+        compare("cascade_run", work.name, library, plain);
+    }
+    if highest > LIMIT {
         std::process::exit(1);
     }
-    println!("bench: no ratio is above {LIMIT}");
 }

@@ -31,9 +31,10 @@ fn is_gate([positive, negative, target]: [u64; 3], n: u64, lines_from_n: u64) ->
     ((positive | negative) & forbidden) | (positive & negative) == 0 && target < n
 }
 
-/// Tests and applies each gate in one pass.
-#[inline(never)]
-pub fn run(n: u64, words: &[u64], state: u64) -> RunAnswer {
+/// Tests and applies each gate in one pass; `inverted` is the state with the target inverted where
+/// the gate fires.
+#[inline(always)]
+fn run_by(n: u64, words: &[u64], state: u64, inverted: fn(u64, u64, bool) -> u64) -> RunAnswer {
     let number = shape_refusal(n, words);
     if number != 0 {
         return RunAnswer {
@@ -54,7 +55,7 @@ pub fn run(n: u64, words: &[u64], state: u64) -> RunAnswer {
         }
         let [positive, negative, target] = gate;
         let fires = (now ^ positive) & (positive | negative) == 0;
-        now = select_unpredictable(fires, now ^ 1u64.wrapping_shl(target as u32), now);
+        now = inverted(now, target, fires);
     }
     if state & lines_from_n != 0 {
         return RunAnswer {
@@ -68,6 +69,22 @@ pub fn run(n: u64, words: &[u64], state: u64) -> RunAnswer {
         place: 0,
         state: now,
     }
+}
+
+/// The firing bit, shifted to the target.
+#[inline(never)]
+pub fn run(n: u64, words: &[u64], state: u64) -> RunAnswer {
+    run_by(n, words, state, |now, target, fires| {
+        now ^ (fires as u64) << (target & 63)
+    })
+}
+
+/// With a hint to the compiler that Rattle does not have.
+#[inline(never)]
+pub fn run_hinted(n: u64, words: &[u64], state: u64) -> RunAnswer {
+    run_by(n, words, state, |now, target, fires| {
+        select_unpredictable(fires, now ^ 1u64.wrapping_shl(target as u32), now)
+    })
 }
 
 /// Tests all gates, then copies them from the last place to the first.

@@ -7,6 +7,7 @@ use native.Mathlib.Numerals.{one-add, add-one}
 use native.Mathlib.Decide.{le-ind}
 use native.Mathlib.Omega.{arith}
 use lib.Dec.{eqb, eqb·zero-suc, eqb·suc-zero, eqb·suc-suc}
+use borrow.Author.Tests.{eqb-true, eq-eqb}
 use lib.Arith.{bin-ind, digits-div, digits-mod, lt-one}
 use lib.Pow.{pow-mono, pow-pos, shr-shr, split, field, mod-mod-pow}
 use lib.Count.{ones, ones-step, ones-cat, ones-ones}
@@ -135,6 +136,23 @@ pub below-of-bits : (n x : ℕ) → ((k : ℕ) → n ≤ k → bit x k ≡ false
 below-of-bits n x e =
     let z : x / 2 ^ n ≡ 0 = bits-equal (x / 2 ^ n) 0 (λ k. bit-shifted n x k ∙ e (n + k) (omega arith) ∙ sym (bit-none k)) in
     subst (λ (y : ℕ). x < y) (native.Mathlib.Nat.one-mul (2 ^ n)) (div-lt-iff-lt-mul (pow-pos n) .0 (omega arith))
+
+-- a mask and one line alone
+pub line-clear : (x k : ℕ) → bit x k ≡ false → bitAnd x (2 ^ k) ≡ 0
+line-clear x k e = bits-equal _ _ (λ j. bit-and x (2 ^ k) j ∙ ap (λ (b : Bool). bit x j && b) (bit-pow k j) ∙ other (bit x j) (eqb j k) (λ f. ap (bit x) (eqb-true j k f) ∙ e) ∙ sym (bit-none j))
+  where
+    other : (a b : Bool) → (b ≡ true → a ≡ false) → (a && b) ≡ false
+    other true true h = h refl
+    other true false h = refl
+    other false b h = refl
+
+pub clear-line : (x k : ℕ) → bitAnd x (2 ^ k) ≡ 0 → bit x k ≡ false
+clear-line x k e =
+    sym (and-true (bit x k)) ∙ ap (λ (b : Bool). bit x k && b) (sym (bit-pow k k ∙ eq-eqb k k refl)) ∙ sym (bit-and x (2 ^ k) k) ∙ ap (λ (n : ℕ). bit n k) e ∙ bit-none k
+  where
+    and-true : (a : Bool) → (a && true) ≡ a
+    and-true true = refl
+    and-true false = refl
 
 -- ---- counting
 

@@ -1,5 +1,5 @@
 -- The laws of outcomes: a test that holds or fails, a call that goes on, and what a call that writes a buffer owes. Assumes nothing.
-use mathlib.Core.Path.{_≡_, refl, sym, ap, _∙_}
+use mathlib.Core.Path.{_≡_, refl, sym, ap, ap₂, _∙_}
 use mathlib.Core.Bool.{Bool, true, false, cond}
 use mathlib.Core.List.{List}
 use Prim.Native.Nat.{ℕ}
@@ -41,6 +41,12 @@ pub then-both : {A B : Type 0} (first : Outcome A) (more : A → Outcome B) (b :
     → (a : A) × (first ≡ served a) × (more a ≡ served b)
 then-both (served a) more b e = (a, refl, e)
 then-both (refused number place) more b e = absurd (never refl (sym e))
+
+-- where nothing after it refuses, a refusal is the first call's
+pub then-fails : {A B : Type 0} (first : Outcome A) (value : A → B) (number place : ℕ) → andThen first (λ a. served (value a)) ≡ refused number place
+    → first ≡ refused number place
+then-fails (served a) value number place e = absurd (never refl e)
+then-fails (refused x y) value number place e = let p : x ≡ number = cc in let q : y ≡ place = cc in ap₂ refused p q
 
 -- a call owes this where its outcome and the buffer that goes with it are known
 pub told : {A B : Type 0} (front out : List B) (r : Outcome A) (last : List B) (outcome o : Outcome A) → r ≡ o → outcome ≡ o → last ≡ written o front out

@@ -52,12 +52,15 @@ unfoldable pub validFrom : ℕ → ℕ → List Gate → Outcome ℕ
 validFrom n i [] = served i
 validFrom n i (g ∷ gs) = demand (valid n g) noGate i (validFrom n (i + 1) gs)
 
+-- the number of gates by the number of words: 11, 6
+unfoldable pub sizeOutcome : List ℕ → ℕ → Outcome ℕ
+sizeOutcome ws limit =
+    demand (eqb (length ws % 3) 0) badWordCount 0
+    (demand (leb (length ws / 3) limit) tooManyGates 0 (served (length ws / 3)))
+
 -- 11, 6, 7
 unfoldable pub gatesOutcome : ℕ → List ℕ → ℕ → Outcome ℕ
-gatesOutcome n ws limit =
-    demand (eqb (length ws % 3) 0) badWordCount 0
-    (demand (leb (length ws / 3) limit) tooManyGates 0
-    (validFrom n 0 (gatesOf ws)))
+gatesOutcome n ws limit = andThen (sizeOutcome ws limit) (λ k. validFrom n 0 (gatesOf ws))
 
 -- 2, 11, 6, 7
 unfoldable pub checkOutcome : ℕ → List ℕ → ℕ → Outcome ℕ

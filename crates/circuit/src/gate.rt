@@ -1,7 +1,8 @@
 // A gate: the masks of its positive and negative controls, and its target line.
 
 ghost use mathlib.Core.Path.{_≡_};
-ghost use Prim.Native.Nat.{_^_, _<_, _≤_};
+ghost use mathlib.Core.Bool.{true};
+ghost use Prim.Native.Nat.{_-_, _^_, _<_, _≤_};
 ghost use lib.Dec.{eqb, ltb};
 ghost use lib.Bits.{bitAnd};
 ghost use lib.Count.{ones};
@@ -14,14 +15,21 @@ pub struct Gate {
     pub target: u64,
 }
 
+// The mask of the lines at n and above.
+fn above(n: u64) -> u64
+    ensures { λ r. ⌜ r ≡ 2 ^ maxLines - 2 ^ n ⌝ }
+{
+    if n < Gate::MAX_LINES {
+        return std::num::wrapping_sub_u64(0, line(n));
+    }
+    0
+}
+
 // Whether the mask has no bit at n or above.
 pub fn below(mask: u64, n: u64) -> bool
     ensures { λ r. ⌜ r ≡ ltb mask (2 ^ n) ⌝ }
 {
-    if n < Gate::MAX_LINES {
-        return (mask >> n) == 0;
-    }
-    true
+    (mask & above(n)) == 0
 }
 
 // The mask of line k alone.
@@ -36,10 +44,10 @@ pub(crate) fn line(k: u64) -> u64
 fn clear(mask: u64, k: u64) -> bool
     ensures { λ r. ⌜ r ≡ eqb (bitAnd mask (2 ^ k)) 0 ⌝ }
 {
-    if k < Gate::MAX_LINES {
-        return (mask & line(k)) == 0;
+    if (mask >> (k % Gate::MAX_LINES)) % 2 == 0 {
+        return true;
     }
-    true
+    Gate::MAX_LINES <= k
 }
 
 // How many bits of the mask are set.
@@ -82,10 +90,7 @@ impl Gate {
         if n <= target {
             return false;
         }
-        if !below(positive, n) {
-            return false;
-        }
-        if !below(negative, n) {
+        if !below(positive | negative, n) {
             return false;
         }
         if (positive & negative) != 0 {
@@ -105,14 +110,14 @@ impl Gate {
 
     // The state with the target inverted where the gate fires.
     pub(crate) fn invert(self, state: u64) -> u64
-        requires { ⌜ self .target < maxLines ⌝ }
+        requires { ⌜ valid maxLines self ≡ true ⌝ }
         ensures { λ r. ⌜ r ≡ inverted self state ⌝ }
     {
+        let positive = self.positive;
+        let negative = self.negative;
         let target = self.target;
-        if self.fires(state) {
-            return state ^ line(target);
-        }
-        state
+        let missed = (state ^ positive) & (positive | negative);
+        state ^ (((missed == 0) as u64) << target)
     }
 
     // The state after the gate; the same one if the record is no gate on 64 lines.

@@ -21,7 +21,7 @@ fn put_reversed(words: &[u64], out: &mut [u64])
     let mut at = 0;
     while 0 < j {
         j -= 1;
-        crate::words::put_gate(&mut out[at..], crate::words::gate_at(words, j));
+        crate::words::store_gate(&mut out[at..], crate::words::gate_at(words, j));
         at += Gate::WORDS;
     }
 }

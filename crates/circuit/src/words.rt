@@ -3,7 +3,10 @@
 use crate::gate::Gate;
 use crate::refusal::Refusal;
 ghost use mathlib.Core.Path.{_≡_};
-ghost use Rattle.circuit.specs.Words.{gateAt, putGate, lineCountGood, gatesOutcome, checkOutcome, pairOutcome, ofCount, ofPair};
+ghost use Prim.Native.Nat.{_≤_};
+ghost use lib.ListN.{length};
+ghost use Rattle.bits.specs.Lists.{over};
+ghost use Rattle.circuit.specs.Words.{gatesOf, gateAt, gateWords, putGate, lineCountGood, validFrom, sizeOutcome, gatesOutcome, checkOutcome, pairOutcome, ofCount, ofPair};
 
 // A number of gates, or a refusal.
 pub enum CountAnswer {
@@ -32,14 +35,22 @@ pub fn gate_at(words: &[u64], i: usize) -> Gate
     Gate::not(0)
 }
 
+// Writes the gate's words at the buffer's start.
+pub(crate) fn store_gate(out: &mut [u64], g: Gate)
+    requires { ⌜ 3 ≤ length (now out) ⌝ }
+    ensures { λ _. ⌜ now (out .exit) ≡ over (gateWords g) (now (out .entry)) ⌝ }
+{
+    out[0] = g.positive;
+    out[1] = g.negative;
+    out[2] = g.target;
+}
+
 // Writes the gate's words at the buffer's start; nothing where they do not fit.
 pub fn put_gate(out: &mut [u64], g: Gate)
     ensures { λ _. ⌜ now (out .exit) ≡ putGate g (now (out .entry)) ⌝ }
 {
     if Gate::WORDS <= out.len() {
-        out[0] = g.positive;
-        out[1] = g.negative;
-        out[2] = g.target;
+        store_gate(out, g);
     }
 }
 
@@ -53,9 +64,9 @@ pub fn line_count_good(n: u64) -> bool
     n <= Gate::MAX_LINES
 }
 
-// The number of gates, at most `limit`, that the words are on n lines; else 11, 6 or 7.
-pub fn check_gates(n: u64, words: &[u64], limit: usize) -> CountAnswer
-    ensures { λ r. ⌜ ofCount r ≡ gatesOutcome n (now (words .entry)) limit ⌝ }
+// The number of gates, at most `limit`, by the number of words; else 11 or 6.
+pub fn check_size(words: &[u64], limit: usize) -> CountAnswer
+    ensures { λ r. ⌜ ofCount r ≡ sizeOutcome (now (words .entry)) limit ⌝ }
 {
     if words.len() % Gate::WORDS != 0 {
         return CountAnswer::Refused(Refusal::bad_word_count());
@@ -64,6 +75,14 @@ pub fn check_gates(n: u64, words: &[u64], limit: usize) -> CountAnswer
     if limit < gates {
         return CountAnswer::Refused(Refusal::too_many_gates(0));
     }
+    CountAnswer::Gates(gates)
+}
+
+// The number of whole gates that the words are on n lines; else 7.
+fn check_each(n: u64, words: &[u64]) -> CountAnswer
+    ensures { λ r. ⌜ ofCount r ≡ validFrom n 0 (gatesOf (now (words .entry))) ⌝ }
+{
+    let gates = words.len() / Gate::WORDS;
     let mut i = 0;
     while i < gates {
         let g = gate_at(words, i);
@@ -73,6 +92,16 @@ pub fn check_gates(n: u64, words: &[u64], limit: usize) -> CountAnswer
         i += 1;
     }
     CountAnswer::Gates(gates)
+}
+
+// The number of gates, at most `limit`, that the words are on n lines; else 11, 6 or 7.
+pub fn check_gates(n: u64, words: &[u64], limit: usize) -> CountAnswer
+    ensures { λ r. ⌜ ofCount r ≡ gatesOutcome n (now (words .entry)) limit ⌝ }
+{
+    match check_size(words, limit) {
+        CountAnswer::Refused(why) => CountAnswer::Refused(why),
+        CountAnswer::Gates(_) => check_each(n, words),
+    }
 }
 
 // The number of gates, at most `limit`, of a cascade on n lines; else 2, 11, 6 or 7.

@@ -1,14 +1,15 @@
 -- The laws of a gate: what its two tests say as facts, firing by lines, the new state digit by digit, and that a gate is its own inverse. Assumes nothing.
 use mathlib.Core.Path.{_≡_, refl, sym, ap, ap₂, _∙_, subst}
 use mathlib.Core.Bool.{Bool, true, false, _&&_, _||_, xor, false≢true}
-use Prim.Native.Nat.{ℕ, _^_, _<_, _≤_}
-use native.Mathlib.Nat.{lt-of-lt-of-le}
+use Prim.Native.Nat.{ℕ, _+_, _-_, _*_, _/_, _%_, _^_, _<_, _≤_}
+use native.Mathlib.Nat.{lt-of-lt-of-le, le-of-lt, mod-lt, div-eq-of-lt, zero-mul, one-mul}
 use native.Mathlib.Omega.{arith}
-use lib.Dec.{eqb, ltb}
-use lib.Bits.{bitAnd, bitOr, bitXor, xor-lt, or-lt, xor-self, or-zero-r, or-add-and, xor-add-and, and-le-l, and-le-r}
+use lib.Dec.{eqb, ltb, leb, lit<}
+use lib.Bits.{bitAnd, bitOr, bitXor, xor-lt, or-lt, and-high, and-zero-r, xor-zero-r, xor-self, or-zero-r, or-add-and, xor-add-and, and-le-l, and-le-r}
 use lib.ListN.{length}
-use lib.Pow.{pow-lt, pow-mono}
-use borrow.Author.Tests.{ltb-true, eqb-true, lt-ltb, eq-eqb}
+use lib.Pow.{pow-lt, pow-mono, pow-pos, split, shl-exact, shr-mod}
+use mir.Val.{boolByte}
+use borrow.Author.Tests.{ltb-true, leb-true, leb-false, eqb-true, lt-ltb, eq-eqb}
 use Rattle.circuit.specs.declared.gate.Gate.{Gate}
 use Rattle.bits.specs.Digits.{bit, linesIn}
 use Rattle.circuit.specs.Gate.{maxLines, notGate, fires, valid, inverted, apply, controlCount}
@@ -126,6 +127,39 @@ xor-back true false = refl
 xor-back false true = refl
 xor-back false false = refl
 
+-- a mask has no bit at n or above exactly where it is below 2 ^ n
+pub above-none : (n m : ℕ) → m < 2 ^ maxLines → eqb (bitAnd m (2 ^ maxLines - 2 ^ n)) 0 ≡ ltb m (2 ^ n)
+above-none n m h =
+    either (leb n maxLines)
+    (λ t. within (leb-true n maxLines t))
+    (λ t.
+    let l : 2 ^ maxLines ≤ 2 ^ n = pow-mono (le-of-lt (leb-false n maxLines t)) in
+    let z : 2 ^ maxLines - 2 ^ n ≡ 0 = omega arith in
+    eq-eqb _ _ (ap (bitAnd m) z ∙ and-zero-r m) ∙ sym (lt-ltb _ _ (lt-of-lt-of-le h l)))
+  where
+    high : n ≤ maxLines → bitAnd m (2 ^ maxLines - 2 ^ n) ≡ m / 2 ^ n * 2 ^ n
+    high l =
+        let j : ℕ = maxLines - n in
+        let e : j + n ≡ maxLines = omega arith in
+        ap (λ (k : ℕ). bitAnd m (2 ^ k - 2 ^ n)) (sym e)
+        ∙ and-high m j n
+        ∙ ap (λ (q : ℕ). q * 2 ^ n) (shr-mod j n (subst (λ (k : ℕ). m < 2 ^ k) (sym e) h))
+
+    within : n ≤ maxLines → eqb (bitAnd m (2 ^ maxLines - 2 ^ n)) 0 ≡ ltb m (2 ^ n)
+    within l =
+        same-test _ _
+        (λ e.
+        let z : m / 2 ^ n * 2 ^ n ≡ 0 = sym (high l) ∙ eqb-true (bitAnd m (2 ^ maxLines - 2 ^ n)) 0 e in
+        lt-ltb m (2 ^ n) (omega (arith, split m n, mod-lt m (pow-pos n))))
+        (λ e. eq-eqb _ _ (high l ∙ ap (λ (q : ℕ). q * 2 ^ n) (div-eq-of-lt (ltb-true m (2 ^ n) e)) ∙ zero-mul (2 ^ n)))
+
+-- both masks are below exactly where their or is
+pub both-below : (n p q : ℕ) → ltb (bitOr p q) (2 ^ n) ≡ true → (p < 2 ^ n) × (q < 2 ^ n)
+both-below n p q e =
+    let h : bitOr p q < 2 ^ n = ltb-true _ _ e in
+    let l : bitOr p q + bitAnd p q ≡ p + q = or-add-and p q in
+    (omega (arith, and-le-l p q, and-le-r p q), omega (arith, and-le-l p q, and-le-r p q))
+
 pub xor-twice : (s p : ℕ) → bitXor (bitXor s p) p ≡ s
 xor-twice s p = bits-equal _ _ (λ k. bit-xor _ _ k ∙ ap (λ (b : Bool). xor b (bit p k)) (bit-xor _ _ k) ∙ xor-back (bit s k) (bit p k))
 
@@ -154,6 +188,49 @@ fires-missed s p q =
     xor-same : (a b : ℕ) → bitXor a b ≡ 0 → a ≡ b
     xor-same a b z = omega (arith, xor-add-and a b, and-le-l a b, and-le-r a b)
 
+-- two masks that share no line
+shared-none : (a b : Bool) → (a && b) ≡ false → a ≡ true → b ≡ false
+shared-none true b e q = e
+shared-none false b e q = absurd (false≢true q)
+
+pub valid-apart : (n : ℕ) (g : Gate) → Valid n g → (k : ℕ) → bit (g .positive) k ≡ true → bit (g .negative) k ≡ false
+valid-apart n g v k = shared-none _ _ (sym (bit-and (g .positive) (g .negative) k) ∙ ap (λ (x : ℕ). bit x k) (v .apart) ∙ bit-none k)
+
+-- the same of a gate, by one mask: on each line
+line-unmet : (b p q : Bool) → (p ≡ true → b ≡ true) → (q ≡ true → b ≡ false) → (xor b p && (p || q)) ≡ false
+unfolding xor
+line-unmet true true q f g = refl
+line-unmet true false true f g = g refl
+line-unmet true false false f g = refl
+line-unmet false true q f g = sym (f refl)
+line-unmet false false q f g = refl
+
+line-met : (b p q : Bool) → (p ≡ true → q ≡ false) → (xor b p && (p || q)) ≡ false → (p ≡ true → b ≡ true) × (q ≡ true → b ≡ false)
+unfolding xor
+line-met true true q h e = ((λ x. refl), (λ x. absurd (false≢true (sym (h refl) ∙ x))))
+line-met true false true h e = ((λ x. absurd (false≢true x)), (λ x. e))
+line-met true false false h e = ((λ x. absurd (false≢true x)), (λ x. absurd (false≢true x)))
+line-met false true q h e = ((λ x. sym e), (λ x. refl))
+line-met false false q h e = ((λ x. absurd (false≢true x)), (λ x. refl))
+
+pub fires-gate : (g : Gate) (s : ℕ) → valid maxLines g ≡ true → eqb (bitAnd (bitXor s (g .positive)) (bitOr (g .positive) (g .negative))) 0 ≡ fires g s
+fires-gate g s v =
+    same-test _ _
+    (λ e. met (λ k. sym (digit k) ∙ ap (λ (x : ℕ). bit x k) (eqb-true (bitAnd (bitXor s (g .positive)) (bitOr (g .positive) (g .negative))) 0 e) ∙ bit-none k))
+    (λ e.
+    let f = fires-lines g s e in
+    eq-eqb _ _ (bits-equal _ _ (λ k. digit k ∙ line-unmet (bit s k) (bit (g .positive) k) (bit (g .negative) k) (f .on k) (f .off k) ∙ sym (bit-none k))))
+  where
+    digit : (k : ℕ) → bit (bitAnd (bitXor s (g .positive)) (bitOr (g .positive) (g .negative))) k
+        ≡ (xor (bit s k) (bit (g .positive) k) && (bit (g .positive) k || bit (g .negative) k))
+    digit k = bit-and _ _ k ∙ ap₂ _&&_ (bit-xor s (g .positive) k) (bit-or (g .positive) (g .negative) k)
+
+    met : ((k : ℕ) → (xor (bit s k) (bit (g .positive) k) && (bit (g .positive) k || bit (g .negative) k)) ≡ false) → fires g s ≡ true
+    met h =
+        let l : (k : ℕ) → (bit (g .positive) k ≡ true → bit s k ≡ true) × (bit (g .negative) k ≡ true → bit s k ≡ false) =
+        λ k. line-met (bit s k) (bit (g .positive) k) (bit (g .negative) k) (valid-apart maxLines g (valid-facts maxLines g v) k) (h k) in
+        lines-fires g s (record { on = λ k. l k .0; off = λ k. l k .1 })
+
 -- ---- the state after a gate
 
 pub inverted-fired : (g : Gate) (s : ℕ) → fires g s ≡ true → inverted g s ≡ bitXor s (2 ^ g .target)
@@ -163,6 +240,12 @@ inverted-fired g s e = cond-true _ _ _ e
 pub inverted-idle : (g : Gate) (s : ℕ) → fires g s ≡ false → inverted g s ≡ s
 unfolding inverted
 inverted-idle g s e = cond-false _ _ _ e
+
+-- the same by the bit of firing, shifted to the target
+pub inverted-shifted : (g : Gate) (s : ℕ) (t : Bool) → g .target < maxLines → t ≡ fires g s → bitXor s ((boolByte t * 2 ^ g .target) % 2 ^ maxLines) ≡ inverted g s
+inverted-shifted g s true h e =
+    ap (bitXor s) (shl-exact 1 (g .target) maxLines (lit< tt) (omega arith) ∙ one-mul (2 ^ g .target)) ∙ sym (inverted-fired g s (sym e))
+inverted-shifted g s false h e = ap (bitXor s) (ap (λ (x : ℕ). x % 2 ^ maxLines) (zero-mul (2 ^ g .target))) ∙ xor-zero-r s ∙ sym (inverted-idle g s (sym e))
 
 pub apply-gate : (g : Gate) (s : ℕ) → valid maxLines g ≡ true → apply g s ≡ inverted g s
 unfolding apply
@@ -233,11 +316,7 @@ valid-more m n g h e =
       free = v .free;
     })
 
--- two masks that share no line, and a line that stands in neither
-shared-none : (a b : Bool) → (a && b) ≡ false → a ≡ true → b ≡ false
-shared-none true b e q = e
-shared-none false b e q = absurd (false≢true q)
-
+-- a line that stands in no mask
 none-shared : (a b : Bool) → (a ≡ true → b ≡ false) → (a && b) ≡ false
 none-shared true b h = h refl
 none-shared false b h = refl
@@ -249,9 +328,6 @@ neither false false true p q = refl
 neither true b false p q = refl
 neither false true false p q = refl
 neither false false false p q = refl
-
-pub valid-apart : (n : ℕ) (g : Gate) → Valid n g → (k : ℕ) → bit (g .positive) k ≡ true → bit (g .negative) k ≡ false
-valid-apart n g v k = shared-none _ _ (sym (bit-and (g .positive) (g .negative) k) ∙ ap (λ (x : ℕ). bit x k) (v .apart) ∙ bit-none k)
 
 pub valid-by-lines : (n : ℕ) (g : Gate) → valid n g ≡ true → ValidByLines n g
 valid-by-lines n g e =

@@ -4,7 +4,7 @@ use mathlib.Core.Bool.{true}
 use mathlib.Core.List.{List, [], _∷_, _++_, reverse, reverse-cons}
 use Prim.Native.Nat.{ℕ, _+_, _-_, _*_, _/_, _%_, _≤_, _<_}
 use native.Mathlib.Omega.{arith}
-use lib.ListN.{length, drop, take, length-reverse, length-drop, length-take}
+use lib.ListN.{length, drop, take, length-reverse, length-drop}
 use borrow.Author.Tests.{le-leb, lt-leb}
 use borrow.Rule.Slice.PartMut.{putMid}
 use Rattle.bits.specs.Lists.{over}
@@ -14,12 +14,12 @@ use Rattle.circuit.specs.declared.gate.Gate.{Gate}
 use Rattle.circuit.specs.Gate.{maxGates, valid, apply}
 use Rattle.circuit.specs.Outcome.{Outcome, served, refused, written, Yields}
 use Rattle.circuit.specs.Refusal.{noRoom}
-use Rattle.circuit.specs.Words.{gateAt, gateWords, gatesOf, wordsOf, putGate, allValid, checkOutcome}
+use Rattle.circuit.specs.Words.{gateAt, gateWords, gatesOf, wordsOf, allValid, checkOutcome}
 use Rattle.circuit.specs.Inverse.{inverse, inverseOutcome, inverseBuffer}
 use Rattle.circuit.specs.Run.{run}
 use Rattle.circuit.proofs.gate.Laws.{apply-twice}
 use Rattle.circuit.proofs.Outcome.{demand-met, demand-failed, then-served, then-refused, told}
-use Rattle.circuit.proofs.words.Laws.{gates-next, gates-end, gates-length, words-length, words-reverse, put-fits, valid-append}
+use Rattle.circuit.proofs.words.Laws.{gates-next, gates-end, gates-length, words-length, words-reverse, valid-append}
 
 -- the words of the gates from j on, in reverse order
 abbrev pub tailBack : List ℕ → ℕ → List ℕ
@@ -43,14 +43,13 @@ unfolding wordsOf
 back-none ws = ap (λ (l : List Gate). wordsOf (reverse l)) (gates-end ws (length ws / 3) (omega arith))
 
 -- a turn of the loop: gate j - 1 is put into the rest of the buffer
-pub back-turn : (ws first out last : List ℕ) (j at : ℕ) (g : Gate) → 0 < j → at + 3 * j ≡ 3 * (length ws / 3) → at + 3 ≤ length out
-    → out ≡ over (tailBack ws j) first → g ≡ gateAt ws (j - 1) → last ≡ putGate g (take (length out - at) (drop at out))
+pub back-turn : (ws first out last : List ℕ) (j at : ℕ) (g : Gate) → 0 < j → at + 3 * j ≡ 3 * (length ws / 3) → at ≤ length out
+    → out ≡ over (tailBack ws j) first → g ≡ gateAt ws (j - 1) → last ≡ over (gateWords g) (take (length out - at) (drop at out))
     → putMid at (length out - at) out last ≡ over (tailBack ws (j - 1)) first
 back-turn ws first out last j at g some here room was is put =
     let n : length (tailBack ws j) ≡ 3 * (length ws / 3 - j) = back-length ws j in
     let up : j - 1 + 1 ≡ j = omega arith in
-    let fits : 3 ≤ length (take (length out - at) (drop at out)) = omega (arith, length-take (length out - at) (drop at out), length-drop at out) in
-    lent-over (tailBack ws j) (gateWords g) first out last at was (omega arith) (omega arith) (put ∙ put-fits g (take (length out - at) (drop at out)) fits)
+    lent-over (tailBack ws j) (gateWords g) first out last at was (omega arith) (omega arith) put
     ∙ ap (λ (l : List ℕ). over l first)
     (sym (back-more ws (j - 1) g (omega arith) is ∙ ap (λ (k : ℕ). tailBack ws k ++ gateWords g) up))
 

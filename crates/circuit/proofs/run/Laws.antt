@@ -13,34 +13,22 @@ use Rattle.bits.proofs.Lists.{fold-append}
 use Rattle.bits.proofs.Bools.{and-parts, either}
 use Rattle.circuit.specs.declared.gate.Gate.{Gate}
 use Rattle.circuit.specs.Gate.{maxLines, maxGates, apply, inverted, valid}
-use Rattle.circuit.specs.Outcome.{served, refused}
-use Rattle.circuit.specs.Refusal.{badState}
-use Rattle.circuit.specs.Words.{gateAt, gatesOf, allValid, checkOutcome, Cascade}
+use Rattle.circuit.specs.Outcome.{Outcome, served, refused, andThen}
+use Rattle.circuit.specs.Refusal.{badState, badLineCount}
+use Rattle.circuit.specs.Words.{gateAt, gatesOf, allValid, lineCountGood, validFrom, sizeOutcome, checkOutcome}
 use Rattle.circuit.specs.Run.{run, Equal, Differs, runOutcome}
-use Rattle.circuit.proofs.Outcome.{demand-met, demand-failed, then-served, then-refused}
-use Rattle.circuit.proofs.gate.Laws.{Valid, valid-facts, apply-gate, apply-below}
-use Rattle.circuit.proofs.words.Laws.{gates-next, gates-end, valid-all-more}
+use Rattle.circuit.proofs.Outcome.{never, demand-met, demand-failed, then-served, then-refused, then-both, then-fails}
+use Rattle.circuit.proofs.gate.Laws.{apply-gate, apply-below}
+use Rattle.circuit.proofs.words.Laws.{gates-next, gates-end, check-lines, check-gates, gates-refused, gates-sized}
 
--- what a turn over the words does: gate i of a cascade is valid, and the others after it
-module _ (ws : List ℕ) (i : ℕ) (g : Gate) (inside : i < length ws / 3) (is : g ≡ gateAt ws i) (good : allValid maxLines (gatesOf (drop (3 * i) ws)) ≡ true) where
-  both-valid : (valid maxLines g ≡ true) × (allValid maxLines (gatesOf (drop (3 * (i + 1)) ws)) ≡ true)
-  unfolding allValid
-  both-valid =
-      let (a, b) = and-parts (valid maxLines (gateAt ws i)) (allValid maxLines (gatesOf (drop (3 * (i + 1)) ws))) (sym (ap (allValid maxLines) (gates-next ws i inside)) ∙ good) in
-      (ap (valid maxLines) is ∙ a, b)
-
-  pub turn-target : g .target < maxLines
-  turn-target = valid-facts maxLines g (both-valid .0) .target-below
-
-  pub turn-valid : allValid maxLines (gatesOf (drop (3 * (i + 1)) ws)) ≡ true
-  turn-valid = both-valid .1
-
-  pub turn-run : (s : ℕ) → run (gatesOf (drop (3 * i) ws)) s ≡ run (gatesOf (drop (3 * (i + 1)) ws)) (inverted g s)
-  unfolding fold
-  turn-run s =
-      ap (λ (gs : List Gate). run gs s) (gates-next ws i inside)
-      ∙ ap (λ (f : Gate). run (gatesOf (drop (3 * (i + 1)) ws)) (apply f s)) (sym is)
-      ∙ ap (run (gatesOf (drop (3 * (i + 1)) ws))) (apply-gate g s (both-valid .0))
+-- a turn over the words: gate i acts, and the others after it
+pub run-turn : (ws : List ℕ) (i : ℕ) (g : Gate) (s : ℕ) → i < length ws / 3 → g ≡ gateAt ws i → valid maxLines g ≡ true
+    → run (gatesOf (drop (3 * i) ws)) s ≡ run (gatesOf (drop (3 * (i + 1)) ws)) (inverted g s)
+unfolding fold
+run-turn ws i g s inside is v =
+    ap (λ (gs : List Gate). run gs s) (gates-next ws i inside)
+    ∙ ap (λ (f : Gate). run (gatesOf (drop (3 * (i + 1)) ws)) (apply f s)) (sym is)
+    ∙ ap (run (gatesOf (drop (3 * (i + 1)) ws))) (apply-gate g s v)
 
 pub run-end : (ws : List ℕ) (i s : ℕ) → length ws / 3 ≤ i → run (gatesOf (drop (3 * i) ws)) s ≡ s
 unfolding fold
@@ -66,19 +54,34 @@ equal-differs n a b = (
 -- ---- what the call answers
 
 module _ (n : ℕ) (ws : List ℕ) (s : ℕ) where
-  pub run-refused : (number place : ℕ) → checkOutcome n ws maxGates ≡ refused number place → runOutcome n ws s ≡ refused number place
+  pub run-lines : lineCountGood n ≡ false → runOutcome n ws s ≡ refused badLineCount 0
   unfolding runOutcome
-  run-refused number place e = then-refused _ _ number place e
+  run-lines e = then-refused _ _ badLineCount 0 (check-lines n ws maxGates e)
 
-  module _ (k : ℕ) (good : checkOutcome n ws maxGates ≡ served k) where
-    pub run-outside : ltb s (2 ^ n) ≡ false → runOutcome n ws s ≡ refused badState 0
+  module _ (lines : lineCountGood n ≡ true) where
+    pub run-size : (number place : ℕ) → sizeOutcome ws maxGates ≡ refused number place → runOutcome n ws s ≡ refused number place
     unfolding runOutcome
-    run-outside e = then-served _ _ k good ∙ demand-failed _ _ _ _ e
+    run-size number place e = then-refused _ _ number place (check-gates n ws maxGates lines ∙ gates-refused n ws maxGates number place e)
 
-    pub run-made : ltb s (2 ^ n) ≡ true → runOutcome n ws s ≡ served (run (gatesOf ws) s)
-    unfolding runOutcome
-    run-made e = then-served _ _ k good ∙ demand-met _ _ _ _ e
+    module _ (k : ℕ) (size : sizeOutcome ws maxGates ≡ served k) where
+      found : (o : Outcome ℕ) → validFrom n 0 (gatesOf ws) ≡ o → checkOutcome n ws maxGates ≡ o
+      found o e = check-gates n ws maxGates lines ∙ gates-sized n ws maxGates k size ∙ e
 
--- the gates of a cascade are valid on 64 lines
-pub cascade-valid : (n : ℕ) (ws : List ℕ) (limit k : ℕ) → Cascade n ws limit k → allValid maxLines (gatesOf ws) ≡ true
-cascade-valid n ws limit k c = valid-all-more n maxLines (gatesOf ws) (c .lines-high) (c .gates)
+      -- what the walk over the gates answers
+      abbrev pub walked : Outcome ℕ
+      walked = andThen (validFrom n 0 (gatesOf ws)) (λ k. served (run (gatesOf ws) s))
+
+      pub run-gate : (number place : ℕ) → refused number place ≡ walked → runOutcome n ws s ≡ refused number place
+      unfolding runOutcome
+      run-gate number place e =
+          then-refused _ _ number place (found _ (then-fails (validFrom n 0 (gatesOf ws)) (λ m. run (gatesOf ws) s) number place (sym e)))
+
+      pub run-outside : (t : ℕ) → served t ≡ walked → ltb s (2 ^ n) ≡ false → runOutcome n ws s ≡ refused badState 0
+      unfolding runOutcome
+      run-outside t f e = let (m, v, w) = then-both (validFrom n 0 (gatesOf ws)) _ t (sym f) in then-served _ _ m (found _ v) ∙ demand-failed _ _ _ _ e
+
+      pub run-made : (t : ℕ) → served t ≡ walked → ltb s (2 ^ n) ≡ true → runOutcome n ws s ≡ served t
+      unfolding runOutcome
+      run-made t f e =
+          let (m, v, w) = then-both (validFrom n 0 (gatesOf ws)) _ t (sym f) in
+          then-served _ _ m (found _ v) ∙ demand-met _ _ _ _ e ∙ w

@@ -17,7 +17,7 @@ use Rattle.circuit.specs.declared.gate.Gate.{Gate}
 use Rattle.circuit.specs.Gate.{maxLines, maxGates, notGate, valid}
 use Rattle.circuit.specs.Outcome.{Outcome, served, refused, demand, andThen}
 use Rattle.circuit.specs.Refusal.{badLineCount, tooManyGates, noGate, lineCountsDiffer, badWordCount}
-use Rattle.circuit.specs.Words.{gatesOf, gateAt, gateWords, wordsOf, putGate, allValid, lineCountGood, validFrom, gatesOutcome, checkOutcome, Counts, pairOutcome, Cascade, WordsFault, lines, thirds, many, gate, PairFault, first-fault, second-fault, differ}
+use Rattle.circuit.specs.Words.{gatesOf, gateAt, gateWords, wordsOf, putGate, allValid, lineCountGood, validFrom, sizeOutcome, gatesOutcome, checkOutcome, Counts, pairOutcome, Cascade, WordsFault, lines, thirds, many, gate, PairFault, first-fault, second-fault, differ}
 use Rattle.circuit.proofs.gate.Laws.{valid-more}
 use Rattle.circuit.proofs.Outcome.{never, demand-met, demand-failed, demanded, then-served, then-refused, then-both}
 
@@ -199,17 +199,33 @@ pub good-lines : (n : ℕ) → 1 ≤ n → n ≤ maxLines → lineCountGood n �
 good-lines n a b = both (le-leb 1 n a) (le-leb n maxLines b)
 
 module _ (n : ℕ) (ws : List ℕ) (limit : ℕ) where
-  pub gates-uneven : (length ws % 3 ≡ 0 → ⊥) → gatesOutcome n ws limit ≡ refused badWordCount 0
-  unfolding gatesOutcome
-  gates-uneven h = demand-failed _ _ _ _ (ne-eqb _ _ h)
+  pub size-uneven : (length ws % 3 ≡ 0 → ⊥) → sizeOutcome ws limit ≡ refused badWordCount 0
+  unfolding sizeOutcome
+  size-uneven h = demand-failed _ _ _ _ (ne-eqb _ _ h)
 
-  pub gates-many : length ws % 3 ≡ 0 → limit < length ws / 3 → gatesOutcome n ws limit ≡ refused tooManyGates 0
-  unfolding gatesOutcome
-  gates-many e h = demand-met _ _ _ _ (eq-eqb _ _ e) ∙ demand-failed _ _ _ _ (lt-leb _ _ h)
+  pub size-many : length ws % 3 ≡ 0 → limit < length ws / 3 → sizeOutcome ws limit ≡ refused tooManyGates 0
+  unfolding sizeOutcome
+  size-many e h = demand-met _ _ _ _ (eq-eqb _ _ e) ∙ demand-failed _ _ _ _ (lt-leb _ _ h)
 
-  pub gates-tested : length ws % 3 ≡ 0 → length ws / 3 ≤ limit → gatesOutcome n ws limit ≡ validFrom n 0 (gatesOf ws)
+  pub size-good : length ws % 3 ≡ 0 → length ws / 3 ≤ limit → sizeOutcome ws limit ≡ served (length ws / 3)
+  unfolding sizeOutcome
+  size-good e h = demand-met _ _ _ _ (eq-eqb _ _ e) ∙ demand-met _ _ _ _ (le-leb _ _ h)
+
+  -- what a served size says
+  pub size-served : (k : ℕ) → sizeOutcome ws limit ≡ served k → (length ws % 3 ≡ 0) × (length ws / 3 ≤ limit)
+  unfolding sizeOutcome
+  size-served k e =
+      let (b, g) = demanded (eqb (length ws % 3) 0) badWordCount 0 _ k e in
+      let (d, h) = demanded (leb (length ws / 3) limit) tooManyGates 0 _ k g in
+      (eqb-true _ _ b, leb-true _ _ d)
+
+  pub gates-refused : (number place : ℕ) → sizeOutcome ws limit ≡ refused number place → gatesOutcome n ws limit ≡ refused number place
   unfolding gatesOutcome
-  gates-tested e h = demand-met _ _ _ _ (eq-eqb _ _ e) ∙ demand-met _ _ _ _ (le-leb _ _ h)
+  gates-refused number place e = then-refused _ _ number place e
+
+  pub gates-sized : (k : ℕ) → sizeOutcome ws limit ≡ served k → gatesOutcome n ws limit ≡ validFrom n 0 (gatesOf ws)
+  unfolding gatesOutcome
+  gates-sized k e = then-served _ _ k e
 
   pub check-lines : lineCountGood n ≡ false → checkOutcome n ws limit ≡ refused badLineCount 0
   unfolding checkOutcome
@@ -224,11 +240,9 @@ module _ (n : ℕ) (ws : List ℕ) (limit : ℕ) where
   unfolding checkOutcome gatesOutcome
   check-served k e =
       let (a, f) = demanded (lineCountGood n) badLineCount 0 (gatesOutcome n ws limit) k e in
-      let (b, g) = demanded (eqb (length ws % 3) 0) badWordCount 0 _ k f in
-      let (d, h) = demanded (leb (length ws / 3) limit) tooManyGates 0 (validFrom n 0 (gatesOf ws)) k g in
+      let (m, g, h) = then-both (sizeOutcome ws limit) _ k f in
+      let (t, l) = size-served m g in
       let (v, s) = from-served n 0 (gatesOf ws) k h in
-      let t : length ws % 3 ≡ 0 = eqb-true _ _ b in
-      let l : length ws / 3 ≤ limit = leb-true _ _ d in
       let c = gates-length ws in
       record { lines-low = lines-good n a .0; lines-high = lines-good n a .1; size = omega arith; few = omega arith; gates = v }
 
@@ -238,7 +252,7 @@ module _ (n : ℕ) (ws : List ℕ) (limit : ℕ) where
       let f = c .few in
       let e : 0 + length (gatesOf ws) ≡ k = omega (arith, gates-length ws) in
       check-gates (good-lines n (c .lines-low) (c .lines-high))
-      ∙ gates-tested (omega arith) (omega arith)
+      ∙ gates-sized (length ws / 3) (size-good (omega arith) (omega arith))
       ∙ served-from n 0 (gatesOf ws) (c .gates)
       ∙ ap served e
 
@@ -250,9 +264,9 @@ module _ (n : ℕ) (ws : List ℕ) (limit : ℕ) where
       either (eqb (length ws % 3) 0)
       (λ b. let t : length ws % 3 ≡ 0 = eqb-true _ _ b in
       either (leb (length ws / 3) limit)
-      (λ d. let l : length ws / 3 ≤ limit = leb-true _ _ d in first low high t l (from-refused n 0 (gatesOf ws) number place (sym (check-gates a ∙ gates-tested t l) ∙ e)))
-      (λ d. let l : limit < length ws / 3 = leb-false _ _ d in is tooManyGates 0 (sym (check-gates a ∙ gates-many t l) ∙ e) (many low high t l)))
-      (λ b. is badWordCount 0 (sym (check-gates a ∙ gates-uneven (eqb-false _ _ b)) ∙ e) (thirds low high (eqb-false _ _ b))))
+      (λ d. let l : length ws / 3 ≤ limit = leb-true _ _ d in first low high t l (from-refused n 0 (gatesOf ws) number place (sym (check-gates a ∙ gates-sized (length ws / 3) (size-good t l)) ∙ e)))
+      (λ d. let l : limit < length ws / 3 = leb-false _ _ d in is tooManyGates 0 (sym (check-gates a ∙ gates-refused tooManyGates 0 (size-many t l)) ∙ e) (many low high t l)))
+      (λ b. is badWordCount 0 (sym (check-gates a ∙ gates-refused badWordCount 0 (size-uneven (eqb-false _ _ b))) ∙ e) (thirds low high (eqb-false _ _ b))))
       (λ a. is badLineCount 0 (sym (check-lines a) ∙ e) (lines (λ low high. refuted a (good-lines n low high))))
     where
       is : (x y : ℕ) → _≡_ {A = Outcome ℕ} (refused x y) (refused number place) → WordsFault n ws limit x y → WordsFault n ws limit number place
@@ -267,10 +281,10 @@ module _ (n : ℕ) (ws : List ℕ) (limit : ℕ) where
 
   pub refused-check : (number place : ℕ) → WordsFault n ws limit number place → checkOutcome n ws limit ≡ refused number place
   refused-check number place (lines h) = check-lines (not-held _ (λ e. let (a, b) = lines-good n e in h a b))
-  refused-check number place (thirds low high h) = check-gates (good-lines n low high) ∙ gates-uneven h
-  refused-check number place (many low high t l) = check-gates (good-lines n low high) ∙ gates-many t l
+  refused-check number place (thirds low high h) = check-gates (good-lines n low high) ∙ gates-refused badWordCount 0 (size-uneven h)
+  refused-check number place (many low high t l) = check-gates (good-lines n low high) ∙ gates-refused tooManyGates 0 (size-many t l)
   refused-check number place (gate low high t l j h w f) =
-      check-gates (good-lines n low high) ∙ gates-tested t l ∙ refused-from n 0 (gatesOf ws) j (omega (arith, gates-length ws)) w f
+      check-gates (good-lines n low high) ∙ gates-sized (length ws / 3) (size-good t l) ∙ refused-from n 0 (gatesOf ws) j (omega (arith, gates-length ws)) w f
       ∙ ap (refused noGate) (omega arith)
 
 -- ---- two cascades

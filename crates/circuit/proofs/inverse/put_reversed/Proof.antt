@@ -26,23 +26,23 @@ loop-holds c =
 sub-j : tie.Need-sub-j Inv-loop μ-loop
 sub-j c = search needs
 
-mul-put-gate : tie.Need-mul-put-gate Inv-loop μ-loop
-mul-put-gate c = search needs
+mul-store-gate : tie.Need-mul-store-gate Inv-loop μ-loop
+mul-store-gate c = search needs
 
-sub-put-gate : tie.Need-sub-put-gate Inv-loop μ-loop
-sub-put-gate c = search needs
+sub-store-gate : tie.Need-sub-store-gate Inv-loop μ-loop
+sub-store-gate c = search needs
 
-part-put-gate-start : tie.Need-part-put-gate-start Inv-loop μ-loop
-part-put-gate-start c = search needs
+part-store-gate-start : tie.Need-part-store-gate-start Inv-loop μ-loop
+part-store-gate-start c = search needs
 
-part-put-gate-end : tie.Need-part-put-gate-end Inv-loop μ-loop
-part-put-gate-end c = search needs
+part-store-gate-end : tie.Need-part-store-gate-end Inv-loop μ-loop
+part-store-gate-end c = search needs
 
 gate-at-requires : tie.Need-gate-at-requires Inv-loop μ-loop
 gate-at-requires c κs = search needs
 
-put-gate-requires : tie.Need-put-gate-requires Inv-loop μ-loop
-put-gate-requires c κs = search needs
+store-gate-requires : tie.Need-store-gate-requires Inv-loop μ-loop
+store-gate-requires c κs = search needs
 
 add-at : tie.Need-add-at Inv-loop μ-loop
 add-at c = search needs
@@ -58,8 +58,8 @@ loop-again c =
     let a = l .before .before .before .args in
     let i = l .loop .inv in (
       omega arith,
-      same-len-mid (l .loop .at) (length (l .loop .out) - l .loop .at) (l .loop .out) (p .put-gate .last .0) (p .put-gate .kept .0) ∙ i .1,
-      back-turn (a .words .now) (a .out .now) (l .loop .out) _ (l .loop .j) (l .loop .at) _ (omega arith) (omega arith) (omega arith) (i .2) (g .gate-at .ensures) (p .put-gate .ensures),
+      same-len-mid (l .loop .at) (length (l .loop .out) - l .loop .at) (l .loop .out) (p .store-gate .last .0) (p .store-gate .kept .0) ∙ i .1,
+      back-turn (a .words .now) (a .out .now) (l .loop .out) _ (l .loop .j) (l .loop .at) _ (omega arith) (omega arith) (omega arith) (i .2) (g .gate-at .ensures) (p .store-gate .ensures),
     )
 
 same-length : tie.Need-same-length Inv-loop μ-loop
@@ -76,12 +76,12 @@ put-reversed-spec =
     μ-loop
     loop-holds
     sub-j
-    mul-put-gate
-    sub-put-gate
-    part-put-gate-start
-    part-put-gate-end
+    mul-store-gate
+    sub-store-gate
+    part-store-gate-start
+    part-store-gate-end
     gate-at-requires
-    put-gate-requires
+    store-gate-requires
     add-at
     loop-less
     loop-again

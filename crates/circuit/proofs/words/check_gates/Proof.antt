@@ -1,90 +1,30 @@
--- `circuit::words::check_gates` meets its contract. The loop's invariant: the gates that were passed are valid, so what is left decides. Assumes nothing.
-use mathlib.Core.Path.{_≡_, refl, sym, ap, _∙_}
-use Prim.Native.Nat.{ℕ, _≤_, _-_, _*_, _/_}
-use native.Mathlib.Omega.{arith}
-use lib.ListN.{length, drop}
+-- `circuit::words::check_gates` meets its contract. Assumes nothing.
+use mathlib.Core.Path.{_≡_, sym, ap, _∙_}
 use borrow.Author.Needs.{needs}
-use borrow.Author.Tests.{not-true, not-false}
-use Rattle.circuit.specs.Outcome.{served}
-use Rattle.circuit.specs.Words.{gatesOf, validFrom}
-use Rattle.circuit.proofs.Outcome.{why}
-use Rattle.circuit.proofs.words.Laws.{gates-uneven, gates-many, gates-tested, next-good, next-bad, none-left}
+use Rattle.circuit.specs.Words.{ofCount}
+use Rattle.circuit.proofs.words.Laws.{gates-refused, gates-sized}
 use Rattle.circuit.proofs.words.check_gates.Statement.{statement}
 use Rattle.circuit.proofs.words.check_gates.Tie as tie
 
-abbrev Inv-loop : tie.InvT-loop
-Inv-loop n words limit gates i₀ i = (i ≤ gates) × (validFrom n 0 (gatesOf words) ≡ validFrom n i (gatesOf (drop (3 * i) words)))
+check-size-requires : tie.Need-check-size-requires
+check-size-requires c κs = search needs
 
-abbrev μ-loop : tie.MeasureT-loop
-μ-loop n words limit gates i₀ i = gates - i
+enum-known-why : tie.Need-enum-known-why
+enum-known-why c = search needs
 
-bad-word-count-requires : tie.Need-bad-word-count-requires Inv-loop μ-loop
-bad-word-count-requires c κs = search needs
+enum-told : tie.Need-enum-told
+enum-told c = search needs
 
-returns : tie.Need-returns Inv-loop μ-loop
-returns c = why (c .bad-word-count .ensures) ∙ sym (gates-uneven _ _ _ (c .before .if1 .taken))
+check-each-requires : tie.Need-check-each-requires
+check-each-requires c κs = search needs
 
-too-many-gates-requires : tie.Need-too-many-gates-requires Inv-loop μ-loop
-too-many-gates-requires c κs = search needs
+returns : tie.Need-returns
+returns c = let w = c .before in sym (gates-refused _ _ _ _ _ (sym (w .before .before .check-size .ensures) ∙ ap ofCount (w .why .given .1)))
 
-returns-2 : tie.Need-returns-2 Inv-loop μ-loop
-returns-2 c = why (c .too-many-gates .ensures) ∙ sym (gates-many _ _ _ (omega arith) (c .before .if2 .taken))
-
-loop-holds : tie.Need-loop-holds Inv-loop μ-loop
-loop-holds c = (omega arith, refl)
-
-gate-at-requires : tie.Need-gate-at-requires Inv-loop μ-loop
-gate-at-requires c κs = search needs
-
-valid-requires : tie.Need-valid-requires Inv-loop μ-loop
-valid-requires c κs = search needs
-
-no-gate-requires : tie.Need-no-gate-requires Inv-loop μ-loop
-no-gate-requires c κs = search needs
-
-returns-3 : tie.Need-returns-3 Inv-loop μ-loop
-returns-3 c =
-    let v = c .before .before in
-    let l = v .before .before .before in
-    why (c .no-gate .ensures)
-    ∙ sym (gates-tested _ _ _ (omega arith) (omega arith)
-    ∙ l .loop .inv .1
-    ∙ next-bad _ _ _ _ (omega arith) (v .before .gate-at .ensures) (sym (v .valid .ensures) ∙ not-true _ (c .before .if3 .taken)))
-
-add-i : tie.Need-add-i Inv-loop μ-loop
-add-i c = omega arith
-
-loop-less : tie.Need-loop-less Inv-loop μ-loop
-loop-less c = omega arith
-
-loop-again : tie.Need-loop-again Inv-loop μ-loop
-loop-again c =
-    let v = c .before in
-    let l = v .before .before .before in
-    (omega arith, l .loop .inv .1 ∙ next-good _ _ _ _ (omega arith) (v .before .gate-at .ensures) (sym (v .valid .ensures) ∙ not-false _ (c .if3 .left)))
-
-returns-4 : tie.Need-returns-4 Inv-loop μ-loop
-returns-4 c =
-    let l = c .before in
-    let e : l .loop .i ≡ length (l .before .before .before .before .args .words .now) / 3 = omega arith in
-    sym (gates-tested _ _ _ (omega arith) (omega arith) ∙ l .loop .inv .1 ∙ none-left _ _ _ (omega arith) ∙ ap served e)
+returns-2 : tie.Need-returns-2
+returns-2 c =
+    let t = c .before in
+    c .check-each .ensures ∙ sym (gates-sized _ _ _ _ (sym (t .before .before .check-size .ensures) ∙ ap ofCount (t .enum-told .given .1)))
 
 pub check-gates-spec : {M : Type 1} → statement M
-check-gates-spec =
-    tie.close
-    (tie.spec
-    Inv-loop
-    μ-loop
-    bad-word-count-requires
-    returns
-    too-many-gates-requires
-    returns-2
-    loop-holds
-    gate-at-requires
-    valid-requires
-    no-gate-requires
-    returns-3
-    add-i
-    loop-less
-    loop-again
-    returns-4)
+check-gates-spec = tie.close (tie.spec check-size-requires enum-known-why enum-told check-each-requires returns returns-2)

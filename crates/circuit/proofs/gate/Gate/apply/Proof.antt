@@ -1,7 +1,7 @@
 -- `circuit::gate::Gate::apply` meets its contract. Assumes nothing.
 use mathlib.Core.Path.{_≡_, sym, _∙_}
 use borrow.Author.Needs.{needs}
-use Rattle.circuit.proofs.gate.Laws.{Valid, valid-facts, apply-gate, apply-none}
+use Rattle.circuit.proofs.gate.Laws.{apply-gate, apply-none}
 use Rattle.circuit.proofs.gate.Gate.apply.Statement.{statement}
 use Rattle.circuit.proofs.gate.Gate.apply.Tie as tie
 
@@ -9,7 +9,7 @@ valid-requires : tie.Need-valid-requires
 valid-requires c κs = search needs
 
 invert-requires : tie.Need-invert-requires
-invert-requires c κs = valid-facts _ _ (sym (c .before .valid .ensures) ∙ c .if1 .taken) .target-below
+invert-requires c κs = sym (c .before .valid .ensures) ∙ c .if1 .taken
 
 returns : tie.Need-returns
 returns c =
