@@ -5,17 +5,19 @@
 //! expected.rs, and a file in calls/ whose `section` stands in the list below.
 
 mod calls {
-    pub mod emit;
     pub mod differs;
+    pub mod emit;
     pub mod faults;
     pub mod fewer;
     pub mod first_difference;
     pub mod inverse;
     pub mod miter;
+    pub mod read;
     pub mod reduce;
     pub mod run;
     pub mod sizes;
     pub mod step;
+    pub mod write;
 }
 mod capi;
 mod classes;
@@ -33,6 +35,8 @@ const SEED: u64 = 20_240_601;
 
 /// One section a call. It checks its cases and returns its table.
 const SECTIONS: &[fn(&mut Random) -> Counts] = &[
+    calls::read::section,
+    calls::write::section,
     calls::run::section,
     calls::inverse::section,
     calls::sizes::section,

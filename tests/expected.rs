@@ -1,9 +1,9 @@
 //! The reference's answers in the numbers of the C interface: number 0 for a served call, and 0 for
 //! each value that a case does not have.
 
-use crate::capi::{CountAnswer, DiffersAnswer, FewerAnswer, ReduceAnswer};
-use crate::capi::{RunAnswer, SizesAnswer, StateAnswer, StepAnswer};
-use crate::reference::{Found, Match, Picked, Reduced, Refusal, Sizes};
+use crate::capi::{CountAnswer, DiffersAnswer, FewerAnswer, ReadAnswer, ReduceAnswer};
+use crate::capi::{RunAnswer, SizesAnswer, StateAnswer, StepAnswer, WriteAnswer};
+use crate::reference::{FileCascade, Found, Match, Picked, Reduced, Refusal, Sizes};
 
 pub fn run_answer(answer: Result<u64, Refusal>) -> RunAnswer {
     match answer {
@@ -140,5 +140,39 @@ pub fn fewer_answer(answer: Result<Picked, Refusal>) -> FewerAnswer {
         place,
         second,
         gates,
+    }
+}
+
+pub fn read_answer(answer: &Result<FileCascade, Refusal>) -> ReadAnswer {
+    match answer {
+        Ok(cascade) => ReadAnswer {
+            number: 0,
+            place: 0,
+            lines: cascade.lines,
+            gates: cascade.gates.len() as u64,
+            taken: cascade.taken as u64,
+        },
+        Err(Refusal { number, place }) => ReadAnswer {
+            number: *number,
+            place: *place,
+            lines: 0,
+            gates: 0,
+            taken: 0,
+        },
+    }
+}
+
+pub fn write_answer(answer: Result<u64, Refusal>) -> WriteAnswer {
+    match answer {
+        Ok(written) => WriteAnswer {
+            number: 0,
+            place: 0,
+            written,
+        },
+        Err(Refusal { number, place }) => WriteAnswer {
+            number,
+            place,
+            written: 0,
+        },
     }
 }

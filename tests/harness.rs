@@ -21,6 +21,12 @@ impl Element for u64 {
     }
 }
 
+impl Element for u8 {
+    fn guard(index: usize) -> u8 {
+        0xa5 ^ index as u8
+    }
+}
+
 impl Element for i16 {
     fn guard(index: usize) -> i16 {
         0x5a00 + index as i16

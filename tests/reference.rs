@@ -668,3 +668,160 @@ pub fn with_added_control(gates: &[Gate], index: usize, line: u64, positive: boo
     repaired[index] = repaired[index].with_control(line, Some(positive));
     repaired
 }
+
+// ---- cascade file
+
+/// What a file holds: its line count and gates, and how many bytes they took.
+#[derive(Clone, Debug, PartialEq)]
+pub struct FileCascade {
+    pub lines: u64,
+    pub gates: Vec<Gate>,
+    pub taken: usize,
+}
+
+/// A number: decimal, one or two digits, no leading zero.
+fn file_number(field: &[u8]) -> Option<u64> {
+    let digits: Vec<u64> = field
+        .iter()
+        .map(|byte| byte.wrapping_sub(b'0') as u64)
+        .collect();
+    match digits[..] {
+        [one] if one < 10 => Some(one),
+        [ten, one] if (1..10).contains(&ten) && one < 10 => Some(10 * ten + one),
+        _ => None,
+    }
+}
+
+/// A line of the cascade in a field: 1 for its form, 3 for its value.
+fn file_line(field: &[u8], n: u64, place: u64) -> Result<u64, Refusal> {
+    match file_number(field) {
+        None => refuse(1, place),
+        Some(line) if line >= n => refuse(3, place),
+        Some(line) => Ok(line),
+    }
+}
+
+/// Line 0: `lines`, n, and the LF.
+fn file_header(fields: &[&[u8]], ended: bool) -> Result<u64, Refusal> {
+    if fields[0] != b"lines" || fields.len() < 2 {
+        return refuse(1, 0);
+    }
+    let Some(n) = file_number(fields[1]) else {
+        return refuse(1, 0);
+    };
+    if bad_line_count(n) {
+        return refuse(2, 0);
+    }
+    if fields.len() > 2 || !ended {
+        return refuse(1, 0);
+    }
+    Ok(n)
+}
+
+/// A line that starts `g` tab: 1 and 3 by field, 1 for a missing LF, 4, 5.
+fn file_gate(fields: &[&[u8]], ended: bool, n: u64, place: u64) -> Result<Gate, Refusal> {
+    let target = file_line(fields[1], n, place)?;
+    let mut controls = Vec::new();
+    for field in &fields[2..] {
+        let positive = match field.first() {
+            Some(b'+') => true,
+            Some(b'-') => false,
+            _ => return refuse(1, place),
+        };
+        controls.push((file_line(&field[1..], n, place)?, positive));
+    }
+    if !ended {
+        return refuse(1, place);
+    }
+    if controls.iter().any(|(line, _)| *line == target) {
+        return refuse(4, place);
+    }
+    if controls.windows(2).any(|pair| pair[0].0 >= pair[1].0) {
+        return refuse(5, place);
+    }
+    let mask = |wanted: bool| {
+        let chosen = controls.iter().filter(|(_, positive)| *positive == wanted);
+        chosen.map(|(line, _)| 1u64 << line).sum()
+    };
+    Ok(Gate {
+        positive: mask(true),
+        negative: mask(false),
+        target,
+    })
+}
+
+/// The cascade at the start of a text; else 1 to 6 with the file line.
+pub fn read_text(text: &[u8]) -> Result<FileCascade, Refusal> {
+    let mut lines = 0;
+    let mut gates = Vec::new();
+    let mut at = 0;
+    for place in 0.. {
+        let rest = &text[at..];
+        let feed = rest.iter().position(|byte| *byte == b'\n');
+        let ended = feed.is_some();
+        let line = &rest[..feed.unwrap_or(rest.len())];
+        let fields: Vec<&[u8]> = line.split(|byte| *byte == b'\t').collect();
+        at += line.len() + 1;
+        if place == 0 {
+            lines = file_header(&fields, ended)?;
+        } else if fields[0] == b"g" && fields.len() > 1 {
+            if gates.len() == CASCADE_GATES {
+                return refuse(6, place);
+            }
+            gates.push(file_gate(&fields, ended, lines, place)?);
+        } else if line == b"end" && ended {
+            break;
+        } else {
+            return refuse(1, place);
+        }
+    }
+    Ok(FileCascade {
+        lines,
+        gates,
+        taken: at,
+    })
+}
+
+/// The text, then 10; the gates' words are at the buffer's start.
+pub fn read(text: &[u8], out: &mut [u64]) -> Result<FileCascade, Refusal> {
+    let cascade = read_text(text)?;
+    if short_buffer(out, 3 * cascade.gates.len()) {
+        return refuse(10, 0);
+    }
+    for (i, gate) in cascade.gates.iter().enumerate() {
+        out[3 * i] = gate.positive;
+        out[3 * i + 1] = gate.negative;
+        out[3 * i + 2] = gate.target;
+    }
+    Ok(cascade)
+}
+
+/// The text of a cascade.
+pub fn text_of(n: u64, gates: &[Gate]) -> Vec<u8> {
+    let mut text = format!("lines\t{n}\n");
+    for gate in gates {
+        text += &format!("g\t{}", gate.target);
+        for line in 0..64 {
+            if has(gate.positive, line) {
+                text += &format!("\t+{line}");
+            }
+            if has(gate.negative, line) {
+                text += &format!("\t-{line}");
+            }
+        }
+        text += "\n";
+    }
+    text += "end\n";
+    text.into_bytes()
+}
+
+/// The number of bytes; the text is at the buffer's start.
+pub fn write(n: u64, words: &[u64], out: &mut [u8]) -> Result<u64, Refusal> {
+    let gates = test_cascade(n, words, CASCADE_GATES)?;
+    let text = text_of(n, &gates);
+    if short_buffer(out, text.len()) {
+        return refuse(10, 0);
+    }
+    out[..text.len()].copy_from_slice(&text);
+    Ok(text.len() as u64)
+}

@@ -1,4 +1,5 @@
 pub mod Count
+pub mod File
 pub mod Run
 pub mod Sizes
 pub mod Step

@@ -3,6 +3,7 @@ pub mod compare;
 pub mod count;
 pub mod emit;
 pub mod faults;
+pub mod file;
 pub mod inverse;
 pub mod miter;
 pub mod reduce;

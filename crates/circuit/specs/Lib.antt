@@ -4,4 +4,9 @@ pub mod Gate
 pub mod Words
 pub mod Run
 pub mod Inverse
+pub mod Text
+pub mod File
+pub mod FileLaws
+pub mod Scan
+pub mod Put
 pub mod Laws

@@ -33,7 +33,7 @@ pub fn below(mask: u64, n: u64) -> bool
 }
 
 // The mask of line k alone.
-fn line(k: u64) -> u64
+pub(crate) fn line(k: u64) -> u64
     requires { ⌜ k < maxLines ⌝ }
     ensures { λ r. ⌜ r ≡ 2 ^ k ⌝ }
 {

@@ -1,0 +1,149 @@
+// Runs of rows on cascade files: a line for each, with what was read or the refusal's number and place.
+
+use circuit::file::ReadAnswer;
+use circuit::file::WriteAnswer;
+use libc::STDOUT_FILENO;
+ghost use Prim.Native.Nat.{_≤_};
+ghost use lib.ListN.{length};
+
+fn print_pair(name: &[u8], first: u64, second: u64) {
+    io::write_all(STDOUT_FILENO, name);
+    io::print_decimal(STDOUT_FILENO, first);
+    io::write_all(STDOUT_FILENO, b" ");
+    io::print_decimal(STDOUT_FILENO, second);
+}
+
+// Lines, gates and bytes taken.
+fn print_read(text: &[u8]) {
+    let mut out = [0u64; 3072];
+    match circuit::file::read(text, &mut out) {
+        ReadAnswer::Cascade {
+            header,
+            gates,
+            taken,
+        } => {
+            print_pair(b"read ", header.lines, gates as u64);
+            io::write_all(STDOUT_FILENO, b" ");
+            io::print_decimal(STDOUT_FILENO, taken as u64);
+        }
+        ReadAnswer::Refused(why) => print_pair(b"refused ", why.number, why.place),
+    }
+    io::write_all(STDOUT_FILENO, b"\n");
+}
+
+// Copies the word to the start of the buffer where it fits, and tells how many bytes that are.
+fn put(out: &mut [u8], word: &[u8]) -> usize
+    ensures { λ r. ⌜ r ≤ length (now (out .entry)) ⌝ }
+{
+    if out.len() < word.len() {
+        return 0;
+    }
+    let mut i = 0;
+    while i < word.len() {
+        out[i] = word[i];
+        i += 1;
+    }
+    i
+}
+
+// Puts so many gate lines, and tells how many bytes they are.
+fn put_gates(out: &mut [u8], gates: usize) -> usize
+    ensures { λ r. ⌜ r ≤ length (now (out .entry)) ⌝ }
+{
+    let mut at = 0;
+    let mut i = 0;
+    while i < gates {
+        at += put(&mut out[at..], b"g\t0\n");
+        i += 1;
+    }
+    at
+}
+
+// Puts a header and so many gate lines, and tells how many bytes they are.
+fn put_start(out: &mut [u8], gates: usize) -> usize
+    ensures { λ r. ⌜ r ≤ length (now (out .entry)) ⌝ }
+{
+    let at = put(&mut out[0..], b"lines\t64\n");
+    at + put_gates(&mut out[at..], gates)
+}
+
+// Puts a header, so many gate lines and then these bytes, and tells how many bytes that are.
+fn put_long(out: &mut [u8], gates: usize, last: &[u8]) -> usize
+    ensures { λ r. ⌜ r ≤ length (now (out .entry)) ⌝ }
+{
+    let at = put_start(&mut out[0..], gates);
+    at + put(&mut out[at..], last)
+}
+
+// A text of so many gate lines on 64 lines, and then these bytes.
+fn print_long(gates: usize, last: &[u8]) {
+    let mut text = [0u8; 4200];
+    let at = put_long(&mut text, gates, last);
+    if at <= 4200 {
+        print_read(&text[0..at]);
+    }
+}
+
+// The text of a cascade in a buffer of 32 bytes.
+fn print_write(lines: u64, words: &[u64]) {
+    let mut out = [0u8; 32];
+    match circuit::file::write(lines, words, &mut out) {
+        WriteAnswer::Bytes(written) => {
+            if written <= 32 {
+                io::write_all(STDOUT_FILENO, &out[0..written]);
+            }
+        }
+        WriteAnswer::Refused(why) => {
+            print_pair(b"refused ", why.number, why.place);
+            io::write_all(STDOUT_FILENO, b"\n");
+        }
+    }
+}
+
+fn main() {
+    // The smallest cascade; 64 lines; what follows `end` is not read.
+    print_read(b"lines\t1\nend\n");
+    print_read(b"lines\t64\ng\t63\t+0\t-9\t+10\t-62\nend\n");
+    print_read(b"lines\t2\ng\t1\t+0\nend\nlines\t2\nend\n");
+    // Line 0: 65, 99 and 0 are 2, 100 and 02 are 1; a field too many and a missing LF come after the number.
+    print_read(b"lines\t65\nend\n");
+    print_read(b"lines\t99\nend\n");
+    print_read(b"lines\t0\nend\n");
+    print_read(b"lines\t100\nend\n");
+    print_read(b"lines\t02\nend\n");
+    print_read(b"lines\t65\tx\nend\n");
+    print_read(b"lines\t2\tx\nend\n");
+    print_read(b"lines\t2");
+    print_read(b"");
+    // A missing line has the next index; `end` without LF its own.
+    print_read(b"lines\t2\n");
+    print_read(b"lines\t2\ng\t0\n");
+    print_read(b"lines\t2\ng\t0\nend");
+    print_read(b"lines\t2\nend\t\n");
+    print_read(b"lines\t2\ng\nend\n");
+    // Field by field, form before value: 3 before a later 1, 1 before a later 3.
+    print_read(b"lines\t4\ng\t9\t?\nend\n");
+    print_read(b"lines\t4\ng\t0\t?\t+9\nend\n");
+    print_read(b"lines\t4\ng\t0\t+01\nend\n");
+    print_read(b"lines\t4\ng\t0\t+100\nend\n");
+    // After the fields: the LF, then 4 over all controls, then 5.
+    print_read(b"lines\t2\ng\t0\t+0");
+    print_read(b"lines\t2\ng\t0\t+0\nend\n");
+    print_read(b"lines\t9\ng\t0\ng\t2\t+5\t+1\t-2\nend\n");
+    print_read(b"lines\t9\ng\t0\t+3\t-3\nend\n");
+    print_read(b"lines\t9\ng\t0\t+1\t+2\t-8\t+7\nend\n");
+    // 1,024 gate lines are read. The 1,025th that starts `g` tab is 6, whatever its form; another line there is 1.
+    print_long(1024, b"end\n");
+    print_long(1025, b"end\n");
+    print_long(1024, b"g\t");
+    print_long(1024, b"g\t?\nend\n");
+    print_long(1024, b"g\nend\n");
+    print_long(1024, b"");
+    // The text of t1+0 t0 on two lines, of t63+10-9 on 64, refusals 2, 11 and 7, and 10 for a text of 33 bytes.
+    print_write(2, &[1, 0, 1, 0, 0, 0]);
+    print_write(64, &[1024, 512, 63]);
+    print_write(65, &[0, 0, 0]);
+    print_write(2, &[0, 0]);
+    print_write(2, &[0, 0, 0, 1, 0, 0]);
+    print_write(64, &[1073742849, 0, 63, 0, 0, 0]);
+}
