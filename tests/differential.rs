@@ -22,6 +22,7 @@ mod calls {
 mod capi;
 mod classes;
 mod expected;
+mod files;
 mod harness;
 mod inputs;
 mod random;
