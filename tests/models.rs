@@ -271,7 +271,11 @@ fn main() {
         Ok(status) => status.success(),
         Err(_) => false,
     };
-    let mut random = Random::new(SEED);
+    let seed = match std::env::args().nth(1) {
+        Some(word) => word.parse().expect("the seed is a number below 2^64"),
+        None => SEED,
+    };
+    let mut random = Random::new(seed);
     let mut seen = Seen::new();
     example_five();
     let (mut tried, mut solved) = (0, 0);

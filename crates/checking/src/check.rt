@@ -1,11 +1,14 @@
 // The whole way from two cascades to clauses: the miter, a list of calls on it, and the emission.
 
 use circuit::gate::Gate;
+use circuit::words::CountAnswer;
+use crate::clauses::SizesAnswer;
 ghost use mathlib.Core.Path.{_≡_};
 ghost use Prim.Native.Nat.{_*_, _≤_};
 ghost use lib.ListN.{length};
 ghost use Rattle.circuit.specs.Outcome.{Yields};
-ghost use Rattle.checking.specs.Check.{callOf, callsOf, called, calledAll};
+ghost use Rattle.checking.specs.Check.{callOf, callsOf, called, calledAll, Checks};
+ghost use Rattle.checking.specs.Sizes.{ofSizes};
 use crate::reduce::ReduceAnswer;
 use crate::step::StepAnswer;
 
@@ -51,4 +54,27 @@ fn make_calls(calls: &[u64], gates: usize, words: &mut [u64]) -> usize
         i += 1;
     }
     left
+}
+
+// The sizes of the clauses that tell whether two cascades differ: those of their miter after the calls, which stand at the start of `out`.
+// The miter and what the calls left of it stand in `room`. Else what is wrong with the miter, or with the emission.
+pub fn check(
+    na: u64,
+    a: &[u64],
+    nb: u64,
+    b: &[u64],
+    calls: &[u64],
+    room: &mut [u64],
+    out: &mut [i16],
+) -> SizesAnswer
+    ensures { λ r. ⌜ Checks na (now (a .entry)) nb (now (b .entry)) (callsOf (now (calls .entry))) (now (room .entry)) (now (out .entry)) (ofSizes r) (now (room .exit)) (now (out .exit)) ⌝ }
+{
+    match crate::miter::miter(na, a, nb, b, room) {
+        CountAnswer::Refused(why) => SizesAnswer::Refused(why),
+        CountAnswer::Gates(gates) => {
+            let left = make_calls(calls, gates, room);
+            let end = Gate::WORDS * left;
+            crate::clauses::emit(na, &room[..end], out)
+        }
+    }
 }

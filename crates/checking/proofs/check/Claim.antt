@@ -5,16 +5,16 @@ use Prim.Native.Nat.{ℕ, _+_, _*_, _≤_}
 use native.Mathlib.Omega.{arith}
 use lib.IntN.{ℤ}
 use lib.ListN.{length, take, length-take}
-use Rattle.circuit.specs.Gate.{maxGates}
-use Rattle.circuit.specs.Outcome.{Outcome, served, refused}
-use Rattle.circuit.specs.Words.{Cascade}
-use Rattle.circuit.proofs.Outcome.{then-served}
+use Rattle.circuit.specs.Gate.{maxGates, maxMiterGates}
+use Rattle.circuit.specs.Outcome.{Outcome, served, refused, written, Yields}
+use Rattle.circuit.specs.Words.{gatesOf, wordsOf, Cascade}
+use Rattle.circuit.proofs.Outcome.{then-served, then-refused}
 use Rattle.checking.specs.declared.clauses.Totals.{Totals}
-use Rattle.checking.specs.Miter.{miterOutcome, miterBuffer}
+use Rattle.checking.specs.Miter.{miterGates, miterOutcome, miterBuffer}
 use Rattle.checking.specs.MiterLaws.{MiterLaws}
 use Rattle.checking.specs.Emit.{emitOutcome, emitBuffer}
 use Rattle.checking.specs.Equality.{Call, afterAll, Emitted, Claim}
-use Rattle.checking.specs.Check.{Held, standing, held, calledAll, checkedOutcome, clausesLeft}
+use Rattle.checking.specs.Check.{Held, standing, held, calledAll, checkedOutcome, roomLeft, clausesLeft, Checks}
 use Rattle.checking.proofs.miter.Laws.{miter-laws}
 use Rattle.checking.proofs.Equality.{equality}
 use Rattle.checking.proofs.check.Laws.{calls-leave}
@@ -62,3 +62,46 @@ module _ (na : ℕ) (a b : List ℕ) (calls : List Call) (room : List ℕ) (out 
       same-lines (subst (λ (n : ℕ). told ≡ checkedOutcome na a n b calls room (length out)) (sym l) e)
       (subst (λ (n : ℕ). last ≡ clausesLeft (miterOutcome na a n b (length room)) na a n b calls room out) (sym l) f)
       i j c (subst (λ (n : ℕ). Cascade n b maxGates j) (sym l) d) fits
+
+-- ---- what the function owes, where the miter is refused and where it is served
+
+module _ (na : ℕ) (a : List ℕ) (nb : ℕ) (b : List ℕ) (calls : List Call) (room : List ℕ) where
+  module _ (k : ℕ) (made : miterOutcome na a nb b (length room) ≡ served k) where
+    pub miter-room : 3 * k ≤ length (miterBuffer na a nb b room)
+    miter-room = omega (arith, miter-laws .miter-stands na a nb b room k made .cascade .size, length-take (3 * k) (miterBuffer na a nb b room))
+
+    -- and no more gates than a miter has
+    pub held-few : (r : ℕ) (words : List ℕ) → Yields r words (held na a nb b calls room k .gates) (held na a nb b calls room k .words) → r ≤ maxMiterGates
+    held-few r words y =
+        let l = calls-leave calls (record { gates = k; words = miterBuffer na a nb b room }) miter-room in
+        omega (arith, y .answer, l .few, miter-laws .miter-stands na a nb b room k made .cascade .few)
+
+    -- the gates that stand after the calls are inside the buffer
+    pub held-room : (r : ℕ) (words : List ℕ) → Yields r words (held na a nb b calls room k .gates) (held na a nb b calls room k .words) → 3 * r ≤ length words
+    held-room r words y =
+        let l = calls-leave calls (record { gates = k; words = miterBuffer na a nb b room }) miter-room in
+        omega (arith, y .answer, ap length (y .buffer), l .few, l .long, miter-room)
+
+  module _ (out : List ℤ) (told : Outcome Totals) (words : List ℕ) (last : List ℤ) where
+    owed : told ≡ checkedOutcome na a nb b calls room (length out) → words ≡ roomLeft (miterOutcome na a nb b (length room)) na a nb b calls room
+        → last ≡ clausesLeft (miterOutcome na a nb b (length room)) na a nb b calls room out → Checks na a nb b calls room out told words last
+    owed e f g = record { answer = e; words = f; clauses = g; claim = check-claim na a b calls room out told last nb e g }
+
+    pub check-refused : (number place : ℕ) → miterOutcome na a nb b (length room) ≡ refused number place → told ≡ refused number place
+        → words ≡ miterBuffer na a nb b room → last ≡ out → Checks na a nb b calls room out told words last
+    unfolding checkedOutcome miterBuffer
+    check-refused number place m e f g =
+        owed (e ∙ sym (then-refused _ _ number place m))
+        (f ∙ ap (λ (o : Outcome ℕ). written o (wordsOf (miterGates (gatesOf a) (gatesOf b))) room) m ∙ sym (ap (λ (o : Outcome ℕ). roomLeft o na a nb b calls room) m))
+        (g ∙ sym (ap (λ (o : Outcome ℕ). clausesLeft o na a nb b calls room out) m))
+
+    pub check-served : (k r : ℕ) → miterOutcome na a nb b (length room) ≡ served k
+        → Yields r words (held na a nb b calls room k .gates) (held na a nb b calls room k .words)
+        → Yields told last (emitOutcome na (take (3 * r) words) (length out)) (emitBuffer na (take (3 * r) words) out)
+        → Checks na a nb b calls room out told words last
+    unfolding checkedOutcome
+    check-served k r m y z =
+        let s : take (3 * r) words ≡ standing (held na a nb b calls room k) = ap₂ (λ (x : ℕ) (l : List ℕ). take (3 * x) l) (y .answer) (y .buffer) in
+        owed (z .answer ∙ ap (λ (l : List ℕ). emitOutcome na l (length out)) s ∙ sym (then-served _ _ k m))
+        (y .buffer ∙ sym (ap (λ (o : Outcome ℕ). roomLeft o na a nb b calls room) m))
+        (z .buffer ∙ ap (λ (l : List ℕ). emitBuffer na l out) s ∙ sym (ap (λ (o : Outcome ℕ). clausesLeft o na a nb b calls room out) m))
