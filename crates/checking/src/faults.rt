@@ -11,7 +11,7 @@ ghost use Prim.Native.Nat.{_*_, _-_, _≤_, _^_};
 ghost use lib.Dec.{ltb};
 ghost use lib.ListN.{length};
 ghost use Rattle.bits.specs.Lists.{over};
-ghost use Rattle.circuit.specs.Gate.{maxLines, valid};
+ghost use Rattle.circuit.specs.Gate.{maxLines, valid, apply};
 ghost use Rattle.circuit.specs.Outcome.{Yields};
 ghost use Rattle.circuit.specs.Refusal.{badState, agreeingState};
 ghost use Rattle.circuit.specs.Words.{gatesOf, allValid, ofCount};
@@ -62,6 +62,15 @@ fn kept_negative(g: Gate, state: u64) -> u64
     0
 }
 
+// The state after a gate, which is known to be one.
+fn after(g: Gate, state: u64) -> u64
+    requires { ⌜ valid maxLines g ≡ true ⌝ }
+    ensures { λ r. ⌜ r ≡ apply g state ⌝ }
+{
+    let target = g.target;
+    state ^ ((g.fires(state) as u64) << target)
+}
+
 // The masks before any state: the free lines of each gate, twice.
 fn start_masks(n: u64, words: &[u64], out: &mut [u64])
     requires { ⌜ n ≤ maxLines ⌝ }
@@ -82,6 +91,7 @@ fn start_masks(n: u64, words: &[u64], out: &mut [u64])
 
 // The masks after one state more.
 fn narrow(words: &[u64], state: u64, out: &mut [u64])
+    requires { ⌜ allValid maxLines (gatesOf (now words)) ≡ true ⌝ }
     requires { ⌜ 2 * length (gatesOf (now words)) ≤ length (now out) ⌝ }
     ensures { λ _. ⌜ now (out .exit) ≡ narrowed (gatesOf (now (words .entry))) state (now (out .entry)) ⌝ }
 {
@@ -93,13 +103,14 @@ fn narrow(words: &[u64], state: u64, out: &mut [u64])
         let at = 2 * i;
         out[at] = out[at] & kept_positive(g, s);
         out[at + 1] = out[at + 1] & kept_negative(g, s);
-        s = g.apply(s);
+        s = after(g, s);
         i += 1;
     }
 }
 
 // The masks after all states.
 fn narrow_all(words: &[u64], states: &[u64], out: &mut [u64])
+    requires { ⌜ allValid maxLines (gatesOf (now words)) ≡ true ⌝ }
     requires { ⌜ 2 * length (gatesOf (now words)) ≤ length (now out) ⌝ }
     ensures { λ _. ⌜ now (out .exit) ≡ narrowedBy (gatesOf (now (words .entry))) (now (states .entry)) (now (out .entry)) ⌝ }
 {

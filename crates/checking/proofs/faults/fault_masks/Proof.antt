@@ -2,12 +2,12 @@
 use mathlib.Core.Path.{_≡_, refl, sym, ap, _∙_}
 use native.Mathlib.Omega.{arith}
 use borrow.Author.Needs.{needs}
-use Rattle.circuit.specs.Gate.{maxGates}
+use Rattle.circuit.specs.Gate.{maxLines, maxGates}
 use Rattle.circuit.specs.Outcome.{served, refused}
 use Rattle.circuit.specs.Refusal.{noRoom}
 use Rattle.circuit.specs.Words.{Cascade, ofCount, gatesOf}
 use Rattle.circuit.proofs.Outcome.{why}
-use Rattle.circuit.proofs.words.Laws.{gates-length}
+use Rattle.circuit.proofs.words.Laws.{gates-length, valid-all-more}
 use Rattle.checking.specs.Faults.{faultCheck, narrowedBy}
 use Rattle.checking.proofs.faults.Loops.{fault-suspect, fault-told, fault-refused, fault-short, fault-made, all-narrowed}
 use Rattle.checking.proofs.faults.fault_masks.Statement.{statement}
@@ -57,7 +57,8 @@ narrow-all-requires c κs =
     let m = c .before .before .before in
     let g = m .before .before .before .before in
     let k = suspect g in
-    omega (arith, k .size, m .start-masks .kept .1 .1 .0, gates-length (g .before .before .before .before .before .before .before .args .suspect .now))
+    let a = g .before .before .before .before .before .before .before .args in
+    (valid-all-more (a .na) maxLines (gatesOf (a .suspect .now)) (k .lines-high) (k .gates), omega (arith, k .size, m .start-masks .kept .1 .1 .0, gates-length (a .suspect .now)))
 
 returns-2 : tie.Need-returns-2
 returns-2 c =

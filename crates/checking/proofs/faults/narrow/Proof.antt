@@ -1,5 +1,6 @@
 -- `checking::faults::narrow` meets its contract. The loop's invariant: the masks of the gates that were passed are narrowed, and those of the others are as they were. Assumes nothing.
 use mathlib.Core.Path.{_≡_, refl, sym, ap, ap₂, _∙_}
+use mathlib.Core.Bool.{true}
 use mathlib.Core.List.{_++_}
 use Prim.Native.Nat.{ℕ, _+_, _≤_, _-_, _*_}
 use native.Mathlib.Omega.{arith}
@@ -7,8 +8,9 @@ use lib.Bits.{bitAnd}
 use lib.ListN.{length, take, drop, getD, set, length-set}
 use lib.Seq.{getD-set-other}
 use borrow.Author.Needs.{needs}
-use Rattle.circuit.specs.Words.{gatesOf}
-use Rattle.circuit.proofs.words.Laws.{gates-length}
+use Rattle.circuit.specs.Gate.{maxLines}
+use Rattle.circuit.specs.Words.{gatesOf, allValid}
+use Rattle.circuit.proofs.words.Laws.{gates-length, valid-next, valid-later}
 use Rattle.checking.specs.Faults.{narrowed}
 use Rattle.checking.proofs.faults.Loops.{twoSet, narrow-turn, narrow-end}
 use Rattle.checking.proofs.faults.narrow.Statement.{statement}
@@ -19,13 +21,14 @@ Inv-loop words state out₀ gates s₀ i₀ out s i =
     (i ≤ gates)
     × (length out ≡ length out₀)
     × (2 * gates ≤ length out)
+    × (allValid maxLines (gatesOf (drop (3 * i) words)) ≡ true)
     × (narrowed (gatesOf words) state out₀ ≡ take (2 * i) out ++ narrowed (gatesOf (drop (3 * i) words)) s (drop (2 * i) out))
 
 abbrev μ-loop : tie.MeasureT-loop
 μ-loop words state out₀ gates s₀ i₀ out s i = gates - i
 
 loop-holds : tie.Need-loop-holds Inv-loop μ-loop
-loop-holds c = let a = c .before .before in (omega arith, refl, omega (arith, a .pre, gates-length (a .args .words .now)), refl)
+loop-holds c = let a = c .before .before in (omega arith, refl, omega (arith, a .pre .1, gates-length (a .args .words .now)), a .pre .0, refl)
 
 gate-at-requires : tie.Need-gate-at-requires Inv-loop μ-loop
 gate-at-requires c κs = search needs
@@ -69,8 +72,12 @@ mul-out-4 c = search needs
 slice-write-out-2 : tie.Need-slice-write-out-2 Inv-loop μ-loop
 slice-write-out-2 c = simp length-set (omega arith)
 
-apply-requires : tie.Need-apply-requires Inv-loop μ-loop
-apply-requires c κs = search needs
+after-requires : tie.Need-after-requires Inv-loop μ-loop
+after-requires c κs =
+    let p = c .before .before in
+    let g = p .before .before in
+    let l = g .before .before in
+    valid-next maxLines (l .before .before .before .args .words .now) (l .loop .i) _ (omega arith) (g .gate-at .ensures) (l .loop .inv .3)
 
 add-i : tie.Need-add-i Inv-loop μ-loop
 add-i c = omega arith
@@ -93,10 +100,11 @@ loop-again c =
       omega arith,
       length-set (set out (2 * i) v) (2 * i + 1) w ∙ length-set out (2 * i) v ∙ l .loop .inv .1,
       omega (arith, length-set (set out (2 * i) v) (2 * i + 1) w, length-set out (2 * i) v),
-      l .loop .inv .3
+      valid-later maxLines ws i (omega arith) (l .loop .inv .3),
+      l .loop .inv .4
           ∙ narrow-turn ws out i _ (omega arith) (omega arith) (g .gate-at .ensures) s v w (ap (bitAnd (getD out (2 * i) 0)) (p .kept-positive .ensures))
           (ap₂ bitAnd (getD-set-other out (2 * i) (2 * i + 1) v 0 (λ e. omega arith)) (n .kept-negative .ensures))
-          ∙ ap (λ (t : ℕ). take (2 * (i + 1)) (twoSet out (2 * i) v w) ++ narrowed (gatesOf (drop (3 * (i + 1)) ws)) t (drop (2 * (i + 1)) (twoSet out (2 * i) v w))) (sym (c .apply .ensures)),
+          ∙ ap (λ (t : ℕ). take (2 * (i + 1)) (twoSet out (2 * i) v w) ++ narrowed (gatesOf (drop (3 * (i + 1)) ws)) t (drop (2 * (i + 1)) (twoSet out (2 * i) v w))) (sym (c .after .ensures)),
     )
 
 same-length : tie.Need-same-length Inv-loop μ-loop
@@ -105,7 +113,7 @@ same-length c = c .before .loop .inv .1
 returns : tie.Need-returns Inv-loop μ-loop
 returns c =
     let l = c .before in
-    sym (l .loop .inv .3 ∙ narrow-end (l .before .before .before .args .words .now) (l .loop .out) _ (l .loop .i) (omega arith))
+    sym (l .loop .inv .4 ∙ narrow-end (l .before .before .before .args .words .now) (l .loop .out) _ (l .loop .i) (omega arith))
 
 pub narrow-spec : {M : Type 1} → statement M
 narrow-spec =
@@ -128,7 +136,7 @@ narrow-spec =
     add-out-2
     mul-out-4
     slice-write-out-2
-    apply-requires
+    after-requires
     add-i
     loop-less
     loop-again
