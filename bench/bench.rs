@@ -6,21 +6,26 @@
 mod capi;
 mod faults;
 mod plain;
+mod plain_file;
 #[allow(dead_code)]
 #[path = "../tests/random.rs"]
 mod random;
 mod steps;
 
-use capi::{CountAnswer, RunAnswer, SizesAnswer};
+use capi::{CountAnswer, ReadAnswer, RunAnswer, SizesAnswer, WriteAnswer};
 use random::Random;
 use std::hint::black_box;
 use std::time::Instant;
 
 const LIMIT: f64 = 1.2;
+/// The same for reading and writing of files.
+const FILE_LIMIT: f64 = 1.3;
 const ROUNDS: usize = 401;
 const CASCADES: usize = 8;
 /// Gates handled between two readings of the clock.
 const GATES_A_ROUND: usize = 32_768;
+/// The same for files, whose gates take longer.
+const FILE_GATES_A_ROUND: usize = 2_048;
 
 // ---- the two sides
 
@@ -41,6 +46,19 @@ fn library_sizes(n: u64, words: &[u64]) -> SizesAnswer {
     unsafe { capi::cascade_sizes(n, words.as_ptr(), words.len()) }
 }
 
+type Read = fn(&[u8], &mut [u64]) -> ReadAnswer;
+type Write = fn(u64, &[u64], &mut [u8]) -> WriteAnswer;
+
+fn library_read(text: &[u8], out: &mut [u64]) -> ReadAnswer {
+    let (start, room) = (out.as_mut_ptr(), out.len());
+    unsafe { capi::cascade_read(text.as_ptr(), text.len(), start, room) }
+}
+
+fn library_write(n: u64, words: &[u64], out: &mut [u8]) -> WriteAnswer {
+    let (start, room) = (out.as_mut_ptr(), out.len());
+    unsafe { capi::cascade_write(n, words.as_ptr(), words.len(), start, room) }
+}
+
 // ---- inputs
 
 /// Cascades of one kind, to be called in turn.
@@ -48,6 +66,7 @@ struct Work {
     name: &'static str,
     lines: u64,
     cascades: Vec<Vec<u64>>,
+    texts: Vec<Vec<u8>>,
 }
 
 /// Valid gates; `controls` draws the mask of control lines.
@@ -63,11 +82,21 @@ fn work(name: &'static str, lines: u64, gates: usize, controls: fn(&mut Random) 
         }
         words
     };
+    let cascades: Vec<Vec<u64>> = (0..CASCADES).map(|_| cascade()).collect();
+    let texts = cascades.iter().map(|words| text(lines, words)).collect();
     Work {
         name,
         lines,
-        cascades: (0..CASCADES).map(|_| cascade()).collect(),
+        cascades,
+        texts,
     }
+}
+
+fn text(lines: u64, words: &[u64]) -> Vec<u8> {
+    let mut out = vec![0; 1 << 18];
+    let written = plain_file::write(lines, words, &mut out).written;
+    out.truncate(written as usize);
+    out
 }
 
 fn works() -> Vec<Work> {
@@ -91,6 +120,7 @@ fn check_equal(works: &[Work]) {
         for words in &work.cascades {
             assert_eq!(plain::run(work.lines, words, 0).number, 0);
             same(work.lines, words, 0, words.len());
+            same_file(work.lines, words);
             let last_state = u64::MAX >> (64 - work.lines);
             same(work.lines, words, last_state, words.len() + 2);
         }
@@ -118,6 +148,22 @@ fn same(n: u64, words: &[u64], state: u64, room: usize) {
     assert_eq!(library, plain::inverse(n, words, &mut outs[1]));
     assert_eq!(outs[0], outs[1]);
     assert_eq!(library_sizes(n, words), plain::sizes(n, words));
+}
+
+/// Both sides write the same text, and read the same words back, also where it is cut.
+fn same_file(n: u64, words: &[u64]) {
+    let mut texts = [vec![9; 1 << 18], vec![9; 1 << 18]];
+    let library = library_write(n, words, &mut texts[0]);
+    assert_eq!(library, plain_file::write(n, words, &mut texts[1]));
+    assert_eq!(texts[0], texts[1]);
+    let length = library.written as usize;
+    for cut in [0, 1, 4, 5, 9, length / 2] {
+        let text = &texts[0][..length - cut];
+        let mut outs = [vec![9; words.len()], vec![9; words.len()]];
+        let library = library_read(text, &mut outs[0]);
+        assert_eq!(library, plain_file::read(text, &mut outs[1]));
+        assert_eq!(outs[0], outs[1]);
+    }
 }
 
 // ---- time
@@ -154,6 +200,30 @@ fn time_sizes(work: &Work, sizes: Sizes) -> f64 {
     for call in 0..calls {
         let words = &work.cascades[call % CASCADES];
         black_box(sizes(work.lines, black_box(words)));
+    }
+    start.elapsed().as_nanos() as f64 / calls as f64
+}
+
+/// Nanoseconds of one call on the text of a cascade.
+fn time_read(work: &Work, read: Read) -> f64 {
+    let calls = FILE_GATES_A_ROUND / (work.cascades[0].len() / 3);
+    let mut out = vec![0; work.cascades[0].len()];
+    let start = Instant::now();
+    for call in 0..calls {
+        let text = &work.texts[call % CASCADES];
+        black_box(read(black_box(text), black_box(&mut out)));
+    }
+    start.elapsed().as_nanos() as f64 / calls as f64
+}
+
+/// Nanoseconds of one call, into a buffer that is long enough.
+fn time_write(work: &Work, write: Write) -> f64 {
+    let calls = FILE_GATES_A_ROUND / (work.cascades[0].len() / 3);
+    let mut out = vec![0; 1 << 18];
+    let start = Instant::now();
+    for call in 0..calls {
+        let words = &work.cascades[call % CASCADES];
+        black_box(write(work.lines, black_box(words), black_box(&mut out)));
     }
     start.elapsed().as_nanos() as f64 / calls as f64
 }
@@ -222,13 +292,25 @@ fn main() {
     highest = highest.max(steps::highest());
     highest = highest.max(faults::highest());
     println!("bench: the highest ratio is {highest:.2}, the limit {LIMIT}");
+    let mut file_highest: f64 = 0.0;
+    for work in &works {
+        let library = || time_read(work, library_read);
+        let plain = || time_read(work, plain_file::read);
+        file_highest = file_highest.max(compare("cascade_read", work.name, ROUNDS, library, plain));
+    }
+    for work in &works {
+        let library = || time_write(work, library_write);
+        let plain = || time_write(work, plain_file::write);
+        file_highest = file_highest.max(compare("cascade_write", work.name, ROUNDS, library, plain));
+    }
+    println!("bench: of files {file_highest:.2}, the limit {FILE_LIMIT}");
     println!("\nagainst plain Rust with std::hint::select_unpredictable (not judged)");
     for work in &works {
         let library = || time_run(work, library_run);
         let plain = || time_run(work, plain::run_hinted);
         compare("cascade_run", work.name, ROUNDS, library, plain);
     }
-    if highest > LIMIT {
+    if highest > LIMIT || file_highest > FILE_LIMIT {
         std::process::exit(1);
     }
 }

@@ -9,7 +9,7 @@ use Rattle.circuit.specs.declared.gate.Gate.{Gate}
 use Rattle.circuit.specs.Gate.{maxLines, maxGates, Control}
 use Rattle.circuit.specs.Outcome.{Outcome, served, refused}
 use Rattle.circuit.specs.Words.{allValid}
-use Rattle.circuit.specs.Text.{linesWord, gateWord, endWord, numberText, controlText, headerLine, gateLines, endLine, textOf}
+use Rattle.circuit.specs.Text.{linesWord, gateWord, endWord, numberText, controlText, headerLine, gateLines, textOf}
 use Rattle.circuit.specs.File.{Line, firstLine, linesOf, fieldsOf, Reading, reading, ReadCounts, readOutcome}
 
 -- a cascade that a file can hold

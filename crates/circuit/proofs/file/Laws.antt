@@ -1,7 +1,5 @@
 -- The laws of reading a whole text: the round trip both ways, and what each refusal says. Assumes nothing.
 use mathlib.Core.Path.{_≡_, refl, sym, ap, ap₂, _∙_, subst, subst₂}
-use mathlib.Core.Logic.{_↔_}
-use mathlib.Core.Bool.{true, false}
 use mathlib.Core.List.{List, [], _∷_, _++_, append-assoc}
 use Prim.Native.Nat.{ℕ, _+_, _*_, _≤_, _<_}
 use native.Mathlib.Omega.{arith}
@@ -11,8 +9,8 @@ use lib.Seq.{take-at}
 use borrow.Author.Tests.{le-leb, lt-leb, leb-true, leb-false}
 use Rattle.bits.proofs.Bools.{either, cond-false}
 use Rattle.circuit.specs.declared.gate.Gate.{Gate}
-use Rattle.circuit.specs.Gate.{maxLines, maxGates}
-use Rattle.circuit.specs.Outcome.{Outcome, served, refused, demand, andThen}
+use Rattle.circuit.specs.Gate.{maxLines}
+use Rattle.circuit.specs.Outcome.{Outcome, served, refused, andThen}
 use Rattle.circuit.specs.Refusal.{wrongForm, noRoom}
 use Rattle.circuit.specs.Text.{tab, lineFeed, linesWord, numberText, headerLine, endLine, gateLines, textOf}
 use Rattle.circuit.specs.File.{Line, noLine, firstLine, laterLines, linesOf, size, gateOn, gateFields, fieldsOf, headerOn, isEnd, Reading, readFrom, reading, ReadCounts, countsOf, readOutcome}

@@ -1,15 +1,15 @@
 -- The laws of lines and fields: cut where they were joined, and joined again where they were cut. Assumes nothing.
 use mathlib.Core.Path.{_≡_, refl, sym, ap, ap₂, _∙_}
-use mathlib.Core.Bool.{Bool, true, false, not, cond, _&&_, false≢true}
+use mathlib.Core.Bool.{Bool, true, false, not, _&&_, false≢true}
 use mathlib.Core.List.{List, [], _∷_, _++_, append-nil}
-use Prim.Native.Nat.{ℕ, suc, _+_, _≤_}
+use Prim.Native.Nat.{ℕ, suc, _+_}
 use native.Mathlib.Omega.{arith}
 use lib.Dec.{eqb}
-use lib.ListN.{length, drop, length-append}
+use lib.ListN.{length, drop}
 use borrow.Author.Tests.{eqb-true, not-true}
 use Rattle.bits.proofs.Bools.{either, and-parts, both, cond-true, cond-false}
 use Rattle.circuit.specs.Text.{tab, lineFeed}
-use Rattle.circuit.specs.File.{Line, noLine, firstLine, laterLines, linesOf, size, longer, fieldsOf, same}
+use Rattle.circuit.specs.File.{Line, firstLine, laterLines, linesOf, size, longer, fieldsOf, same}
 
 -- the byte s does not stand in the list
 unfoldable pub free : ℕ → List ℕ → Bool

@@ -1,16 +1,15 @@
 -- The laws of a number field: it is the text of its number, and that text reads back. Assumes nothing.
-use mathlib.Core.Path.{_≡_, refl, sym, ap, ap₂, _∙_, subst}
-use mathlib.Core.Bool.{Bool, true, false, not, cond, _&&_, false≢true}
-use mathlib.Core.List.{List, [], _∷_, _++_}
-use Prim.Native.Nat.{ℕ, suc, _+_, _*_, _-_, _/_, _%_, _≤_, _<_}
+use mathlib.Core.Path.{_≡_, refl, sym, ap, ap₂, _∙_}
+use mathlib.Core.Bool.{Bool, true, not, _&&_}
+use mathlib.Core.List.{List, [], _∷_}
+use Prim.Native.Nat.{ℕ, _+_, _*_, _-_, _/_, _%_, _≤_, _<_}
 use native.Mathlib.Omega.{arith}
 use lib.Dec.{eqb, leb, ltb}
-use lib.ListN.{length}
-use borrow.Author.Tests.{eqb-true, eqb-false, not-true, le-leb, leb-true, ltb-true, ltb-false, lt-ltb, le-ltb, ne-eqb}
+use borrow.Author.Tests.{eqb-false, not-true, le-leb, leb-true, ltb-true, ltb-false, lt-ltb, le-ltb, ne-eqb}
 use Rattle.bits.proofs.Bools.{either, and-parts, both, cond-true, cond-false}
-use Rattle.circuit.specs.Outcome.{Outcome, served, refused, demand}
+use Rattle.circuit.specs.Outcome.{Outcome, served, refused}
 use Rattle.circuit.specs.Refusal.{wrongForm}
-use Rattle.circuit.specs.Text.{tab, lineFeed, digit, numberText}
+use Rattle.circuit.specs.Text.{digit, numberText}
 use Rattle.circuit.specs.File.{isDigit, numberOf}
 use Rattle.circuit.proofs.Outcome.{never, demand-met, demand-failed, demanded}
 use Rattle.circuit.proofs.file.Lines.{free}

@@ -5,24 +5,24 @@ use mathlib.Core.List.{List, [], _∷_, _++_, map, append-nil, append-assoc, hea
 use Prim.Native.Nat.{ℕ, _+_, _≤_, _<_}
 use native.Mathlib.Omega.{arith}
 use lib.Dec.{eqb, leb, ltb}
-use lib.ListN.{length, take, drop, length-append}
-use borrow.Author.Tests.{le-leb, lt-leb, lt-ltb, le-ltb, ltb-true, ltb-false, leb-true, leb-false, eqb-true, not-true, not-false}
+use lib.ListN.{length, drop, length-append}
+use borrow.Author.Tests.{le-leb, lt-leb, lt-ltb, ltb-true, ltb-false, leb-true, leb-false, eqb-true}
 use Rattle.bits.proofs.Bools.{either, and-parts, both, not-held, refuted, cond-true, cond-false}
 use Rattle.circuit.specs.declared.gate.Gate.{Gate}
-use Rattle.circuit.specs.Gate.{maxLines, maxGates, valid, Control, controlsOf}
+use Rattle.circuit.specs.Gate.{maxLines, maxGates, valid, Control}
 use Rattle.circuit.specs.Outcome.{Outcome, served, refused, demand, andThen}
-use Rattle.circuit.specs.Refusal.{wrongForm, badLineCount, lineOutside, targetControlled, notRising, tooManyGates}
+use Rattle.circuit.specs.Refusal.{wrongForm, badLineCount, lineOutside}
 use Rattle.circuit.specs.Words.{allValid, lineCountGood}
-use Rattle.circuit.specs.Text.{tab, lineFeed, plus, minus, linesWord, gateWord, endWord, numberText, controlText, controlsText, gateText, headerLine, gateLine, endLine, gateLines, textOf}
-use Rattle.circuit.specs.File.{Line, noLine, firstLine, laterLines, linesOf, size, fieldsOf, same, numberOf, lineOf, controlOf, controlsFrom, among, risingFrom, gateOf, closedGate, gateFields, gateOn, headerFields, headerOn, isEnd, Reading, readFrom, reading}
+use Rattle.circuit.specs.Text.{tab, lineFeed, plus, minus, linesWord, gateWord, endWord, numberText, controlText, controlsText, gateText, gateLine, endLine, gateLines}
+use Rattle.circuit.specs.File.{Line, noLine, firstLine, laterLines, linesOf, size, fieldsOf, same, numberOf, lineOf, controlOf, controlsFrom, among, risingFrom, gateOf, closedGate, gateFields, gateOn, headerFields, headerOn, isEnd, Reading, readFrom}
 use Rattle.circuit.specs.FileLaws as laws
 use Rattle.circuit.specs.FileLaws.{FileCascade, NumberField, ControlField, HeaderOffence, ControlsOffence, Inside, Among, NotRising, GoodFields, LineOffence, FileFault}
-use Rattle.circuit.proofs.Outcome.{never, demand-met, demand-failed, demanded, then-served, then-refused, then-both}
+use Rattle.circuit.proofs.Outcome.{never, demand-met, demand-failed, then-served, then-refused}
 use Rattle.circuit.proofs.words.Laws.{lines-good, good-lines}
-use Rattle.circuit.proofs.file.Lines.{tabbed, whole, fields-back, same-true, same-self, true-same, Cut, cut-first, lines-none}
+use Rattle.circuit.proofs.file.Lines.{tabbed, whole, fields-back, same-true, same-self, true-same, Cut, cut-first}
 use Rattle.circuit.proofs.file.Numbers.{number-text, text-number, number-wrong}
-use Rattle.circuit.proofs.file.Controls.{within, within-append, within-more, controls-gate, controls-valid}
-use Rattle.circuit.proofs.file.Texts.{line-text, control-text, controls-text, controls-tabbed, headerText, start-read, gates-read}
+use Rattle.circuit.proofs.file.Controls.{within, within-more, controls-gate, controls-valid}
+use Rattle.circuit.proofs.file.Texts.{line-text, control-text, controls-text, controls-tabbed, headerText}
 
 -- ---- number fields
 
@@ -196,19 +196,15 @@ unfolding risingFrom
 not-rising [] e = absurd (true≢false e)
 not-rising (c ∷ cs) e = falls-after c cs (sym (ap (λ (b : Bool). b && risingFrom (c .line + 1) cs) (le-leb 0 (c .line) (omega arith))) ∙ e)
 
+second : (a : Bool) {b : Bool} → b ≡ false → (a && b) ≡ false
+second true e = e
+second false e = refl
+
 pub rising-not : (low : ℕ) (cs : List Control) → NotRising cs → risingFrom low cs ≡ false
 unfolding risingFrom
 rising-not low cs (NotRising.here c d ds l) =
     second (leb low (c .line)) (ap (λ (b : Bool). b && risingFrom (d .line + 1) ds) (lt-leb (c .line + 1) (d .line) (omega arith)))
-  where
-    second : (a : Bool) {b : Bool} → b ≡ false → (a && b) ≡ false
-    second true e = e
-    second false e = refl
 rising-not low cs (NotRising.there c ds x) = second (leb low (c .line)) (rising-not (c .line + 1) ds x)
-  where
-    second : (a : Bool) {b : Bool} → b ≡ false → (a && b) ≡ false
-    second true e = e
-    second false e = refl
 
 -- ---- a line after the header
 

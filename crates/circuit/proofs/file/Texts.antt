@@ -1,26 +1,26 @@
 -- Reading the text of a cascade, line by line. Assumes nothing.
 use mathlib.Core.Path.{_≡_, refl, sym, ap, ap₂, _∙_}
-use mathlib.Core.Bool.{Bool, true, false, not, cond, _&&_, _||_}
+use mathlib.Core.Bool.{Bool, true, false, not, cond}
 use mathlib.Core.List.{List, [], _∷_, _++_, map, append-nil, append-assoc}
 use Prim.Native.Nat.{ℕ, _+_, _≤_, _<_}
 use native.Mathlib.Omega.{arith}
-use lib.Dec.{eqb, leb, ltb}
+use lib.Dec.{eqb, ltb}
 use lib.ListN.{length, length-append}
 use borrow.Author.Tests.{le-leb, lt-ltb, ltb-true}
-use Rattle.bits.proofs.Bools.{and-parts, both, cond-false, cond-true}
+use Rattle.bits.proofs.Bools.{and-parts, both}
 use Rattle.circuit.specs.declared.gate.Gate.{Gate}
 use Rattle.circuit.specs.Gate.{maxLines, maxGates, valid, Control, controlsOf}
-use Rattle.circuit.specs.Outcome.{Outcome, served, refused, demand, andThen}
-use Rattle.circuit.specs.Words.{allValid, lineCountGood}
+use Rattle.circuit.specs.Outcome.{Outcome, served, andThen}
+use Rattle.circuit.specs.Words.{allValid}
 use Rattle.circuit.specs.Text.{tab, lineFeed, plus, minus, linesWord, gateWord, endWord, numberText, controlText, controlsText, gateText, headerLine, gateLine, endLine, gateLines, textOf}
-use Rattle.circuit.specs.File.{Line, firstLine, laterLines, linesOf, size, fieldsOf, same, numberOf, lineOf, controlOf, controlsFrom, among, risingFrom, gateOf, closedGate, gateFields, gateOn, headerFields, headerOn, isEnd, Reading, readFrom, reading}
+use Rattle.circuit.specs.File.{Line, firstLine, laterLines, linesOf, size, fieldsOf, same, lineOf, controlOf, controlsFrom, among, risingFrom, gateOf, closedGate, gateFields, gateOn, headerFields, headerOn, Reading, readFrom, reading}
 use Rattle.circuit.specs.FileLaws.{FileCascade}
 use Rattle.circuit.proofs.Outcome.{demand-met, then-served}
 use Rattle.circuit.proofs.gate.Laws.{Valid, valid-facts, valid-more}
 use Rattle.circuit.proofs.words.Laws.{good-lines}
 use Rattle.circuit.proofs.file.Lines.{free, free-append, lines-cut, tabbed, fields-cut, fields-one, allFree, fields-joined, same-self}
 use Rattle.circuit.proofs.file.Numbers.{number-free, number-text}
-use Rattle.circuit.proofs.file.Controls.{within, within-more, gate-controls, target-apart, controls-rising, controls-within}
+use Rattle.circuit.proofs.file.Controls.{within, gate-controls, target-apart, controls-rising, controls-within}
 
 -- ---- fields
 

@@ -1,8 +1,7 @@
 -- `circuit::file::fill` meets its contract. The loop's invariant: the gates that were passed stand at the buffer's start, and the rest of the text gives the others. Assumes nothing.
-use mathlib.Core.Path.{_≡_, sym, ap, _∙_}
+use mathlib.Core.Path.{sym, ap, _∙_}
 use Prim.Native.Nat.{_-_}
 use native.Mathlib.Omega.{arith}
-use lib.ListN.{length}
 use borrow.Author.Needs.{needs}
 use Rattle.circuit.specs.Scan.{ofGate}
 use Rattle.circuit.proofs.file.Steps.{Filling, filling-start, filling-gate, filling-turn, filling-done}

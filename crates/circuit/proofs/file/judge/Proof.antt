@@ -1,12 +1,12 @@
 -- `circuit::file::judge` meets its contract. The loop's invariant: the lines that were passed gave gates, and what is left of the text decides. Assumes nothing.
-use mathlib.Core.Path.{_≡_, sym, ap, _∙_}
+use mathlib.Core.Path.{sym, ap, _∙_}
 use Prim.Native.Nat.{ℕ, _+_, _-_}
 use native.Mathlib.Omega.{arith}
 use lib.ListN.{length}
 use borrow.Author.Needs.{needs}
 use borrow.Author.Tests.{not-true, not-false}
-use Rattle.circuit.specs.Outcome.{Outcome, served, andThen}
-use Rattle.circuit.specs.File.{Reading, ReadCounts, countsOf}
+use Rattle.circuit.specs.Outcome.{Outcome, served}
+use Rattle.circuit.specs.File.{Reading, ReadCounts}
 use Rattle.circuit.specs.Scan.{ofGate}
 use Rattle.circuit.proofs.Outcome.{then-served, then-refused}
 use Rattle.circuit.proofs.file.Steps.{Judging, judging-start, judging-refused, judging-step, judging-turn, judging-end}

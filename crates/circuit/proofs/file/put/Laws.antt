@@ -82,30 +82,28 @@ unfolding trailingZeros
 trailing-set zero n h = absurd (omega arith)
 trailing-set (suc k) n h = set-step k n (n % 2) refl (omega arith) (trailing-set k (n / 2)) h
 
+-- digit j, seen from digit k on
+shifted : (mask k j : ℕ) → k ≤ j → bit mask j ≡ bit (mask / 2 ^ k) (j - k)
+shifted mask k j a = let e : j ≡ k + (j - k) = omega arith in ap (bit mask) e ∙ sym (bit-shifted k mask (j - k))
+
 pub next-found : (mask k : ℕ) → k < maxLines → k + trailingZeros 64 (mask / 2 ^ k) < maxLines → NextLine mask k (k + trailingZeros 64 (mask / 2 ^ k))
 next-found mask k h l =
     let z : ℕ = trailingZeros 64 (mask / 2 ^ k) in
     record {
       from = omega arith;
       within = omega arith;
-      clear = λ j a b. shifted j a ∙ trailing-clear 64 (mask / 2 ^ k) (j - k) (omega arith);
+      clear = λ j a b. shifted mask k j a ∙ trailing-clear 64 (mask / 2 ^ k) (j - k) (omega arith);
       set = λ b. sym (bit-shifted k mask z) ∙ trailing-set 64 (mask / 2 ^ k) (omega arith);
     }
-  where
-    shifted : (j : ℕ) → k ≤ j → bit mask j ≡ bit (mask / 2 ^ k) (j - k)
-    shifted j a = let e : j ≡ k + (j - k) = omega arith in ap (bit mask) e ∙ sym (bit-shifted k mask (j - k))
 
 pub next-none : (mask k : ℕ) → k ≤ maxLines → maxLines ≤ k + trailingZeros 64 (mask / 2 ^ k) → NextLine mask k maxLines
 next-none mask k h l =
     record {
       from = h;
       within = omega arith;
-      clear = λ j a b. shifted j a ∙ trailing-clear 64 (mask / 2 ^ k) (j - k) (omega arith);
+      clear = λ j a b. shifted mask k j a ∙ trailing-clear 64 (mask / 2 ^ k) (j - k) (omega arith);
       set = λ b. absurd (omega arith);
     }
-  where
-    shifted : (j : ℕ) → k ≤ j → bit mask j ≡ bit (mask / 2 ^ k) (j - k)
-    shifted j a = let e : j ≡ k + (j - k) = omega arith in ap (bit mask) e ∙ sym (bit-shifted k mask (j - k))
 
 pub next-past : (mask : ℕ) (k : ℕ) → maxLines ≤ k → k ≤ maxLines → NextLine mask k maxLines
 next-past mask k l h = record { from = h; within = omega arith; clear = λ j a b. absurd (omega arith); set = λ b. absurd (omega arith) }

@@ -1,5 +1,5 @@
 -- `circuit::file::put_lines` meets its contract. The loop's invariant: the lines that were passed stand at the buffer's start. Assumes nothing.
-use mathlib.Core.Path.{_≡_, _∙_}
+use mathlib.Core.Path.{_∙_}
 use Prim.Native.Nat.{_-_}
 use native.Mathlib.Omega.{arith}
 use lib.ListN.{length}

@@ -1,16 +1,16 @@
 -- `circuit::file::read` meets its contract. Assumes nothing.
 use mathlib.Core.Path.{_≡_, refl, sym, ap, _∙_}
-use mathlib.Core.List.{List, []}
+use mathlib.Core.List.{List}
 use Prim.Native.Nat.{ℕ}
 use native.Mathlib.Omega.{arith}
-use lib.ListN.{length, drop}
+use lib.ListN.{length}
 use borrow.Author.Needs.{needs}
 use Rattle.bits.specs.Lists.{over}
 use Rattle.circuit.specs.declared.gate.Gate.{Gate}
 use Rattle.circuit.specs.Outcome.{Outcome, served, refused}
 use Rattle.circuit.specs.Refusal.{noRoom}
 use Rattle.circuit.specs.Words.{wordsOf}
-use Rattle.circuit.specs.File.{linesOf, Reading, readFrom, reading, ReadCounts, countsOf, gatesRead, ofRead}
+use Rattle.circuit.specs.File.{Reading, reading, ReadCounts, countsOf, gatesRead, ofRead}
 use Rattle.circuit.specs.Scan.{ofHeader}
 use Rattle.circuit.proofs.Outcome.{why}
 use Rattle.circuit.proofs.file.Laws.{read-bad, read-short, read-fits}

@@ -1,6 +1,6 @@
 -- The laws of what stands at a position of a text: the field there, the fields and the line from there on. Assumes nothing.
 use mathlib.Core.Path.{_≡_, refl, sym, ap, ap₂, _∙_}
-use mathlib.Core.Bool.{Bool, true, false, not, cond, _&&_, _||_, false≢true, true≢false}
+use mathlib.Core.Bool.{Bool, true, false, not, _&&_, _||_, false≢true, true≢false}
 use mathlib.Core.List.{List, [], _∷_, _++_}
 use Prim.Native.Nat.{ℕ, zero, suc, _+_, _*_, _-_, _≤_, _<_}
 use native.Mathlib.Omega.{arith}
@@ -8,11 +8,11 @@ use lib.Dec.{eqb, leb, ltb}
 use lib.ListN.{length, drop, getD, drop-of-length-le}
 use lib.Seq.{getD-drop, drop-cons}
 use borrow.Author.Tests.{eqb-true, eq-eqb, ne-eqb, le-leb, lt-leb, leb-true, le-ltb, lt-ltb, ltb-true, ltb-false}
-use Rattle.bits.proofs.Bools.{either, and-parts, both, not-held, refuted, cond-true, cond-false}
+use Rattle.bits.proofs.Bools.{either, and-parts, both, cond-true, cond-false}
 use Rattle.circuit.specs.Gate.{Control}
 use Rattle.circuit.specs.Outcome.{Outcome, served, refused, demand, andThen}
 use Rattle.circuit.specs.Refusal.{wrongForm, lineOutside}
-use Rattle.circuit.specs.Text.{tab, lineFeed, plus, minus, numberText}
+use Rattle.circuit.specs.Text.{tab, lineFeed, plus, minus}
 use Rattle.circuit.specs.File.{isDigit, numberOf, lineOf, controlOf}
 use Rattle.circuit.specs.Scan.{isStop, fieldAt, startsWith, orHundred, width}
 use Rattle.circuit.proofs.Outcome.{demand-met, demand-failed, then-served, then-refused}

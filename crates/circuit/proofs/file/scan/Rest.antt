@@ -1,31 +1,31 @@
 -- The laws of the line from a position on: its next field, its end, and the gate or the header that it gives. Assumes nothing.
 use mathlib.Core.Path.{_≡_, refl, sym, ap, ap₂, _∙_, subst}
-use mathlib.Core.Bool.{Bool, true, false, not, cond, _&&_, _||_, Bool·beq, false≢true, true≢false}
+use mathlib.Core.Bool.{Bool, true, false, not, cond, _&&_, _||_, Bool·beq, true≢false}
 use mathlib.Core.List.{List, [], _∷_, _++_, cons≢nil, append-assoc}
-use Prim.Native.Nat.{ℕ, zero, suc, _+_, _-_, _^_, _≤_, _<_}
+use Prim.Native.Nat.{ℕ, suc, _+_, _-_, _^_, _≤_, _<_}
 use native.Mathlib.Omega.{arith}
-use lib.Dec.{eqb, leb, ltb}
+use lib.Dec.{eqb, ltb}
 use lib.Bits.{bitOr}
-use lib.ListN.{length, drop, getD, length-drop, length-append, drop-of-length-le}
+use lib.ListN.{length, drop, getD, length-drop}
 use lib.Seq.{drop-drop, drop-append-seam, append-snoc}
-use borrow.Author.Tests.{eqb-true, eqb-false, eq-eqb, ne-eqb, le-leb, lt-leb, leb-true, not-true, not-false, ltb-true, ltb-false}
+use borrow.Author.Tests.{eqb-true, eq-eqb, ne-eqb, le-leb, lt-leb, ltb-true, ltb-false}
 use Rattle.bits.proofs.Bools.{either, and-parts, not-held, refuted, same-test}
 use Rattle.circuit.specs.declared.gate.Gate.{Gate}
 use Rattle.circuit.specs.declared.file.scan.Seen.{Seen}
-use Rattle.circuit.specs.Gate.{maxLines, maxGates, Control}
+use Rattle.circuit.specs.Gate.{maxGates, Control}
 use Rattle.circuit.specs.Outcome.{Outcome, served, refused, demand, andThen}
 use Rattle.circuit.specs.Refusal.{wrongForm, badLineCount, lineOutside, targetControlled, notRising, tooManyGates}
 use Rattle.circuit.specs.Words.{lineCountGood}
-use Rattle.circuit.specs.Text.{tab, lineFeed, linesWord, gateWord, endWord, numberText, controlText}
-use Rattle.circuit.specs.File.{Line, noLine, firstLine, laterLines, linesOf, size, longer, fieldsOf, same, numberOf, lineOf, controlOf, controlsFrom, among, risingFrom, maskOf, gateOf, closedGate, gateFields, gateOn, headerFields, headerOn, isEnd}
+use Rattle.circuit.specs.Text.{tab, lineFeed, linesWord, gateWord, endWord, numberText}
+use Rattle.circuit.specs.File.{Line, noLine, firstLine, linesOf, size, longer, fieldsOf, same, numberOf, lineOf, controlOf, controlsFrom, among, risingFrom, maskOf, gateOf, closedGate, gateFields, gateOn, headerFields, headerOn, isEnd}
 use Rattle.circuit.specs.FileLaws.{ControlField}
 use Rattle.circuit.specs.Scan.{isStop, fieldAt, lineAt, startsWith, orHundred, width, added, GateNext, HeaderNext, laterFields, headerNext, gateNext, controlsNext}
 use Rattle.circuit.proofs.Outcome.{never, demand-met, demand-failed, demanded, then-served, then-refused, then-both}
 use Rattle.circuit.proofs.file.Lines.{line-more, line-over, lines-none, field-over, fields-none, fields-some, same-self, same-true, Cut, cut-first, tabbed, whole, fields-back}
 use Rattle.circuit.proofs.file.Lines as lines
-use Rattle.circuit.proofs.file.Numbers.{text-short, text-long, text-number, number-else, number-wrong}
+use Rattle.circuit.proofs.file.Numbers.{text-short, text-long, text-number, number-wrong}
 use Rattle.circuit.proofs.file.Controls.{nextLine, mask-push, among-push, rising-push, next-push}
-use Rattle.circuit.proofs.file.Offences.{ControlFound, control-found, good, beyond, wrong}
+use Rattle.circuit.proofs.file.Offences.{ControlFound, control-found}
 use Rattle.circuit.proofs.file.scan.Laws.{byte-at, field-more, field-stop, field-none, width-short, width-long, number-told, starts-true, true-starts}
 
 -- ---- one byte
@@ -118,16 +118,17 @@ parted (b ∷ r) =
 
 -- ---- the end of a line
 
+-- where a field ends and no tab stands, an LF does
+feed : (b : ℕ) (r : List ℕ) → fieldAt (b ∷ r) ≡ [] → (b ≡ tab → ⊥) → eqb b lineFeed ≡ true
+feed b r e h =
+    either (isStop b)
+    (λ s. sym (ap (λ (x : Bool). x || eqb b lineFeed) (ne-eqb b tab h)) ∙ s)
+    (λ s. absurd (cons≢nil (sym (field-more b r s) ∙ e)))
+
 -- a field ends here, and no tab stands here
 pub end-fields : (r : List ℕ) → fieldAt r ≡ [] → (getD r 0 10 ≡ tab → ⊥) → laterFields (fieldsOf (lineAt r .bytes)) ≡ []
 end-fields [] e h = ap laterFields (ap (λ (l : Line). fieldsOf (l .bytes)) line-none ∙ fields-none)
 end-fields (b ∷ r) e h = ap laterFields (ap (λ (l : Line). fieldsOf (l .bytes)) (line-done b r (feed b r e h)) ∙ fields-none)
-  where
-    feed : (b : ℕ) (r : List ℕ) → fieldAt (b ∷ r) ≡ [] → (b ≡ tab → ⊥) → eqb b lineFeed ≡ true
-    feed b r e h =
-        either (isStop b)
-        (λ s. sym (ap (λ (x : Bool). x || eqb b lineFeed) (ne-eqb b tab h)) ∙ s)
-        (λ s. absurd (cons≢nil (sym (field-more b r s) ∙ e)))
 
 pub end-missing : (r : List ℕ) → length r ≡ 0 → lineAt r .ended ≡ false
 end-missing [] e = ap (λ (l : Line). l .ended) line-none
@@ -138,12 +139,6 @@ end-there [] e h k = absurd (omega arith)
 end-there (b ∷ r) e h k =
     let d = line-done b r (feed b r e h) in
     (ap (λ (l : Line). l .ended) d, ap (λ (l : Line). length (l .bytes) + 1) d)
-  where
-    feed : (b : ℕ) (r : List ℕ) → fieldAt (b ∷ r) ≡ [] → (b ≡ tab → ⊥) → eqb b lineFeed ≡ true
-    feed b r e h =
-        either (isStop b)
-        (λ s. sym (ap (λ (x : Bool). x || eqb b lineFeed) (ne-eqb b tab h)) ∙ s)
-        (λ s. absurd (cons≢nil (sym (field-more b r s) ∙ e)))
 
 -- ---- the length of a field that was read
 
@@ -247,8 +242,9 @@ module _ (n i t : ℕ) (text : List ℕ) (first at : ℕ) (seen : Seen) (g : Goi
       going-on last e =
           let f : List ℕ = fieldAt (drop (at + 1) text) in
           let p = parted (drop (at + 1) text) in
+          let q : at + 1 + length f ≡ at + (2 + width (c .line)) = omega (arith, field-length) in
           let d : drop (length f) (drop (at + 1) text) ≡ drop (at + (2 + width (c .line))) text =
-          drop-drop (length f) (at + 1) text ∙ ap (λ (k : ℕ). drop k text) (place (at + 1 + length f) (omega (arith, field-length))) in
+          drop-drop (length f) (at + 1) text ∙ ap (λ (k : ℕ). drop k text) q in
           let s : size (lineAt (drop at text)) ≡ 1 + size (lineAt (drop (at + 1) text)) =
           tabbed-line (drop at text) here .sizes ∙ ap (λ (r : List ℕ). 1 + size (lineAt r)) (drop-drop 1 at text) in
           let z : size (lineAt (drop (at + 1) text)) ≡ length f + size (lineAt (drop (at + (2 + width (c .line))) text)) =
@@ -263,7 +259,7 @@ module _ (n i t : ℕ) (text : List ℕ) (first at : ℕ) (seen : Seen) (g : Goi
                 g .left
                 ∙ ap (controlsFrom n i (g .passed)) next-field
                 ∙ then-served _ _ c read
-                ∙ ap (λ (k : ℕ). controlsFrom n i (g .passed ++ (c ∷ [])) (laterFields (fieldsOf (lineAt (drop k text) .bytes)))) (place (at + 1 + length f) (omega (arith, field-length)));
+                ∙ ap (λ (k : ℕ). controlsFrom n i (g .passed ++ (c ∷ [])) (laterFields (fieldsOf (lineAt (drop k text) .bytes)))) q;
             ended =
                 g .ended
                 ∙ tabbed-line (drop at text) here .ended
@@ -272,9 +268,6 @@ module _ (n i t : ℕ) (text : List ℕ) (first at : ℕ) (seen : Seen) (g : Goi
                 ∙ ap (λ (r : List ℕ). lineAt r .ended) d;
             sizes = omega (arith, field-length);
           }
-        where
-          place : (k : ℕ) → k ≡ at + (2 + width (c .line)) → k ≡ at + (2 + width (c .line))
-          place k e = e
 
   module _ (none : getD (drop at text) 0 10 ≡ tab → ⊥) where
     -- all controls were passed

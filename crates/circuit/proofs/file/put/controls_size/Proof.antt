@@ -1,5 +1,5 @@
 -- `circuit::file::put::controls_size` meets its contract. The loop's invariant: the controls below line k are counted. Assumes nothing.
-use mathlib.Core.Path.{_≡_, refl, ap}
+use mathlib.Core.Path.{refl, ap}
 use Prim.Native.Nat.{ℕ, _-_, _+_}
 use native.Mathlib.Omega.{arith}
 use borrow.Author.Needs.{needs}

@@ -1,8 +1,7 @@
 -- `circuit::file::put::put_controls` meets its contract. The loop's invariant: the controls below line k stand at the buffer's start. Assumes nothing.
-use mathlib.Core.Path.{_≡_, refl, ap, _∙_}
-use Prim.Native.Nat.{ℕ, _-_, _+_}
+use mathlib.Core.Path.{refl}
+use Prim.Native.Nat.{ℕ, _-_}
 use native.Mathlib.Omega.{arith}
-use lib.ListN.{length}
 use borrow.Author.Needs.{needs}
 use Rattle.circuit.specs.Gate.{maxLines}
 use Rattle.circuit.proofs.file.put.Laws.{Putting, putting-start, putting-room, putting-on, putting-done, control-length, rest-length}

@@ -1,16 +1,15 @@
 -- `circuit::file::put::put_gate_text` meets its contract. Assumes nothing.
-use mathlib.Core.Path.{_≡_, ap, subst}
+use mathlib.Core.Path.{ap}
 use mathlib.Core.List.{List, _∷_, _++_}
 use Prim.Native.Nat.{ℕ}
 use native.Mathlib.Omega.{arith}
 use lib.ListN.{length}
 use borrow.Author.Needs.{needs}
-use Rattle.circuit.specs.Text.{tab, numberText, gateText}
+use Rattle.circuit.specs.Text.{tab, numberText}
 use Rattle.circuit.specs.Gate.{controlsOf}
 use Rattle.circuit.specs.Text.{controlsText}
 use Rattle.circuit.specs.Put.{Put, maskGate}
-use Rattle.circuit.proofs.file.Texts.{headerText}
-use Rattle.circuit.proofs.file.put.Laws.{Written, written-first, written-more, written-put, room-after, rest-room, put-as, line-length, text-length, header-text-length, same-controls}
+use Rattle.circuit.proofs.file.put.Laws.{Written, written-first, written-more, written-put, room-after, rest-room, put-as, text-length, same-controls}
 use Prim.Native.Nat.{ℕ}
 use Rattle.circuit.proofs.file.put.put_gate_text.Statement.{statement}
 use Rattle.circuit.proofs.file.put.put_gate_text.Tie as tie

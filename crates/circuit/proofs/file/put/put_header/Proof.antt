@@ -1,15 +1,10 @@
 -- `circuit::file::put::put_header` meets its contract. Assumes nothing.
-use mathlib.Core.Path.{_≡_, subst}
-use mathlib.Core.List.{List, _∷_, _++_}
+use mathlib.Core.List.{List}
 use native.Mathlib.Omega.{arith}
-use lib.ListN.{length}
 use borrow.Author.Needs.{needs}
-use Rattle.circuit.specs.Text.{tab, numberText, gateText}
-use Rattle.circuit.specs.Gate.{controlsOf}
-use Rattle.circuit.specs.Text.{controlsText}
-use Rattle.circuit.specs.Put.{Put, maskGate}
+use Rattle.circuit.specs.Put.{Put}
 use Rattle.circuit.proofs.file.Texts.{headerText}
-use Rattle.circuit.proofs.file.put.Laws.{Written, written-first, written-more, written-put, room-after, rest-room, put-as, line-length, text-length, header-text-length, same-controls}
+use Rattle.circuit.proofs.file.put.Laws.{Written, written-first, written-more, written-put, room-after, rest-room, header-text-length}
 use Prim.Native.Nat.{ℕ}
 use Rattle.circuit.proofs.file.put.put_header.Statement.{statement}
 use Rattle.circuit.proofs.file.put.put_header.Tie as tie

@@ -1,5 +1,5 @@
 -- `circuit::file::put::put_word` meets its contract. The loop's invariant: the bytes that were passed stand at the buffer's start. Assumes nothing.
-use mathlib.Core.Path.{_≡_, refl, sym, ap, _∙_}
+use mathlib.Core.Path.{_≡_, refl, ap, _∙_}
 use mathlib.Core.List.{List}
 use Prim.Native.Nat.{ℕ, _-_, _≤_}
 use native.Mathlib.Omega.{arith}
@@ -7,7 +7,6 @@ use lib.ListN.{length, take, set, getD, length-set}
 use lib.Seq.{take-all}
 use Rattle.bits.specs.Lists.{over}
 use Rattle.bits.proofs.Lists.{over-prefix}
-use borrow.Author.Needs.{needs}
 use Rattle.circuit.proofs.file.put.put_word.Statement.{statement}
 use Rattle.circuit.proofs.file.put.put_word.Tie as tie
 

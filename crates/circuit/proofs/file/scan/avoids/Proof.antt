@@ -1,5 +1,5 @@
 -- `circuit::file::scan::avoids` meets its contract. Assumes nothing.
-use mathlib.Core.Path.{_≡_, sym, ap}
+use mathlib.Core.Path.{sym, ap}
 use mathlib.Core.Bool.{Bool, not, _&&_}
 use lib.Dec.{eqb}
 use borrow.Author.Needs.{needs}

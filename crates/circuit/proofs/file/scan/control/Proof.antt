@@ -1,6 +1,6 @@
 -- `circuit::file::scan::control` meets its contract. Assumes nothing.
-use mathlib.Core.Path.{_≡_, sym, ap, ap₂, _∙_}
-use mathlib.Core.Bool.{true, false, _||_}
+use mathlib.Core.Path.{_≡_, sym, ap, _∙_}
+use mathlib.Core.Bool.{true, _||_}
 use mathlib.Core.List.{List}
 use Prim.Native.Nat.{ℕ, _+_}
 use native.Mathlib.Omega.{arith}
@@ -11,7 +11,7 @@ use borrow.Author.Tests.{not-true, not-false}
 use Rattle.circuit.specs.Gate.{Control}
 use Rattle.circuit.specs.Text.{plus, minus}
 use Rattle.circuit.specs.File.{lineOf}
-use Rattle.circuit.specs.Outcome.{served, refused}
+use Rattle.circuit.specs.Outcome.{served}
 use Rattle.circuit.specs.Scan.{fieldAt, ofLine}
 use Rattle.circuit.proofs.Outcome.{why}
 use Rattle.circuit.proofs.file.scan.Laws.{byte-at, sign-inside, control-unsigned, control-refused, control-good}

@@ -11,9 +11,8 @@ use Rattle.circuit.specs.Scan.{ofControl}
 use Rattle.circuit.proofs.Outcome.{why}
 use Rattle.circuit.proofs.file.scan.Laws.{byte-at, width-two}
 use Rattle.circuit.proofs.file.scan.Rest.{Going, going-start, going-room, going-refused, going-below, going-inside, going-on, going-open, going-controlled, going-falls, going-gate}
-use mathlib.Core.Bool.{false}
 use mathlib.Core.List.{List}
-use Rattle.circuit.specs.Outcome.{Outcome, served, refused}
+use Rattle.circuit.specs.Outcome.{Outcome}
 use Rattle.circuit.proofs.file.scan.controls.Statement.{statement}
 use Rattle.circuit.proofs.file.scan.controls.Tie as tie
 

@@ -1,5 +1,5 @@
 -- `circuit::file::scan::line` meets its contract. Assumes nothing.
-use mathlib.Core.Path.{_≡_, sym, _∙_}
+use mathlib.Core.Path.{sym, _∙_}
 use Rattle.circuit.proofs.Outcome.{why}
 use Rattle.circuit.proofs.file.scan.Laws.{line-wrong, line-outside, line-good}
 use borrow.Author.Needs.{needs}
