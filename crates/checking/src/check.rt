@@ -1,8 +1,8 @@
 // The whole way from two cascades to clauses: the miter, a list of calls on it, and the emission.
 
+use crate::clauses::SizesAnswer;
 use circuit::gate::Gate;
 use circuit::words::CountAnswer;
-use crate::clauses::SizesAnswer;
 ghost use mathlib.Core.Path.{_≡_};
 ghost use Prim.Native.Nat.{_*_, _≤_};
 ghost use lib.ListN.{length};

@@ -53,8 +53,8 @@ fn print_masks(lines: u64, suspect: &[u64], reference: &[u64], states: &[u64]) {
     print_words(&out);
 }
 
-// The network 3_17 gives 7, 1, 4, 3, 0, 2, 6, 5 on the states 0 to 7, and in document 002 its first
-// gates are t1+0 t0+1+2. The suspect lacks +1 in the second. By document 002 two states differ, and
+// The benchmark 3_17 gives 7, 1, 4, 3, 0, 2, 6, 5 on the states 0 to 7 (known, not from our documents);
+// in document 002 its first gates are t1+0 t0+1+2. The suspect lacks +1 in the second. By document 002 two states differ, and
 // two of the six gates remain.
 fn main() {
     let reference = [1u64, 0, 1, 6, 0, 0, 0, 0, 2, 4, 0, 1, 1, 0, 2, 6, 0, 0];
