@@ -2,7 +2,7 @@
 
 use crate::harness::Counts;
 use crate::inputs::Cascade;
-use crate::reference::{self, has, Gate, CASCADE_GATES};
+use crate::reference::{self, has, Gate, CASCADE_GATES, MITER_GATES};
 
 /// The classes that `count_cascade` counts.
 pub const CASCADE: &[&str] = &[
@@ -39,6 +39,15 @@ pub const CASCADE: &[&str] = &[
     "served: positive control n - 1",
     "served: negative control n - 1",
     "served: n = 64, all lines in a gate",
+];
+
+/// The classes that `count_buffer` counts.
+pub const BUFFER: &[&str] = &[
+    "served: buffer exact",
+    "served: buffer one longer",
+    "served: buffer more than one longer",
+    "10: one short",
+    "10: empty buffer",
 ];
 
 /// The numbers of the tests 2, 11, 6, 7 that hold of a cascade, each judged by itself.
@@ -103,6 +112,28 @@ fn empty(buffer: &str, dangling: bool) -> String {
         "pointer to memory"
     };
     format!("{buffer}: empty, {pointer}")
+}
+
+/// Counts the length of the buffer for an answer of `needed` elements, in a call that answered the
+/// number.
+pub fn count_buffer<T>(counts: &mut Counts, out: &[T], needed: usize, number: u64) {
+    if number == 0 {
+        let longer = out.len() - needed;
+        counts.add_if(longer == 0, "served: buffer exact");
+        counts.add_if(longer == 1, "served: buffer one longer");
+        counts.add_if(longer > 1, "served: buffer more than one longer");
+    }
+    if number == 10 {
+        counts.add_if(out.len() + 1 == needed, "10: one short");
+        counts.add_if(out.is_empty(), "10: empty buffer");
+    }
+}
+
+/// Counts a call that is given up to 2,048 gates and no other buffer, and answered the number.
+pub fn count_call(counts: &mut Counts, lines: u64, words: &[u64], dangling: bool, number: u64) {
+    counts.add_case(&cascade_offences(lines, words, MITER_GATES));
+    count_cascade(counts, lines, words, MITER_GATES, number);
+    count_pointer(counts, "words", words, dangling);
 }
 
 /// Counts the classes of a cascade in a call that answered the number.

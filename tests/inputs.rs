@@ -1,7 +1,7 @@
 //! Inputs of the calls: line counts, gates, cascades good and damaged, states, buffer lengths.
 
 use crate::random::Random;
-use crate::reference::{self, CASCADE_GATES};
+use crate::reference::{self, CASCADE_GATES, MITER_GATES};
 
 /// A line count and words as a call gets them, good or bad, and a state to start from.
 #[derive(Clone, Debug)]
@@ -224,9 +224,18 @@ fn damage_word_count(random: &mut Random, words: &mut Vec<u64>) {
 
 // ---- cascades for steps
 
+/// A cascade of up to 2,048 gates: mostly one with matches, else any.
+pub fn any_or_matching(random: &mut Random) -> Cascade {
+    if random.one_in(4) {
+        cascade(random, MITER_GATES)
+    } else {
+        matching_cascade(random, MITER_GATES)
+    }
+}
+
 /// A cascade of valid gates of which many match: few lines, gates copied and slightly changed, and
 /// halves that are equal.
-pub fn matching_cascade(random: &mut Random, limit: usize) -> Cascade {
+fn matching_cascade(random: &mut Random, limit: usize) -> Cascade {
     let lines = match random.below(4) {
         0 => random.pick(&[1, 2, 63, 64]),
         _ => 2 + random.below(5),

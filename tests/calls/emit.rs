@@ -12,16 +12,11 @@ use crate::reference::{self, MITER_GATES};
 const RANDOM_CASES: u64 = 20_000;
 
 const CLASSES: &[&str] = &[
-    "served: buffer exact",
-    "served: buffer one word longer",
-    "served: buffer more than one word longer",
     "served: 01's printed example",
     "served: two gates or more",
     "served: a line targeted twice",
     "served: a line with no gate, and one with a gate",
     "served: as many gates as the limit, 63 controls each",
-    "10: one word short",
-    "10: empty buffer",
 ];
 
 /// What the call is given. With `dangling`, an empty slice has a dangling pointer.
@@ -38,6 +33,7 @@ pub fn section(random: &mut Random) -> Counts {
     counts.require_refusals(&[2, 11, 6, 7, 10]);
     counts.require(classes::CASCADE);
     classes::require_pointers(&mut counts, &["words", "out"]);
+    counts.require(classes::BUFFER);
     counts.require(CLASSES);
     for controls in 0..64 {
         counts.require(&[&with_controls(controls)]);
@@ -127,17 +123,9 @@ fn count(case: &Case, answer: &SizesAnswer, counts: &mut Counts) {
     classes::count_cascade(counts, lines, words, MITER_GATES, answer.number);
     classes::count_pointer(counts, "words", words, case.dangling);
     classes::count_pointer(counts, "out", out, case.dangling);
+    classes::count_buffer(counts, out, needed(lines, words), answer.number);
     if answer.number == 0 {
-        let longer = out.len() - answer.words as usize;
-        counts.add_if(longer == 0, "served: buffer exact");
-        counts.add_if(longer == 1, "served: buffer one word longer");
-        counts.add_if(longer > 1, "served: buffer more than one word longer");
         count_gates(lines, words, counts);
-    }
-    if answer.number == 10 {
-        let short = needed(lines, words) - out.len();
-        counts.add_if(short == 1, "10: one word short");
-        counts.add_if(out.is_empty(), "10: empty buffer");
     }
 }
 

@@ -23,8 +23,6 @@ const CLASSES: &[&str] = &[
     "served: n = 64",
     "served: n = 64, line 63 stands",
     "served: a state twice",
-    "served: buffer exact",
-    "served: buffer longer",
     "served: a missing positive control",
     "served: a missing negative control",
     "served: the guilty line alone stands",
@@ -37,8 +35,6 @@ const CLASSES: &[&str] = &[
     "12: the first state",
     "12: a later state",
     "12: the two are equal",
-    "10: one word short",
-    "10: empty buffer",
 ];
 
 /// What the call is given, and the control that was left out of the suspect, where one was.
@@ -58,6 +54,7 @@ pub fn section(random: &mut Random) -> Counts {
     tests.extend(["9", "12", "10"].map(String::from));
     counts.require_tests(&tests);
     classes::require_pointers(&mut counts, &["a", "b", "states", "out"]);
+    counts.require(classes::BUFFER);
     counts.require(CLASSES);
     inputs::each_faulty_pair(random, &mut |random, a, b| {
         for states in [vec![], vec![0], vec![u64::MAX], vec![1, u64::MAX]] {
@@ -297,6 +294,7 @@ fn count(case: &Case, answer: CountAnswer, counts: &mut Counts) {
         classes::count_pointer(counts, name, contents, case.dangling);
     }
     let CountAnswer { number, place, .. } = answer;
+    classes::count_buffer(counts, out, needed, number);
     match number {
         9 => {
             let state = states[place as usize];
@@ -311,20 +309,13 @@ fn count(case: &Case, answer: CountAnswer, counts: &mut Counts) {
             counts.add(["12: the first state", "12: a later state"][usize::from(place > 0)]);
             counts.add_if(suspect.words == reference.words, "12: the two are equal");
         }
-        10 => {
-            counts.add_if(out.len() + 1 == needed, "10: one word short");
-            counts.add_if(out.is_empty(), "10: empty buffer");
-        }
         _ => {}
     }
 }
 
 fn count_served(case: &Case, masks: &[u64], counts: &mut Counts) {
     let Case {
-        suspect,
-        states,
-        out,
-        ..
+        suspect, states, ..
     } = case;
     let n = suspect.lines;
     counts.add_if(states.is_empty(), "served: no states");
@@ -344,8 +335,6 @@ fn count_served(case: &Case, masks: &[u64], counts: &mut Counts) {
         n == 64 && masks.iter().any(|mask| has(*mask, 63)),
         "served: n = 64, line 63 stands",
     );
-    counts.add_if(out.len() == masks.len(), "served: buffer exact");
-    counts.add_if(out.len() > masks.len(), "served: buffer longer");
     counts.add_if(
         masks.len() > 1 && masks[0] | masks[1] == 0,
         "served: every line of the first gate struck",

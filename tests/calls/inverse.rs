@@ -11,14 +11,7 @@ use crate::reference::{self, CASCADE_GATES};
 
 const RANDOM_CASES: u64 = 200_000;
 
-const CLASSES: &[&str] = &[
-    "served: buffer exact",
-    "served: buffer one word longer",
-    "served: buffer more than one word longer",
-    "served: two gates or more",
-    "10: one word short",
-    "10: empty buffer",
-];
+const CLASSES: &[&str] = &["served: two gates or more"];
 
 /// What the call is given, and a state for the laws. With `dangling`, an empty slice has a dangling
 /// pointer.
@@ -36,6 +29,7 @@ pub fn section(random: &mut Random) -> Counts {
     counts.require_refusals(&[2, 11, 6, 7, 10]);
     counts.require(classes::CASCADE);
     classes::require_pointers(&mut counts, &["words", "out"]);
+    counts.require(classes::BUFFER);
     counts.require(CLASSES);
     let mut contents = Random::new(random.word());
     inputs::each_edge(random, CASCADE_GATES, &mut |cascade| {
@@ -110,15 +104,6 @@ fn count(case: &Case, number: u64, counts: &mut Counts) {
     classes::count_cascade(counts, case.lines, words, CASCADE_GATES, number);
     classes::count_pointer(counts, "words", words, case.dangling);
     classes::count_pointer(counts, "out", out, case.dangling);
-    if number == 0 {
-        let longer = out.len() - words.len();
-        counts.add_if(longer == 0, "served: buffer exact");
-        counts.add_if(longer == 1, "served: buffer one word longer");
-        counts.add_if(longer > 1, "served: buffer more than one word longer");
-        counts.add_if(words.len() >= 6, "served: two gates or more");
-    }
-    if number == 10 {
-        counts.add_if(out.len() + 1 == words.len(), "10: one word short");
-        counts.add_if(out.is_empty(), "10: empty buffer");
-    }
+    classes::count_buffer(counts, out, words.len(), number);
+    counts.add_if(number == 0 && words.len() >= 6, "served: two gates or more");
 }

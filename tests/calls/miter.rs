@@ -12,8 +12,6 @@ use crate::reference::{self, CASCADE_GATES};
 const RANDOM_CASES: u64 = 100_000;
 
 const CLASSES: &[&str] = &[
-    "served: buffer exact",
-    "served: buffer longer",
     "served: 2,048 gates",
     "served: both empty",
     "served: the first empty",
@@ -21,7 +19,6 @@ const CLASSES: &[&str] = &[
     "served: B is no palindrome",
     "served: the two agree on the state",
     "served: the two differ on the state",
-    "10: one word short",
 ];
 
 #[derive(Debug)]
@@ -38,6 +35,7 @@ pub fn section(random: &mut Random) -> Counts {
     tests.push("10".to_string());
     counts.require_tests(&tests);
     classes::require_pointers(&mut counts, &["a", "b", "out"]);
+    counts.require(classes::BUFFER);
     counts.require(CLASSES);
     inputs::each_faulty_pair(random, &mut |random, a, b| {
         each_length(random, a, b, &mut counts);
@@ -152,10 +150,9 @@ fn count(case: &Case, number: u64, counts: &mut Counts) {
     classes::count_pointer(counts, "a", &a.words, case.dangling);
     classes::count_pointer(counts, "b", &b.words, case.dangling);
     classes::count_pointer(counts, "out", out, case.dangling);
+    classes::count_buffer(counts, out, needed, number);
     if number == 0 {
         let reversed: Vec<_> = reference::gates_of(&b.words).into_iter().rev().collect();
-        counts.add_if(out.len() == needed, "served: buffer exact");
-        counts.add_if(out.len() > needed, "served: buffer longer");
         counts.add_if(needed == 6144, "served: 2,048 gates");
         counts.add_if(needed == 0, "served: both empty");
         counts.add_if(a.words.is_empty() && needed > 0, "served: the first empty");
@@ -165,8 +162,4 @@ fn count(case: &Case, number: u64, counts: &mut Counts) {
             "served: B is no palindrome",
         );
     }
-    counts.add_if(
-        number == 10 && out.len() + 1 == needed,
-        "10: one word short",
-    );
 }

@@ -12,14 +12,7 @@ use crate::reference;
 const GOOD_TEXTS: u64 = 300;
 const RANDOM_TEXTS: u64 = 200_000;
 
-const CLASSES: &[&str] = &[
-    "served: buffer exact",
-    "served: buffer longer",
-    "served: two gates or more",
-    "served: bytes after end",
-    "10: one word short",
-    "10: empty buffer",
-];
+const CLASSES: &[&str] = &["served: two gates or more", "served: bytes after end"];
 
 /// What the call is given. With `dangling`, an empty slice has a dangling pointer.
 #[derive(Debug)]
@@ -36,6 +29,7 @@ pub fn section(random: &mut Random) -> Counts {
         counts.require(&[&format!("refused with {number}")]);
     }
     classes::require_pointers(&mut counts, &["text", "out"]);
+    counts.require(classes::BUFFER);
     counts.require(CLASSES);
     rows(random, &mut counts);
     for _ in 0..GOOD_TEXTS {
@@ -138,17 +132,10 @@ fn count(case: &Case, answer: ReadAnswer, counts: &mut Counts) {
     counts.add_case(&[number][..(number != 0) as usize]);
     classes::count_pointer(counts, "text", &case.text, case.dangling);
     classes::count_pointer(counts, "out", &case.out, case.dangling);
+    classes::count_buffer(counts, &case.out, needed(&case.text), number);
     if number == 0 {
-        let needed = 3 * answer.gates as usize;
-        counts.add_if(case.out.len() == needed, "served: buffer exact");
-        counts.add_if(case.out.len() > needed, "served: buffer longer");
         counts.add_if(answer.gates >= 2, "served: two gates or more");
         let more = case.text.len() as u64 > answer.taken;
         counts.add_if(more, "served: bytes after end");
-    }
-    if number == 10 {
-        let needed = needed(&case.text);
-        counts.add_if(case.out.len() + 1 == needed, "10: one word short");
-        counts.add_if(case.out.is_empty(), "10: empty buffer");
     }
 }

@@ -50,11 +50,7 @@ pub fn section(random: &mut Random) -> Counts {
         check(&case, &mut counts);
     }
     for _ in 0..RANDOM_CASES {
-        let cascade = if random.one_in(4) {
-            inputs::cascade(random, MITER_GATES)
-        } else {
-            inputs::matching_cascade(random, MITER_GATES)
-        };
+        let cascade = inputs::any_or_matching(random);
         check(&case(cascade, random.one_in(2)), &mut counts);
     }
     counts
@@ -80,17 +76,9 @@ fn check(case: &Case, counts: &mut Counts) {
     let reference = expected::reduce_answer(reference::reduce(case.lines, &mut wanted));
     compare(case, "cascade_reduce: answer", library, reference);
     compare_buffer(case, "cascade_reduce: words", &words, &wanted);
-    let offences = classes::cascade_offences(case.lines, &case.words, MITER_GATES);
-    counts.add_case(&offences);
-    classes::count_cascade(
-        counts,
-        case.lines,
-        &case.words,
-        MITER_GATES,
-        reference.number,
-    );
-    classes::count_pointer(counts, "words", &case.words, case.dangling);
-    if reference.number == 0 {
+    let number = reference.number;
+    classes::count_call(counts, case.lines, &case.words, case.dangling, number);
+    if number == 0 {
         check_chain(case, &wanted, reference);
         check_other_lines(case, &wanted, reference, counts);
         count(case, reference, counts);

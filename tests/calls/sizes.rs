@@ -108,9 +108,7 @@ fn check(case: &Case, counts: &mut Counts) {
 
 fn count(case: &Case, number: u64, counts: &mut Counts) {
     let (lines, words) = (case.lines, &case.words);
-    counts.add_case(&classes::cascade_offences(lines, words, MITER_GATES));
-    classes::count_cascade(counts, lines, words, MITER_GATES, number);
-    classes::count_pointer(counts, "words", words, case.dangling);
+    classes::count_call(counts, lines, words, case.dangling, number);
     if number == 0 {
         count_gates(lines, words, counts);
     }

@@ -45,11 +45,7 @@ pub fn section(random: &mut Random) -> Counts {
     });
     each_two_gates(&mut counts);
     for _ in 0..RANDOM_CASES {
-        let cascade = if random.one_in(4) {
-            inputs::cascade(random, MITER_GATES)
-        } else {
-            inputs::matching_cascade(random, MITER_GATES)
-        };
+        let cascade = inputs::any_or_matching(random);
         check(&case(cascade, random.one_in(2)), &mut counts);
     }
     counts
@@ -100,17 +96,9 @@ fn check(case: &Case, counts: &mut Counts) {
     let reference = expected::step_answer(reference::step(case.lines, &mut wanted));
     compare(case, "cascade_step: answer", library, reference);
     compare_buffer(case, "cascade_step: words", &words, &wanted);
-    let offences = classes::cascade_offences(case.lines, &case.words, MITER_GATES);
-    counts.add_case(&offences);
-    classes::count_cascade(
-        counts,
-        case.lines,
-        &case.words,
-        MITER_GATES,
-        reference.number,
-    );
-    classes::count_pointer(counts, "words", &case.words, case.dangling);
-    if reference.number == 0 {
+    let number = reference.number;
+    classes::count_call(counts, case.lines, &case.words, case.dangling, number);
+    if number == 0 {
         check_run(case, &wanted, reference);
         check_other_lines(case, &wanted, reference, counts);
         count(case, reference, counts);

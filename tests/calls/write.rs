@@ -10,13 +10,6 @@ use crate::reference::{self, CASCADE_GATES};
 
 const RANDOM_CASES: u64 = 100_000;
 
-const CLASSES: &[&str] = &[
-    "served: buffer exact",
-    "served: buffer longer",
-    "10: one byte short",
-    "10: empty buffer",
-];
-
 /// What the call is given. With `dangling`, an empty slice has a dangling pointer.
 #[derive(Debug)]
 struct Case {
@@ -31,7 +24,7 @@ pub fn section(random: &mut Random) -> Counts {
     counts.require_refusals(&[2, 11, 6, 7, 10]);
     counts.require(classes::CASCADE);
     classes::require_pointers(&mut counts, &["words", "out"]);
-    counts.require(CLASSES);
+    counts.require(classes::BUFFER);
     let mut contents = Random::new(random.word());
     inputs::each_edge(random, CASCADE_GATES, &mut |cascade| {
         for length in inputs::edge_lengths(needed(&cascade)) {
@@ -111,12 +104,5 @@ fn count(case: &Case, answer: WriteAnswer, counts: &mut Counts) {
     classes::count_cascade(counts, case.lines, words, CASCADE_GATES, answer.number);
     classes::count_pointer(counts, "words", words, case.dangling);
     classes::count_pointer(counts, "out", out, case.dangling);
-    if answer.number == 0 {
-        counts.add_if(out.len() == text, "served: buffer exact");
-        counts.add_if(out.len() > text, "served: buffer longer");
-    }
-    if answer.number == 10 {
-        counts.add_if(out.len() + 1 == text, "10: one byte short");
-        counts.add_if(out.is_empty(), "10: empty buffer");
-    }
+    classes::count_buffer(counts, out, text, answer.number);
 }
