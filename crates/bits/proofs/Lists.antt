@@ -45,17 +45,20 @@ module _ {A : Type 0} where
   reverse-twice (x ∷ xs) =
       ap reverse (reverse-cons x xs) ∙ reverse-append (reverse xs) (x ∷ []) ∙ ap (λ (l : List A). x ∷ l) (reverse-twice xs)
 
-  -- ---- three elements in a row
+  -- ---- two and three elements in a row
+
+  pub two : (d : A) (xs : List A) (k : ℕ) → k + 1 < length xs → drop k xs ≡ getD xs k d ∷ getD xs (k + 1) d ∷ drop (k + 2) xs
+  two d xs k h =
+      let one : suc k ≡ k + 1 = omega arith in
+      let end : suc (k + 1) ≡ k + 2 = omega arith in
+      drop-cons xs k d (omega arith)
+      ∙ ap (λ (l : List A). getD xs k d ∷ l) (ap (λ (n : ℕ). drop n xs) one ∙ drop-cons xs (k + 1) d h ∙ ap (λ (n : ℕ). getD xs (k + 1) d ∷ drop n xs) end)
 
   pub three : (d : A) (xs : List A) (k : ℕ) → k + 2 < length xs → drop k xs ≡ getD xs k d ∷ getD xs (k + 1) d ∷ getD xs (k + 2) d ∷ drop (k + 3) xs
   three d xs k h =
-      let one : suc k ≡ k + 1 = omega arith in
-      let two : suc (k + 1) ≡ k + 2 = omega arith in
       let end : suc (k + 2) ≡ k + 3 = omega arith in
-      drop-cons xs k d (omega arith)
-      ∙ ap (λ (l : List A). getD xs k d ∷ l) (ap (λ (n : ℕ). drop n xs) one ∙ drop-cons xs (k + 1) d (omega arith)
-      ∙ ap (λ (l : List A). getD xs (k + 1) d ∷ l) (ap (λ (n : ℕ). drop n xs) two ∙ drop-cons xs (k + 2) d (omega arith)
-      ∙ ap (λ (n : ℕ). getD xs (k + 2) d ∷ drop n xs) end))
+      two d xs k (omega arith)
+      ∙ ap (λ (l : List A). getD xs k d ∷ getD xs (k + 1) d ∷ l) (drop-cons xs (k + 2) d h ∙ ap (λ (n : ℕ). getD xs (k + 2) d ∷ drop n xs) end)
 
 -- ---- a buffer that is filled from its start
 

@@ -4,7 +4,7 @@ use Prim.Native.Nat.{ℕ}
 use lib.Dec.{ltb}
 use Rattle.circuit.specs.Outcome.{Outcome, served, refused}
 use Rattle.circuit.specs.Words.{Counts}
-use Rattle.checking.specs.Compare.{Difference, none, lowest}
+use Rattle.diagnosis.specs.Compare.{Difference, none, lowest}
 use Rattle.capi.specs.declared.compare.CascadeStateAnswer.{CascadeStateAnswer}
 use Rattle.capi.specs.declared.compare.CascadeDiffersAnswer.{CascadeDiffersAnswer}
 use Rattle.capi.specs.declared.compare.CascadeFewerAnswer.{CascadeFewerAnswer}

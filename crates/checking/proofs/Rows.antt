@@ -11,7 +11,7 @@ use Rattle.checking.specs.Step.{controlLines, mayPass, controlRemoved, c
 use Rattle.checking.specs.Miter.{miterOutcome, miterBuffer}
 use Rattle.checking.specs.Clauses.{upFrom, targeted}
 use Rattle.checking.specs.Sizes.{gatesSizes, linesSizes, sizesOf, sizesOutcome}
-use Rattle.checking.specs.Faults.{everywhere, maskWhere, masksFrom, eachFrom, faultCheck, faultOutcome, faultBuffer}
+use Rattle.diagnosis.specs.Faults.{everywhere, maskWhere, masksFrom, eachFrom, faultCheck, faultOutcome, faultBuffer}
 use Rattle.checking.specs.Rows.{rows, allRight, RowLaws}
 
 rows-right : allRight rows ≡ true

@@ -4,7 +4,6 @@ use Rattle.checking.specs.StepLaws.{StepLaws}
 use Rattle.checking.specs.ReduceLaws.{ReduceLaws}
 use Rattle.checking.specs.StandIns.{StandInLaws}
 use Rattle.checking.specs.ClauseLaws.{ClauseLaws}
-use Rattle.checking.specs.FaultLaws.{FaultLaws}
 use Rattle.checking.specs.Equality.{Equality}
 use Rattle.checking.specs.Rows.{RowLaws}
 
@@ -14,7 +13,6 @@ pub record CheckingLaws : Type 0 where
   pub reductions : ReduceLaws
   pub stand-ins : StandInLaws
   pub clauses : ClauseLaws
-  pub faults : FaultLaws
   -- demand 3
   pub equality : Equality
   pub rows : RowLaws

@@ -13,9 +13,6 @@ pub mod Emission
 pub mod Emit
 pub mod Equality
 pub mod Check
-pub mod Compare
-pub mod Faults
-pub mod FaultLaws
 pub mod ClauseLaws
 pub mod ReduceLaws
 pub mod StandIns

@@ -12,7 +12,7 @@ use Rattle.circuit.specs.Run.{runOutcome}
 use Rattle.checking.specs.declared.clauses.Totals.{Totals}
 use Rattle.checking.specs.Miter.{miterOutcome, miterBuffer}
 use Rattle.checking.specs.Sizes.{sizesOutcome}
-use Rattle.checking.specs.Faults.{faultOutcome, faultBuffer}
+use Rattle.diagnosis.specs.Faults.{faultOutcome, faultBuffer}
 use Rattle.checking.specs.Step.{Step, found, none, filled, stepOutcome, stepBuffer}
 
 -- what a row says of a call on n lines

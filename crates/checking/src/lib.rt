@@ -4,10 +4,8 @@ ghost use Rattle.checking.specs.Laws.{CheckingLaws};
 
 pub mod check;
 pub mod clauses;
-pub mod compare;
 mod emission;
 mod emitter;
-pub mod faults;
 pub mod miter;
 pub mod reduce;
 pub mod step;

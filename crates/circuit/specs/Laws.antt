@@ -14,7 +14,6 @@ use Rattle.circuit.specs.Outcome.{served, refused}
 use Rattle.circuit.specs.Words.{gatesOf, wordsOf, allValid, checkOutcome, Cascade, WordsFault, Counts, pairOutcome, PairFault}
 use Rattle.circuit.specs.Run.{run, Equal, Differs}
 use Rattle.circuit.specs.Inverse.{inverse}
-use Rattle.circuit.specs.FileLaws.{FileLaws}
 
 -- every positive control is 1 and every negative one 0, line by line
 pub record FiresByLines (g : Gate) (s : ℕ) : Type 0 where
@@ -76,4 +75,3 @@ pub record CircuitLaws : Type 0 where
   pub gate : GateLaws
   pub words : WordsLaws
   pub cascade : CascadeLaws
-  pub file : FileLaws

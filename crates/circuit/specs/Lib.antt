@@ -4,9 +4,4 @@ pub mod Gate
 pub mod Words
 pub mod Run
 pub mod Inverse
-pub mod Text
-pub mod File
-pub mod FileLaws
-pub mod Scan
-pub mod Put
 pub mod Laws

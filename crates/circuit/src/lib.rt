@@ -2,7 +2,6 @@
 
 ghost use Rattle.circuit.specs.Laws.{CircuitLaws};
 
-pub mod file;
 pub mod gate;
 pub mod inverse;
 pub mod refusal;

@@ -13,7 +13,7 @@ use Rattle.circuit.specs.Outcome.{Outcome, served, refused}
 use Rattle.circuit.specs.Words.{Counts, Cascade, pairOutcome}
 use Rattle.circuit.proofs.Outcome.{then-both, then-fails}
 use Rattle.circuit.proofs.words.Laws.{pair-served}
-use Rattle.checking.specs.Compare.{picked, pickOutcome}
+use Rattle.diagnosis.specs.Compare.{picked, pickOutcome}
 use Rattle.capi.specs.declared.compare.CascadeFewerAnswer.{CascadeFewerAnswer}
 use Rattle.capi.specs.Compare.{fewerAnswer}
 

@@ -24,7 +24,7 @@ use Rattle.checking.proofs.step.Calls.{step-refused}
 use Rattle.checking.proofs.step.Laws.{step-laws}
 use Rattle.checking.proofs.reduce.Laws.{step-shrinks, reduce-refused}
 use Rattle.checking.proofs.reduce.Relation.{reduce-laws}
-use Rattle.checking.proofs.faults.Loops.{drop-two}
+use Rattle.bits.proofs.Lists.{two}
 
 -- ---- one call
 
@@ -163,7 +163,7 @@ pub calls-next : (ws : List ℕ) (i kind n : ℕ) → i < length ws / 2 → kind
 unfolding callsOf
 calls-next ws i kind n h e f =
     let up : 2 * i + 2 ≡ 2 * (i + 1) = omega arith in
-    ap callsOf (drop-two ws (2 * i) (omega arith))
+    ap callsOf (two 0 ws (2 * i) (omega arith))
     ∙ ap₂ (λ (x y : ℕ). callOf x y ∷ callsOf (drop (2 * i + 2) ws)) (sym e) (sym f)
     ∙ ap (λ (k : ℕ). callOf kind n ∷ callsOf (drop k ws)) up
 

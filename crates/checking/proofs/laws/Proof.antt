@@ -4,7 +4,6 @@ use Rattle.checking.proofs.step.Laws.{step-laws}
 use Rattle.checking.proofs.reduce.Relation.{reduce-laws}
 use Rattle.checking.proofs.StandIns.{stand-in-laws}
 use Rattle.checking.proofs.clauses.Laws.{clause-laws}
-use Rattle.checking.proofs.faults.StandIns.{fault-laws}
 use Rattle.checking.proofs.Equality.{equality}
 use Rattle.checking.proofs.Rows.{row-laws}
 use Rattle.checking.proofs.laws.Statement.{statement}
@@ -18,7 +17,6 @@ returns c =
       reductions = reduce-laws;
       stand-ins = stand-in-laws;
       clauses = clause-laws;
-      faults = fault-laws;
       equality = equality;
       rows = row-laws;
     }

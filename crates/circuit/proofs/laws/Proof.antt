@@ -4,7 +4,6 @@ use Rattle.circuit.proofs.gate.Controls.{controls-count, controls-fire}
 use Rattle.circuit.proofs.words.Laws.{gates-words, words-gates, check-served, served-check, check-refused, refused-check, pair-served, served-pair, pair-refused, refused-pair}
 use Rattle.circuit.proofs.run.Laws.{run-append, run-below, equal-differs}
 use Rattle.circuit.proofs.inverse.Laws.{run-inverse, inverse-run, inverse-append, inverse-twice, inverse-valid}
-use Rattle.circuit.proofs.file.Laws.{reader, read-served, served-read, read-refused, refused-read, refuses-all}
 use Rattle.circuit.proofs.laws.Statement.{statement}
 use Rattle.circuit.proofs.laws.Tie as tie
 
@@ -44,13 +43,6 @@ returns c =
             inverse-twice = inverse-twice;
             inverse-valid = inverse-valid;
             equal-differs = equal-differs;
-          };
-      file =
-          record {
-            reader = reader;
-            read-served = λ text room c. (read-served text room c, served-read text room c);
-            read-refused = λ text room number place. (read-refused text room number place, refused-read text room number place);
-            refuses-all = refuses-all;
           };
     }
 

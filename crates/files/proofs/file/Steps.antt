@@ -1,0 +1,332 @@
+-- A reading as the code takes it: one line of the two loops over lines, the header, and what the call owes. Assumes nothing.
+use mathlib.Core.Path.{_≡_, refl, sym, ap, ap₂, _∙_}
+use mathlib.Core.Bool.{true, false, false≢true}
+use mathlib.Core.List.{List, [], _∷_, _++_, append-nil}
+use Prim.Native.Nat.{ℕ, _+_, _-_, _*_, _≤_, _<_}
+use native.Mathlib.Omega.{arith}
+use lib.ListN.{length, take, drop, length-take, length-drop, length-append}
+use lib.Seq.{drop-drop}
+use borrow.Rule.Slice.PartMut.{putMid, same-len-mid}
+use Rattle.bits.specs.Lists.{over}
+use Rattle.bits.proofs.Bools.{and-parts, cond-true, cond-false, not-held}
+use Rattle.bits.proofs.Lists.{lent-over}
+use Rattle.circuit.specs.declared.gate.Gate.{Gate}
+use Rattle.circuit.specs.Gate.{maxLines, maxGates}
+use Rattle.circuit.specs.Outcome.{Outcome, served, refused, andThen, written, Yields}
+use Rattle.circuit.specs.Refusal.{wrongForm}
+use Rattle.files.specs.Text.{lineFeed, endWord}
+use Rattle.files.specs.File.{Line, noLine, firstLine, laterLines, linesOf, size, fieldsOf, same, gateFields, gateOn, headerOn, isEnd, Reading, readFrom, reading, ReadCounts, countsOf, gatesRead, readOutcome, readBuffer}
+use Rattle.circuit.specs.Words.{gateWords, wordsOf, putGate}
+use Rattle.files.specs.Scan.{lineAt, GateNext, gateNext, HeaderNext, headerNext}
+use Rattle.circuit.proofs.Outcome.{never, then-served, then-refused, then-both, told}
+use Rattle.circuit.proofs.words.Laws.{words-append, words-length, put-fits}
+use Rattle.files.proofs.file.Lines.{Cut, cut-first, same-true}
+use Rattle.files.proofs.file.Offences.{GateFound, gate-found, HeaderFound, header-found, Walked, whole-text, stopped, walked}
+
+-- a gate line that was read
+pub record Stepped (n : ℕ) (text : List ℕ) (gs : List Gate) (at : ℕ) (g : Gate) (next : ℕ) : Type 0 where
+  pub onward : at < next
+  pub inside : next ≤ length text
+  pub few : length gs + 1 ≤ maxGates
+  pub left : readFrom n gs at (linesOf (drop at text)) ≡ readFrom n (gs ++ (g ∷ [])) next (linesOf (drop next text))
+
+module _ (n : ℕ) (lines-high : n ≤ maxLines) (text : List ℕ) (gs : List Gate) (at : ℕ) (inside : at ≤ length text) where
+  gate-facts : (g : Gate) → gateOn n (length gs + 1) (lineAt (drop at text)) ≡ served g → isEnd (lineAt (drop at text)) ≡ false
+      → (lineAt (drop at text) .ended ≡ true) × (length gs + 1 ≤ maxGates)
+  gate-facts g e z = go (gateOn n (length gs + 1) (lineAt (drop at text))) (gate-found n (length gs + 1) lines-high (lineAt (drop at text)) z) e
+    where
+      go : (o : Outcome Gate) → GateFound n (length gs + 1) (lineAt (drop at text)) o → o ≡ served g → (lineAt (drop at text) .ended ≡ true) × (length gs + 1 ≤ maxGates)
+      go o (GateFound.good h v b d m) q = (d, m)
+      go o (GateFound.bad number x) q = absurd (never q refl)
+
+  from-line : (g : Gate) → gateOn n (length gs + 1) (lineAt (drop at text)) ≡ served g → isEnd (lineAt (drop at text)) ≡ false → lineAt (drop at text) .ended ≡ true
+      → (ls : List Line) → linesOf (drop at text) ≡ ls → readFrom n gs at ls ≡ readFrom n (gs ++ (g ∷ [])) (at + size (firstLine ls)) (laterLines ls)
+  unfolding readFrom
+  from-line g e z d [] q = absurd (false≢true (sym (ap (λ (ls : List Line). firstLine ls .ended) q) ∙ d))
+  from-line g e z d (l ∷ ls) q =
+      cond-false (isEnd l) _ _ (sym (ap (λ (x : List Line). isEnd (firstLine x)) q) ∙ z)
+      ∙ then-served _ _ g (sym (ap (λ (x : List Line). gateOn n (length gs + 1) (firstLine x)) q) ∙ e)
+
+  pub stepped : isEnd (lineAt (drop at text)) ≡ false → (g : Gate) (next : ℕ) → gateNext n (length gs + 1) at (drop at text) ≡ served (record { gate = g; next = next })
+      → Stepped n text gs at g next
+  stepped z g next e =
+      let (h, a, b) = then-both (gateOn n (length gs + 1) (lineAt (drop at text))) _ (record { gate = g; next = next }) e in
+      let l = lineAt (drop at text) in
+      let x : _≡_ {A = GateNext} (record { gate = h; next = at + size l }) (record { gate = g; next = next }) = unserved b in
+      let p : h ≡ g = ap (λ (y : GateNext). y .gate) x in
+      let q : at + size l ≡ next = ap (λ (y : GateNext). y .next) x in
+      let good : gateOn n (length gs + 1) l ≡ served g = a ∙ ap served p in
+      let (d, m) = gate-facts g good z in
+      let c = cut-first (drop at text) d in
+      let s : length (drop at text) ≡ length (l .bytes) + length (lineFeed ∷ drop (size l) (drop at text)) = ap length (c .text) ∙ length-append (l .bytes) _ in
+      let t = length-drop at text in
+      record {
+        onward = omega arith;
+        inside = omega arith;
+        few = m;
+        left =
+            from-line g good z d (linesOf (drop at text)) refl
+            ∙ ap₂ (λ (k : ℕ) (ls : List Line). readFrom n (gs ++ (g ∷ [])) k ls) q
+            (sym (c .later) ∙ ap linesOf (drop-drop (size l) at text ∙ ap (λ (k : ℕ). drop k text) q));
+      }
+    where
+      unserved : {a b : GateNext} → _≡_ {A = Outcome GateNext} (served a) (served b) → a ≡ b
+      unserved e = cc
+
+  pub step-refused : isEnd (lineAt (drop at text)) ≡ false → (number place : ℕ) → gateNext n (length gs + 1) at (drop at text) ≡ refused number place
+      → readFrom n gs at (linesOf (drop at text)) ≡ refused number place
+  unfolding readFrom
+  step-refused z number place e = go (linesOf (drop at text)) refl (bad (gateOn n (length gs + 1) (lineAt (drop at text))) refl)
+    where
+      bad : (o : Outcome Gate) → gateOn n (length gs + 1) (lineAt (drop at text)) ≡ o → gateOn n (length gs + 1) (lineAt (drop at text)) ≡ refused number place
+      bad (served g) q = absurd (never (then-served _ _ g q) e)
+      bad (refused x y) q =
+          let f : _≡_ {A = Outcome GateNext} (refused x y) (refused number place) = sym (then-refused _ _ x y q) ∙ e in
+          let i : x ≡ number = cc in
+          let j : y ≡ place = cc in
+          q ∙ ap₂ (λ (a b : ℕ). refused a b) i j
+
+      missing : gateOn n (length gs + 1) noLine ≡ refused wrongForm (length gs + 1)
+      missing = unfold gateFields fieldsOf in refl
+
+      go : (ls : List Line) → linesOf (drop at text) ≡ ls → gateOn n (length gs + 1) (lineAt (drop at text)) ≡ refused number place → readFrom n gs at ls ≡ refused number place
+      go [] q b =
+          let f : _≡_ {A = Outcome Gate} (refused wrongForm (length gs + 1)) (refused number place) =
+          sym missing ∙ sym (ap (λ (x : List Line). gateOn n (length gs + 1) (firstLine x)) q) ∙ b in
+          let i : wrongForm ≡ number = cc in
+          let j : length gs + 1 ≡ place = cc in
+          ap₂ (λ (a b : ℕ). refused a b) i j
+      go (l ∷ ls) q b =
+          cond-false (isEnd l) _ _ (sym (ap (λ (x : List Line). isEnd (firstLine x)) q) ∙ z)
+          ∙ then-refused _ _ number place (sym (ap (λ (x : List Line). gateOn n (length gs + 1) (firstLine x)) q) ∙ b)
+
+  -- the last line
+  pub step-end : isEnd (lineAt (drop at text)) ≡ true
+      → (readFrom n gs at (linesOf (drop at text)) ≡ served (record { lines = n; gates = gs; taken = at + 4 })) × (at + 4 ≤ length text)
+  step-end z =
+      let l = lineAt (drop at text) in
+      let (d, b) = and-parts (l .ended) (same (l .bytes) endWord) z in
+      let w : l .bytes ≡ endWord = same-true (l .bytes) endWord b in
+      let k : size l ≡ 4 = ap (λ (x : List ℕ). length x + 1) w in
+      let c = cut-first (drop at text) d in
+      let s : length (drop at text) ≡ length (l .bytes) + length (lineFeed ∷ drop (size l) (drop at text)) = ap length (c .text) ∙ length-append (l .bytes) _ in
+      let t = length-drop at text in
+      (go (linesOf (drop at text)) refl z d ∙ ap (λ (x : ℕ). served (record { lines = n; gates = gs; taken = at + x })) k, omega arith)
+    where
+      go : (ls : List Line) → linesOf (drop at text) ≡ ls → isEnd (lineAt (drop at text)) ≡ true → lineAt (drop at text) .ended ≡ true
+          → readFrom n gs at ls ≡ served (record { lines = n; gates = gs; taken = at + size (lineAt (drop at text)) })
+      go [] q z d = absurd (false≢true (sym (ap (λ (ls : List Line). firstLine ls .ended) q) ∙ d))
+      go (l ∷ ls) q z d =
+          unfold readFrom in
+          cond-true (isEnd l) _ _ (sym (ap (λ (x : List Line). isEnd (firstLine x)) q) ∙ z)
+          ∙ ap (λ (x : List Line). served (record { lines = n; gates = gs; taken = at + size (firstLine x) })) (sym q)
+
+  -- a reading that has no gate left
+  pub step-all : (c : Reading) → length gs ≤ maxGates → readFrom n gs at (linesOf (drop at text)) ≡ served c → length (c .gates) ≡ length gs → c .gates ≡ gs
+  step-all c few e k =
+      go (readFrom n gs at (linesOf (drop at text))) (walked n lines-high (linesOf (drop at text)) gs at (drop at text) refl few) e
+    where
+      none : (hs : List Gate) → length hs ≡ 0 → gs ++ hs ≡ gs
+      none [] z = append-nil gs
+      none (h ∷ hs) z = absurd (omega arith)
+
+      go : (o : Outcome Reading) → Walked n gs at (drop at text) o → o ≡ served c → c .gates ≡ gs
+      go o (whole-text hs rest q w m) f =
+          let x : record { lines = n; gates = gs ++ hs; taken = _ } ≡ c = unserved f in
+          let y : gs ++ hs ≡ c .gates = ap (λ (r : Reading). r .gates) x in
+          let z : length (gs ++ hs) ≡ length gs + length hs = length-append gs hs in
+          let u : length (gs ++ hs) ≡ length (c .gates) = ap length y in
+          sym y ∙ none hs (omega arith)
+        where
+          unserved : {a b : Reading} → _≡_ {A = Outcome Reading} (served a) (served b) → a ≡ b
+          unserved e = cc
+      go o (stopped hs rest q w m number x) f = absurd (never f refl)
+
+-- ---- what the loop that judges keeps: the gates up to `at`, and that what is left from there decides
+
+pub record Judging (n : ℕ) (text : List ℕ) (start at gates : ℕ) : Type 0 where
+  pub passed : List Gate
+  pub count : length passed ≡ gates
+  pub high : n ≤ maxLines
+  pub few : gates ≤ maxGates
+  pub inside : at ≤ length text
+  pub left : readFrom n [] start (linesOf (drop start text)) ≡ readFrom n passed at (linesOf (drop at text))
+
+pub judging-start : (n : ℕ) (text : List ℕ) (start : ℕ) → n ≤ maxLines → start ≤ length text → Judging n text start start 0
+judging-start n text start h i = record { passed = []; count = refl; high = h; few = omega arith; inside = i; left = refl }
+
+module _ (n : ℕ) (text : List ℕ) (start at gates : ℕ) (j : Judging n text start at gates) where
+  place : length (j .passed) + 1 ≡ gates + 1
+  place = ap (λ (k : ℕ). k + 1) (j .count)
+
+  module _ (open-line : isEnd (lineAt (drop at text)) ≡ false) where
+    pub judging-refused : (number p : ℕ) → gateNext n (gates + 1) at (drop at text) ≡ refused number p → readFrom n [] start (linesOf (drop start text)) ≡ refused number p
+    judging-refused number p e =
+        j .left ∙ step-refused n (j .high) text (j .passed) at (j .inside) open-line number p (ap (λ (k : ℕ). gateNext n k at (drop at text)) place ∙ e)
+
+    module _ (g : Gate) (next : ℕ) (read : gateNext n (gates + 1) at (drop at text) ≡ served (record { gate = g; next = next })) where
+      pub judging-step : Stepped n text (j .passed) at g next
+      judging-step = stepped n (j .high) text (j .passed) at (j .inside) open-line g next (ap (λ (k : ℕ). gateNext n k at (drop at text)) place ∙ read)
+
+      pub judging-turn : Judging n text start next (gates + 1)
+      judging-turn =
+          let s = judging-step in
+          let k = length-append (j .passed) (g ∷ []) in
+          let q = j .count in
+          let m = s .few in
+          record { passed = j .passed ++ (g ∷ []); count = omega arith; high = j .high; few = omega arith; inside = s .inside; left = j .left ∙ s .left }
+
+  pub judging-end : isEnd (lineAt (drop at text)) ≡ true
+      → (readFrom n [] start (linesOf (drop start text)) ≡ served (record { lines = n; gates = j .passed; taken = at + 4 })) × (at + 4 ≤ length text)
+  judging-end z = let (e, h) = step-end n (j .high) text (j .passed) at (j .inside) z in (j .left ∙ e, h)
+
+-- ---- what the loop that fills keeps besides: the words of those gates stand at the buffer's start
+
+abbrev pub countRead : Outcome Reading → Outcome ℕ
+countRead o = andThen o (λ c. served (length (c .gates)))
+
+pub record Filling (n : ℕ) (text : List ℕ) (start gates : ℕ) (first : List ℕ) (at i : ℕ) (out : List ℕ) : Type 0 where
+  pub judging : Judging n text start at i
+  pub within : i ≤ gates
+  pub room : 3 * gates ≤ length out
+  pub same-length : length out ≡ length first
+  pub put : out ≡ over (wordsOf (judging .passed)) first
+  pub counted : countRead (readFrom n [] start (linesOf (drop start text))) ≡ served gates
+
+pub filling-start : (n : ℕ) (text : List ℕ) (start gates : ℕ) (out : List ℕ) → n ≤ maxLines → start ≤ length text → 3 * gates ≤ length out
+    → countRead (readFrom n [] start (linesOf (drop start text))) ≡ served gates → Filling n text start gates out start 0 out
+unfolding wordsOf judging-start
+filling-start n text start gates out h i r c =
+    record { judging = judging-start n text start h i; within = omega arith; room = r; same-length = refl; put = refl; counted = c }
+
+module _ (n : ℕ) (text : List ℕ) (start gates : ℕ) (first : List ℕ) (at i : ℕ) (out : List ℕ) (f : Filling n text start gates first at i out) where
+  -- a gate is left, so the line is not `end`
+  pub filling-open : i < gates → isEnd (lineAt (drop at text)) ≡ false
+  filling-open h =
+      not-held (isEnd (lineAt (drop at text))) (λ z.
+      let (e, k) = judging-end n text start at i (f .judging) z in
+      let q : _≡_ {A = Outcome ℕ} (served (length (f .judging .passed))) (served gates) = sym (ap countRead e) ∙ f .counted in
+      let x : length (f .judging .passed) ≡ gates = cc in
+      let y = f .judging .count in
+      omega arith)
+
+  -- and it is a gate line
+  pub filling-gate : (number p : ℕ) → i < gates → gateNext n (i + 1) at (drop at text) ≡ refused number p → ⊥
+  filling-gate number p h e =
+      never (f .counted) (ap countRead (judging-refused n text start at i (f .judging) (filling-open h) number p e))
+
+  module _ (h : i < gates) (g : Gate) (next : ℕ) (read : gateNext n (i + 1) at (drop at text) ≡ served (record { gate = g; next = next })) where
+    pub filling-turn : (last : List ℕ) → last ≡ putGate g (take (length out - 3 * i) (drop (3 * i) out)) → length last ≡ length (take (length out - 3 * i) (drop (3 * i) out))
+        → Filling n text start gates first next (i + 1) (putMid (3 * i) (length out - 3 * i) out last)
+    unfolding judging-turn
+    filling-turn last e l =
+        let j = f .judging in
+        let r = f .room in
+        let c = j .count in
+        let w = words-length (j .passed) in
+        let fits : 3 ≤ length (take (length out - 3 * i) (drop (3 * i) out)) = omega (arith, length-take (length out - 3 * i) (drop (3 * i) out), length-drop (3 * i) out) in
+        let s : length (putMid (3 * i) (length out - 3 * i) out last) ≡ length out = same-len-mid (3 * i) (length out - 3 * i) out last l in
+        record {
+          judging = judging-turn n text start at i j (filling-open h) g next read;
+          within = omega arith;
+          room = omega arith;
+          same-length = s ∙ f .same-length;
+          put =
+              lent-over (wordsOf (j .passed)) (gateWords g) first out last (3 * i) (f .put) (omega arith) (omega arith) (e ∙ put-fits g (take (length out - 3 * i) (drop (3 * i) out)) fits)
+              ∙ ap (λ (x : List ℕ). over x first) (sym (words-push (j .passed) g));
+          counted = f .counted;
+        }
+      where
+        words-push : (gs : List Gate) (g : Gate) → wordsOf (gs ++ (g ∷ [])) ≡ wordsOf gs ++ gateWords g
+        words-push gs g = words-append gs (g ∷ []) ∙ ap (λ (x : List ℕ). wordsOf gs ++ x) (one g)
+          where
+            one : (g : Gate) → wordsOf (g ∷ []) ≡ gateWords g
+            one g = unfold wordsOf in refl
+
+  -- all gates were put
+  pub filling-done : gates ≤ i → out ≡ over (wordsOf (gatesRead (readFrom n [] start (linesOf (drop start text))))) first
+  filling-done h = f .put ∙ ap (λ (gs : List Gate). over (wordsOf gs) first) (all (readFrom n [] start (linesOf (drop start text))) refl)
+    where
+      all : (o : Outcome Reading) → readFrom n [] start (linesOf (drop start text)) ≡ o → f .judging .passed ≡ gatesRead (readFrom n [] start (linesOf (drop start text)))
+      all (refused number p) e = absurd (never (f .counted) (ap countRead e))
+      all (served c) e =
+          let j = f .judging in
+          let q : _≡_ {A = Outcome ℕ} (served (length (c .gates))) (served gates) = sym (ap countRead e) ∙ f .counted in
+          let x : length (c .gates) ≡ gates = cc in
+          let y = j .count in
+          let w = f .within in
+          let m = j .few in
+          sym (ap gatesRead e ∙ step-all n (j .high) text (j .passed) at (j .inside) c (omega arith) (sym (j .left) ∙ e) (omega arith))
+
+-- ---- a text from its header on
+
+pub record Started (text : List ℕ) (n next : ℕ) : Type 0 where
+  pub high : n ≤ maxLines
+  pub inside : next ≤ length text
+  pub is : reading text ≡ readFrom n [] next (linesOf (drop next text))
+
+module _ (text : List ℕ) where
+  pub header-bad : (number p : ℕ) → headerNext text ≡ refused number p → reading text ≡ refused number p
+  unfolding reading
+  header-bad number p e = then-refused _ _ number p (bad (headerOn (lineAt text)) refl)
+    where
+      bad : (o : Outcome ℕ) → headerOn (lineAt text) ≡ o → headerOn (lineAt text) ≡ refused number p
+      bad (served n) q = absurd (never (then-served _ _ n q) e)
+      bad (refused x y) q =
+          let f : _≡_ {A = Outcome HeaderNext} (refused x y) (refused number p) = sym (then-refused _ _ x y q) ∙ e in
+          let i : x ≡ number = cc in
+          let j : y ≡ p = cc in
+          q ∙ ap₂ (λ (a b : ℕ). refused a b) i j
+
+  pub header-start : (n next : ℕ) → headerNext text ≡ served (record { lines = n; next = next }) → Started text n next
+  unfolding reading
+  header-start n next e =
+      let (m, a, b) = then-both (headerOn (lineAt text)) _ (record { lines = n; next = next }) e in
+      let l = lineAt text in
+      let x : _≡_ {A = HeaderNext} (record { lines = m; next = size l }) (record { lines = n; next = next }) = unserved b in
+      let p : m ≡ n = ap (λ (y : HeaderNext). y .lines) x in
+      let q : size l ≡ next = ap (λ (y : HeaderNext). y .next) x in
+      let good : headerOn l ≡ served n = a ∙ ap served p in
+      let (h, d) = facts (headerOn l) (header-found l) good in
+      let c = cut-first text d in
+      let s : length text ≡ length (l .bytes) + length (lineFeed ∷ drop (size l) text) = ap length (c .text) ∙ length-append (l .bytes) _ in
+      record {
+        high = h;
+        inside = omega arith;
+        is = then-served _ _ n good ∙ ap₂ (λ (k : ℕ) (ls : List Line). readFrom n [] k ls) q (sym (c .later) ∙ ap (λ (k : ℕ). linesOf (drop k text)) q);
+      }
+    where
+      unserved : {a b : HeaderNext} → _≡_ {A = Outcome HeaderNext} (served a) (served b) → a ≡ b
+      unserved e = cc
+
+      facts : (o : Outcome ℕ) → HeaderFound (lineAt text) o → o ≡ served n → (n ≤ maxLines) × (lineAt text .ended ≡ true)
+      facts o (HeaderFound.good k low high b d) q = let x : k ≡ n = cc in (omega arith, d)
+      facts o (HeaderFound.bad number y) q = absurd (never q refl)
+
+  module _ (n next : ℕ) (s : Started text n next) where
+    -- what the judging loop told
+    pub judged-bad : (number p : ℕ) → andThen (readFrom n [] next (linesOf (drop next text))) (λ c. served (countsOf c)) ≡ refused number p → reading text ≡ refused number p
+    judged-bad number p e = s .is ∙ bad (readFrom n [] next (linesOf (drop next text))) refl
+      where
+        bad : (o : Outcome Reading) → readFrom n [] next (linesOf (drop next text)) ≡ o → readFrom n [] next (linesOf (drop next text)) ≡ refused number p
+        bad (served c) q = absurd (never (then-served _ _ c q) e)
+        bad (refused x y) q =
+            let f : _≡_ {A = Outcome ReadCounts} (refused x y) (refused number p) = sym (then-refused _ _ x y q) ∙ e in
+            let i : x ≡ number = cc in
+            let j : y ≡ p = cc in
+            q ∙ ap₂ (λ (a b : ℕ). refused a b) i j
+
+    pub judged : (k : ReadCounts) → andThen (readFrom n [] next (linesOf (drop next text))) (λ c. served (countsOf c)) ≡ served k
+        → (c : Reading) × (reading text ≡ served c) × (countsOf c ≡ k)
+    judged k e =
+        let (c, a, b) = then-both (readFrom n [] next (linesOf (drop next text))) _ k e in
+        (c, s .is ∙ a, unserved b)
+      where
+        unserved : {a b : ReadCounts} → _≡_ {A = Outcome ReadCounts} (served a) (served b) → a ≡ b
+        unserved e = cc
+
+-- the call owes this where its outcome and the buffer that goes with it are known
+pub read-told : (text out : List ℕ) (r o : Outcome ReadCounts) (last : List ℕ) → r ≡ o → readOutcome text (length out) ≡ o
+    → last ≡ written o (wordsOf (gatesRead (reading text))) out → Yields r last (readOutcome text (length out)) (readBuffer text out)
+unfolding readBuffer
+read-told text out r o last e f l = told (wordsOf (gatesRead (reading text))) out r last (readOutcome text (length out)) o e f l

@@ -1,0 +1,42 @@
+-- `files::file::scan::line` meets its contract. Assumes nothing.
+use mathlib.Core.Path.{sym, _∙_}
+use Rattle.circuit.proofs.Outcome.{why}
+use Rattle.files.proofs.file.scan.Laws.{line-wrong, line-outside, line-good}
+use borrow.Author.Needs.{needs}
+use Rattle.files.proofs.file.scan.line.Statement.{statement}
+use Rattle.files.proofs.file.scan.line.Tie as tie
+
+number-requires : tie.Need-number-requires
+number-requires c κs = search needs
+
+wrong-form-requires : tie.Need-wrong-form-requires
+wrong-form-requires c κs = search needs
+
+returns : tie.Need-returns
+returns c =
+    let n = c .before .before in
+    why (c .wrong-form .ensures) ∙ sym (line-wrong _ _ _ (sym (n .number .ensures) ∙ c .before .if1 .taken))
+
+line-outside-requires : tie.Need-line-outside-requires
+line-outside-requires c κs = search needs
+
+returns-2 : tie.Need-returns-2
+returns-2 c =
+    let e = c .before .before in
+    why (c .line-outside .ensures) ∙ sym (line-outside _ _ _ _ (sym (e .before .number .ensures)) (e .if1 .left) (c .before .if2 .taken))
+
+returns-3 : tie.Need-returns-3
+returns-3 c =
+    let e = c .before in
+    sym (line-good _ _ _ _ (sym (e .before .number .ensures)) (e .if1 .left) (c .if2 .left))
+
+pub line-spec : {M : Type 1} → statement M
+line-spec =
+    tie.close
+    (tie.spec
+    number-requires
+    wrong-form-requires
+    returns
+    line-outside-requires
+    returns-2
+    returns-3)

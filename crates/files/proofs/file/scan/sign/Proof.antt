@@ -1,0 +1,16 @@
+-- `files::file::scan::sign` meets its contract. Assumes nothing.
+use mathlib.Core.Path.{sym, ap}
+use mathlib.Core.Bool.{Bool, _||_}
+use lib.Dec.{eqb}
+use borrow.Author.Tests.{eq-eqb, ne-eqb}
+use Rattle.files.proofs.file.scan.sign.Statement.{statement}
+use Rattle.files.proofs.file.scan.sign.Tie as tie
+
+returns : tie.Need-returns
+returns c = let b = c .before .args .b in sym (ap (λ (t : Bool). t || eqb b 45) (eq-eqb b 43 (c .if1 .taken)))
+
+returns-2 : tie.Need-returns-2
+returns-2 c = let b = c .before .args .b in sym (ap (λ (t : Bool). t || eqb b 45) (ne-eqb b 43 (c .if1 .left)))
+
+pub sign-spec : {M : Type 1} → statement M
+sign-spec = tie.close (tie.spec returns returns-2)

@@ -1,0 +1,16 @@
+-- `files::laws` meets its contract: the record of the laws. Assumes nothing.
+use Rattle.files.proofs.file.Laws.{reader, read-served, served-read, read-refused, refused-read, refuses-all}
+use Rattle.files.proofs.laws.Statement.{statement}
+use Rattle.files.proofs.laws.Tie as tie
+
+returns : tie.Need-returns
+returns c =
+    record {
+      reader = reader;
+      read-served = λ text room c. (read-served text room c, served-read text room c);
+      read-refused = λ text room number place. (read-refused text room number place, refused-read text room number place);
+      refuses-all = refuses-all;
+    }
+
+pub laws-spec : {M : Type 1} → statement M
+laws-spec = tie.close (tie.spec returns)

@@ -1,0 +1,5 @@
+pub mod Text
+pub mod File
+pub mod FileLaws
+pub mod Scan
+pub mod Put

@@ -1,0 +1,104 @@
+-- For the contracts of the functions that read at a position of a text: what stands there, and their answers as outcomes.
+use mathlib.Core.Bool.{Bool, true, false, not, cond, _&&_, _||_}
+use mathlib.Core.List.{List, [], _∷_}
+use Prim.Native.Nat.{ℕ, _+_, _^_}
+use lib.Dec.{eqb, leb}
+use lib.Bits.{bitOr}
+use Rattle.circuit.specs.declared.gate.Gate.{Gate}
+use Rattle.files.specs.declared.file.scan.Seen.{Seen}
+use Rattle.files.specs.declared.file.scan.LineAnswer.{LineAnswer}
+use Rattle.files.specs.declared.file.scan.LineAnswer.the-variants as line
+use Rattle.files.specs.declared.file.scan.ControlAnswer.{ControlAnswer}
+use Rattle.files.specs.declared.file.scan.ControlAnswer.the-variants as control
+use Rattle.files.specs.declared.file.scan.GateAnswer.{GateAnswer}
+use Rattle.files.specs.declared.file.scan.GateAnswer.the-variants as gate
+use Rattle.files.specs.declared.file.scan.HeaderAnswer.{HeaderAnswer}
+use Rattle.files.specs.declared.file.scan.HeaderAnswer.the-variants as header
+use Rattle.circuit.specs.Gate.{Control}
+use Rattle.circuit.specs.Outcome.{Outcome, served, refused, andThen}
+use Rattle.files.specs.Text.{tab, lineFeed}
+use Rattle.files.specs.File.{Line, firstLine, linesOf, size, fieldsOf, controlsFrom, closedGate, gateOn, headerOn}
+
+-- a byte that ends a field
+abbrev pub isStop : ℕ → Bool
+isStop b = eqb b tab || eqb b lineFeed
+
+-- the field at the start of a text: up to a tab, an LF or the end
+unfoldable pub fieldAt : List ℕ → List ℕ
+fieldAt [] = []
+fieldAt (b ∷ bs) = cond (isStop b) [] (b ∷ fieldAt bs)
+
+-- the line at the start of a text
+abbrev pub lineAt : List ℕ → Line
+lineAt r = firstLine (linesOf r)
+
+-- whether a text starts with these bytes
+unfoldable pub startsWith : List ℕ → List ℕ → Bool
+startsWith [] r = true
+startsWith (w ∷ ws) [] = false
+startsWith (w ∷ ws) (b ∷ r) = eqb b w && startsWith ws r
+
+-- a number that was read, and 100 where there is none
+abbrev pub orHundred : Outcome ℕ → ℕ
+orHundred (served k) = k
+orHundred (refused number place) = 100
+
+-- the digits of a number below 100
+abbrev pub width : ℕ → ℕ
+width k = cond (leb 10 k) 2 1
+
+-- what a gate line's controls come to, one control later
+abbrev pub added : ℕ → Seen → ℕ → Bool → Seen
+added t s k p =
+    record {
+      positive = bitOr (s .positive) (cond p (2 ^ k) 0);
+      negative = bitOr (s .negative) (cond (not p) (2 ^ k) 0);
+      low = k + 1;
+      rising = s .rising && leb (s .low) k;
+      apart = s .apart && not (eqb k t);
+    }
+
+-- a gate and the position after its line
+pub record GateNext : Type 0 where
+  pub gate : Gate
+  pub next : ℕ
+
+-- a line count and the position after its line
+pub record HeaderNext : Type 0 where
+  pub lines : ℕ
+  pub next : ℕ
+
+-- the fields after the first
+abbrev pub laterFields : List (List ℕ) → List (List ℕ)
+laterFields [] = []
+laterFields (f ∷ fs) = fs
+
+-- the header of a text
+abbrev pub headerNext : List ℕ → Outcome HeaderNext
+headerNext r = andThen (headerOn (lineAt r)) (λ n. served (record { lines = n; next = size (lineAt r) }))
+
+-- the gate of the line at a position, with index i
+abbrev pub gateNext : ℕ → ℕ → ℕ → List ℕ → Outcome GateNext
+gateNext n i at r = andThen (gateOn n i (lineAt r)) (λ g. served (record { gate = g; next = at + size (lineAt r) }))
+
+-- the same after its target, t
+abbrev pub controlsNext : ℕ → ℕ → ℕ → ℕ → List ℕ → Outcome GateNext
+controlsNext n i t at r =
+    andThen (andThen (controlsFrom n i [] (laterFields (fieldsOf (lineAt r .bytes)))) (closedGate i (lineAt r .ended) t))
+    (λ g. served (record { gate = g; next = at + size (lineAt r) }))
+
+abbrev pub ofLine : LineAnswer → Outcome ℕ
+ofLine (line.Line k) = served k
+ofLine (line.Refused r) = refused (r .number) (r .place)
+
+abbrev pub ofControl : ControlAnswer → Outcome Control
+ofControl (control.Control k p) = served (record { line = k; positive = p })
+ofControl (control.Refused r) = refused (r .number) (r .place)
+
+abbrev pub ofGate : GateAnswer → Outcome GateNext
+ofGate (gate.Gate g next) = served (record { gate = g; next = next })
+ofGate (gate.Refused r) = refused (r .number) (r .place)
+
+abbrev pub ofHeader : HeaderAnswer → Outcome HeaderNext
+ofHeader (header.Lines n next) = served (record { lines = n; next = next })
+ofHeader (header.Refused r) = refused (r .number) (r .place)

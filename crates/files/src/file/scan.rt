@@ -1,0 +1,337 @@
+// Reading at a position of a text: a byte, a field, a line.
+
+use circuit::gate::Gate;
+use circuit::refusal::Refusal;
+ghost use mathlib.Core.Path.{_≡_};
+ghost use mathlib.Core.Bool.{true, false, not, cond, _&&_, _||_};
+ghost use mathlib.Core.List.{[]};
+ghost use Prim.Native.Nat.{_+_, _^_, _<_, _≤_};
+ghost use lib.Dec.{eqb, leb};
+ghost use lib.Bits.{bitOr};
+ghost use lib.ListN.{length, drop, getD};
+ghost use Rattle.circuit.specs.Gate.{maxLines};
+ghost use Rattle.files.specs.Text.{plus, minus};
+ghost use Rattle.files.specs.File.{isDigit, numberOf, lineOf, controlOf, isEnd};
+ghost use Rattle.files.specs.Scan.{isStop, fieldAt, lineAt, startsWith, orHundred, width, added, headerNext, gateNext, controlsNext, ofLine, ofControl, ofGate, ofHeader};
+
+const TAB: u64 = 9;
+
+const LINE_FEED: u64 = 10;
+
+// What no number field has.
+const NO_NUMBER: u64 = 100;
+
+// A line of the cascade, or a refusal.
+pub enum LineAnswer {
+    Line(u64),
+    Refused(Refusal),
+}
+
+// A control, or a refusal.
+pub enum ControlAnswer {
+    Control { line: u64, positive: bool },
+    Refused(Refusal),
+}
+
+// A gate and the position after its line, or a refusal.
+pub enum GateAnswer {
+    Gate { gate: Gate, next: usize },
+    Refused(Refusal),
+}
+
+// A line count and the position after its line, or a refusal.
+pub enum HeaderAnswer {
+    Lines { lines: u64, next: usize },
+    Refused(Refusal),
+}
+
+// What the controls of a gate line come to: their masks, the lowest line that may follow, whether they rise, and whether the target is apart.
+pub struct Seen {
+    pub positive: u64,
+    pub negative: u64,
+    pub low: u64,
+    pub rising: bool,
+    pub apart: bool,
+}
+
+fn wide(b: u8) -> u64
+    ensures { λ r. ⌜ r ≡ b ⌝ }
+{
+    b as u64
+}
+
+// The byte at a position; LF past the end.
+pub(crate) fn byte(text: &[u8], at: usize) -> u64
+    ensures { λ r. ⌜ r ≡ getD (now (text .entry)) at 10 ⌝ }
+{
+    if at < text.len() {
+        return wide(text[at]);
+    }
+    LINE_FEED
+}
+
+// Whether the byte is a digit.
+fn digit(b: u64) -> bool
+    ensures { λ r. ⌜ r ≡ isDigit b ⌝ }
+{
+    if b < 48 {
+        return false;
+    }
+    b <= 57
+}
+
+// Whether the byte ends a field.
+fn stop(b: u64) -> bool
+    ensures { λ r. ⌜ r ≡ isStop b ⌝ }
+{
+    if b == TAB {
+        return true;
+    }
+    b == LINE_FEED
+}
+
+// Whether the byte is a control's sign.
+fn sign(b: u64) -> bool
+    ensures { λ r. ⌜ r ≡ (eqb b plus || eqb b minus) ⌝ }
+{
+    if b == 43 {
+        return true;
+    }
+    b == 45
+}
+
+// How many digits a number below 100 has.
+pub(crate) fn digits(k: u64) -> usize
+    ensures { λ r. ⌜ r ≡ width k ⌝ }
+{
+    if 10 <= k {
+        return 2;
+    }
+    1
+}
+
+// The number in the field at a position; 100 where it is none.
+fn number(text: &[u8], at: usize) -> u64
+    requires { ⌜ at ≤ length (now text) ⌝ }
+    ensures { λ r. ⌜ r ≡ orHundred (numberOf 0 (fieldAt (drop at (now (text .entry))))) ⌝ }
+{
+    let a = byte(text, at);
+    if !digit(a) {
+        return NO_NUMBER;
+    }
+    let b = byte(text, at + 1);
+    if stop(b) {
+        return a - 48;
+    }
+    if a == 48 {
+        return NO_NUMBER;
+    }
+    if !digit(b) {
+        return NO_NUMBER;
+    }
+    if !stop(byte(text, at + 2)) {
+        return NO_NUMBER;
+    }
+    10 * (a - 48) + (b - 48)
+}
+
+// Whether the text at a position starts with the word.
+fn starts(text: &[u8], at: usize, word: &[u8]) -> bool
+    requires { ⌜ at ≤ length (now text) ⌝ }
+    ensures { λ r. ⌜ r ≡ startsWith (now (word .entry)) (drop at (now (text .entry))) ⌝ }
+{
+    if text.len() - at < word.len() {
+        return false;
+    }
+    let mut i = 0;
+    while i < word.len() {
+        if text[at + i] != word[i] {
+            return false;
+        }
+        i += 1;
+    }
+    true
+}
+
+// The target or control line in the field at a position; else 1 or 3.
+fn line(text: &[u8], at: usize, n: u64, place: u64) -> LineAnswer
+    requires { ⌜ at ≤ length (now text) ⌝ }
+    ensures { λ r. ⌜ ofLine r ≡ lineOf n place (fieldAt (drop at (now (text .entry)))) ⌝ }
+{
+    let k = number(text, at);
+    if k == NO_NUMBER {
+        return LineAnswer::Refused(Refusal::wrong_form(place));
+    }
+    if n <= k {
+        return LineAnswer::Refused(Refusal::line_outside(place));
+    }
+    LineAnswer::Line(k)
+}
+
+// The control in the field at a position; else 1 or 3.
+fn control(text: &[u8], at: usize, n: u64, place: u64) -> ControlAnswer
+    requires { ⌜ at ≤ length (now text) ⌝ }
+    ensures { λ r. ⌜ ofControl r ≡ controlOf n place (fieldAt (drop at (now (text .entry)))) ⌝ }
+{
+    let s = byte(text, at);
+    if !sign(s) {
+        return ControlAnswer::Refused(Refusal::wrong_form(place));
+    }
+    match line(text, at + 1, n, place) {
+        LineAnswer::Refused(why) => ControlAnswer::Refused(why),
+        LineAnswer::Line(k) => ControlAnswer::Control {
+            line: k,
+            positive: s == 43,
+        },
+    }
+}
+
+// The mask with line k, where it is to be set.
+fn joined(mask: u64, k: u64, set: bool) -> u64
+    requires { ⌜ k < maxLines ⌝ }
+    ensures { λ r. ⌜ r ≡ bitOr mask (cond set (2 ^ k) 0) ⌝ }
+{
+    if set {
+        return mask | (1 << k);
+    }
+    mask
+}
+
+// Whether lines that rose still rise with line k.
+fn rises(rising: bool, low: u64, k: u64) -> bool
+    ensures { λ r. ⌜ r ≡ (rising && leb low k) ⌝ }
+{
+    if rising {
+        return low <= k;
+    }
+    false
+}
+
+// Whether the target, apart so far, is apart from line k.
+fn avoids(apart: bool, target: u64, k: u64) -> bool
+    ensures { λ r. ⌜ r ≡ (apart && not (eqb k target)) ⌝ }
+{
+    if apart {
+        return k != target;
+    }
+    false
+}
+
+impl Seen {
+    // No control yet.
+    fn none() -> Seen
+        ensures { λ r. ⌜ r ≡ record { positive = 0; negative = 0; low = 0; rising = true; apart = true } ⌝ }
+    {
+        Seen {
+            positive: 0,
+            negative: 0,
+            low: 0,
+            rising: true,
+            apart: true,
+        }
+    }
+
+    // One control more, on line k.
+    fn add(self, target: u64, k: u64, positive: bool) -> Seen
+        requires { ⌜ k < maxLines ⌝ }
+        ensures { λ r. ⌜ r ≡ added target self k positive ⌝ }
+    {
+        Seen {
+            positive: joined(self.positive, k, positive),
+            negative: joined(self.negative, k, !positive),
+            low: k + 1,
+            rising: rises(self.rising, self.low, k),
+            apart: avoids(self.apart, target, k),
+        }
+    }
+}
+
+// The gate of a line with this target, whose controls start at a position, and the position after the line; else 1, 3, 4 or 5.
+fn controls(text: &[u8], first: usize, n: u64, place: u64, target: u64) -> GateAnswer
+    requires { ⌜ (first ≤ length (now text)) × (n ≤ maxLines) × (fieldAt (drop first (now text)) ≡ []) ⌝ }
+    ensures { λ r. ⌜ ofGate r ≡ controlsNext n place target first (drop first (now (text .entry))) ⌝ }
+{
+    let mut at = first;
+    let mut seen = Seen::none();
+    while byte(text, at) == TAB {
+        match control(text, at + 1, n, place) {
+            ControlAnswer::Refused(why) => {
+                return GateAnswer::Refused(why);
+            }
+            ControlAnswer::Control { line, positive } => {
+                seen = seen.add(target, line, positive);
+                at += 2 + digits(line);
+            }
+        }
+    }
+    if text.len() <= at {
+        return GateAnswer::Refused(Refusal::wrong_form(place));
+    }
+    if !seen.apart {
+        return GateAnswer::Refused(Refusal::target_controlled(place));
+    }
+    if !seen.rising {
+        return GateAnswer::Refused(Refusal::not_rising(place));
+    }
+    GateAnswer::Gate {
+        gate: Gate {
+            positive: seen.positive,
+            negative: seen.negative,
+            target,
+        },
+        next: at + 1,
+    }
+}
+
+// The gate of the line at a position, and the position after it; else 6, 1, 3, 4 or 5.
+pub(crate) fn gate_line(text: &[u8], start: usize, n: u64, place: u64) -> GateAnswer
+    requires { ⌜ (start ≤ length (now text)) × (n ≤ maxLines) ⌝ }
+    ensures { λ r. ⌜ ofGate r ≡ gateNext n place start (drop start (now (text .entry))) ⌝ }
+{
+    if !starts(text, start, b"g\t") {
+        return GateAnswer::Refused(Refusal::wrong_form(place));
+    }
+    if (Gate::MAX_GATES as u64) < place {
+        return GateAnswer::Refused(Refusal::too_many_gates(place));
+    }
+    let at = start + 2;
+    match line(text, at, n, place) {
+        LineAnswer::Refused(why) => GateAnswer::Refused(why),
+        LineAnswer::Line(target) => controls(text, at + digits(target), n, place, target),
+    }
+}
+
+// Whether the line at a position is `end` with its LF.
+pub(crate) fn ends(text: &[u8], at: usize) -> bool
+    requires { ⌜ at ≤ length (now text) ⌝ }
+    ensures { λ r. ⌜ r ≡ isEnd (lineAt (drop at (now (text .entry)))) ⌝ }
+{
+    starts(text, at, b"end\n")
+}
+
+// The line count of a text and the position after its first line; else 1 or 2.
+pub(crate) fn header(text: &[u8]) -> HeaderAnswer
+    ensures { λ r. ⌜ ofHeader r ≡ headerNext (now (text .entry)) ⌝ }
+{
+    if !starts(text, 0, b"lines\t") {
+        return HeaderAnswer::Refused(Refusal::wrong_form(0));
+    }
+    let n = number(text, 6);
+    if n == NO_NUMBER {
+        return HeaderAnswer::Refused(Refusal::wrong_form(0));
+    }
+    if !circuit::words::line_count_good(n) {
+        return HeaderAnswer::Refused(Refusal::bad_line_count());
+    }
+    let at = 6 + digits(n);
+    if text.len() <= at {
+        return HeaderAnswer::Refused(Refusal::wrong_form(0));
+    }
+    if text[at] != 10 {
+        return HeaderAnswer::Refused(Refusal::wrong_form(0));
+    }
+    HeaderAnswer::Lines {
+        lines: n,
+        next: at + 1,
+    }
+}
