@@ -96,7 +96,10 @@ impl Gate {
         if (positive & negative) != 0 {
             return false;
         }
-        clear(positive | negative, target)
+        if Gate::MAX_LINES < n {
+            return clear(positive | negative, target);
+        }
+        ((positive | negative) & line(target)) == 0
     }
 
     // Whether every positive control is 1 and every negative one 0.
