@@ -17,6 +17,7 @@ pub mod Compare
 pub mod Faults
 pub mod FaultLaws
 pub mod ClauseLaws
+pub mod EqualityLaws
 pub mod ReduceLaws
 pub mod StandIns
 pub mod Rows
