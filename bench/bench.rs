@@ -4,8 +4,10 @@
 #[allow(dead_code)]
 #[path = "../tests/capi.rs"]
 mod capi;
+mod emit;
 mod faults;
 mod plain;
+mod plain_emit;
 mod plain_file;
 #[allow(dead_code)]
 #[path = "../tests/random.rs"]
@@ -291,6 +293,7 @@ fn main() {
     }
     highest = highest.max(steps::highest());
     highest = highest.max(faults::highest());
+    highest = highest.max(emit::highest());
     println!("bench: the highest ratio is {highest:.2}, the limit {LIMIT}");
     let mut file_highest: f64 = 0.0;
     for work in &works {

@@ -100,7 +100,7 @@ bit-pow (suc t) (suc k) = bit-suc (2 ^ suc t) k ∙ ap (λ (n : ℕ). bit n k) (
 eqb-one : (x y : ℕ) → x < 2 → y < 2 → eqb x 1 ≡ eqb y 1 → x ≡ y
 eqb-one = two² (λ (x y : ℕ). eqb x 1 ≡ eqb y 1 → x ≡ y) (λ e. refl) (λ e. cc) (λ e. cc) (λ e. refl)
 
-half-lt : (m x : ℕ) → x < 2 ^ suc m → x / 2 < 2 ^ m
+pub half-lt : (m x : ℕ) → x < 2 ^ suc m → x / 2 < 2 ^ m
 half-lt m x h = div-lt-iff-lt-mul (zero-lt-suc 1) .1 (rw pow-suc at h)
 
 -- two numbers of m digits with the same digits

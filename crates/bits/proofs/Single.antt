@@ -39,14 +39,14 @@ pow-single (suc k) =
 
 -- the digits that x and the number before it share
 module _ (x : ℕ) (some : 0 < x) where
-  odd-lower : x % 2 ≡ 1 → bitAnd x (x - 1) ≡ x / 2 * 2
+  pub odd-lower : x % 2 ≡ 1 → bitAnd x (x - 1) ≡ x / 2 * 2
   odd-lower o =
       let h : (x - 1) / 2 ≡ x / 2 = omega arith in
       let m : min (x % 2) ((x - 1) % 2) ≡ 0 = omega arith in
       let r : x / 2 * 2 + 0 ≡ x / 2 * 2 = omega arith in
       and-step x (x - 1) ∙ ap₂ (λ (y d : ℕ). bitAnd (x / 2) y * 2 + d) h m ∙ ap (λ (y : ℕ). y * 2 + 0) (and-self (x / 2)) ∙ r
 
-  even-lower : x % 2 ≡ 0 → bitAnd x (x - 1) ≡ bitAnd (x / 2) (x / 2 - 1) * 2
+  pub even-lower : x % 2 ≡ 0 → bitAnd x (x - 1) ≡ bitAnd (x / 2) (x / 2 - 1) * 2
   even-lower o =
       let h : (x - 1) / 2 ≡ x / 2 - 1 = omega arith in
       let m : min (x % 2) ((x - 1) % 2) ≡ 0 = omega arith in

@@ -2,10 +2,11 @@
 use mathlib.Core.Path.{_≡_}
 use mathlib.Core.Logic.{_↔_}
 use mathlib.Core.Bool.{false, _&&_, _||_, xor}
-use Prim.Native.Nat.{ℕ, _+_, _^_, _<_, _≤_}
+use mathlib.Core.List.{_∷_}
+use Prim.Native.Nat.{ℕ, _+_, _-_, _^_, _<_, _≤_}
 use lib.Dec.{eqb}
 use lib.Bits.{bitAnd, bitOr, bitXor}
-use lib.Count.{ones}
+use lib.Count.{ones, trailingZeros}
 use lib.ListN.{length}
 use Rattle.bits.specs.Digits.{bit, linesIn}
 
@@ -23,3 +24,5 @@ pub record DigitLaws : Type 0 where
   -- the number of set digits is that of the lines; two masks that share no line have as many as both together
   pub ones-lines : (n x : ℕ) → x < 2 ^ n → ones x ≡ length (linesIn x n)
   pub ones-both : (a b : ℕ) → bitAnd a b ≡ 0 → ones (bitOr a b) ≡ ones a + ones b
+  -- the lines of a mask are its lowest one, and then those of the mask without it
+  pub lines-lowest : (m n x : ℕ) → n ≤ m → 0 < x → x < 2 ^ n → linesIn x n ≡ trailingZeros m x ∷ linesIn (bitAnd x (x - 1)) n

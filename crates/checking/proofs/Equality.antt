@@ -30,7 +30,7 @@ use Rattle.checking.specs.Satisfaction.{Satisfying, spelled, Tells}
 use Rattle.checking.specs.Sizes.{totals, sizesOf, sizesOutcome}
 use Rattle.checking.specs.ClauseLaws.{ClauseLaws}
 use Rattle.checking.specs.Emit.{emitOutcome, emitBuffer}
-use Rattle.checking.specs.Equality.{Call, stepOn, reduceOn, stepLeaves, reduceLeaves, after, afterAll, Emitted, Claim, Equality}
+use Rattle.checking.specs.Equality.{Call, stepOn, reduceOn, stepLeaves, reduceLeaves, after, afterAll, Emitted, EqualityOf, Equality}
 use Rattle.checking.proofs.miter.Laws.{miter-laws}
 use Rattle.checking.proofs.step.Laws.{step-laws}
 use Rattle.checking.proofs.reduce.Relation.{reduce-laws}
@@ -110,6 +110,30 @@ tells-same n variables cs f g p q e t =
 
 -- ---- the emission
 
+-- an answer and a buffer that are those of the clause list of the gates that stand
+pub record Lists (n : ℕ) (gs : List Gate) (out : List ℤ) (answer : Outcome Totals) (buffer : List ℤ) : Type 0 where
+  pub counts : answer ≡ served (totals (variablesOf n gs) (length (clausesOf n gs)) (length (stored (clausesOf n gs))))
+  pub words : buffer ≡ over (stored (clausesOf n gs)) out
+
+-- of words of a cascade, and a buffer that is long enough
+abbrev pub ListedBy : (ℕ → List ℕ → ℕ → Outcome Totals) → (ℕ → List ℕ → List ℤ → List ℤ) → Type 0
+ListedBy emits leaves =
+    (n : ℕ) (ws : List ℕ) (k : ℕ) (out : List ℤ) → Cascade n ws maxMiterGates k → length (stored (clausesOf n (gatesOf ws))) ≤ length out
+    → Lists n (gatesOf ws) out (emits n ws (length out)) (leaves n ws out)
+
+listed : ListedBy emitOutcome emitBuffer
+unfolding emitOutcome emitBuffer sizesOutcome
+listed n ws k out c room =
+    let gs = gatesOf ws in
+    let sums = clause-laws .sizes-list n gs (c .lines-high) (c .gates) in
+    let w : sizesOf n gs .words ≡ length (stored (clausesOf n gs)) = ap (λ (t : Totals). t .words) sums in
+    let e : emitOutcome n ws (length out) ≡ served (sizesOf n gs) =
+    then-served _ _ (sizesOf n gs) (then-served _ _ k (served-check n ws maxMiterGates k c)) ∙ demand-met _ _ _ _ (le-leb (sizesOf n gs .words) (length out) (omega arith)) in
+    record {
+      counts = e ∙ ap served sums;
+      words = ap (λ (o : Outcome Totals). written o (stored (clausesOf n gs)) out) e;
+    }
+
 module _ (n : ℕ) (a b ws : List ℕ) (out : List ℤ) (g : Standing n (miterGates (gatesOf a) (gatesOf b)) ws) where
   abbrev gs : List Gate
   gs = gatesOf ws
@@ -117,60 +141,43 @@ module _ (n : ℕ) (a b ws : List ℕ) (out : List ℤ) (g : Standing n (miterGa
   abbrev cs : List Clause
   cs = clausesOf n gs
 
-  sums : sizesOf n gs ≡ totals (variablesOf n gs) (length cs) (length (stored cs))
-  sums = clause-laws .sizes-list n gs (g .cascade .lines-high) (g .cascade .gates)
+  same-states : (x : ℕ) → (run gs x ≡ x) ↔ (run (gatesOf a) x ≡ run (gatesOf b) x)
+  same-states x =
+      let m = miter-laws .identity (gatesOf a) (gatesOf b) x in
+      ((λ e. m .0 (sym (g .same x) ∙ e)), (λ e. g .same x ∙ m .1 e))
 
-  served-sizes : sizesOutcome n ws ≡ served (sizesOf n gs)
-  unfolding sizesOutcome
-  served-sizes = then-served _ _ (g .count) (served-check n ws maxMiterGates (g .count) (g .cascade))
-
-  module _ (room : length (stored cs) ≤ length out) where
-    served-emit : emitOutcome n ws (length out) ≡ served (sizesOf n gs)
-    unfolding emitOutcome
-    served-emit =
-        let w : sizesOf n gs .words ≡ length (stored cs) = ap (λ (t : Totals). t .words) sums in
-        then-served _ _ (sizesOf n gs) served-sizes ∙ demand-met _ _ _ _ (le-leb (sizesOf n gs .words) (length out) (omega arith))
-
-    left : emitBuffer n ws out ≡ stored cs ++ drop (length (stored cs)) out
-    unfolding emitBuffer
-    left = ap (λ (o : Outcome Totals). written o (stored cs) out) served-emit
-
-    same-states : (x : ℕ) → (run gs x ≡ x) ↔ (run (gatesOf a) x ≡ run (gatesOf b) x)
-    same-states x =
-        let m = miter-laws .identity (gatesOf a) (gatesOf b) x in
-        ((λ e. m .0 (sym (g .same x) ∙ e)), (λ e. g .same x ∙ m .1 e))
-
-    emitted : Emitted n a b (emitOutcome n ws (length out)) (emitBuffer n ws out)
-    emitted =
-        record {
-          totals = sizesOf n gs;
-          is-served = served-emit;
-          clauses = cs;
-          are-read =
-              ap₂ (λ (k : ℕ) (l : List ℤ). clausesIn (take k l)) (ap (λ (t : Totals). t .words) sums) left
-              ∙ clause-laws .read-back cs (drop (length (stored cs)) out);
-          counted = sym (ap (λ (t : Totals). t .clauses) sums);
-          tells =
-              subst (λ (v : ℕ). Tells n v cs (run (gatesOf a)) (run (gatesOf b))) (sym (ap (λ (t : Totals). t .variables) sums))
-              (tells-same n (variablesOf n gs) cs (run gs) (λ x. x) (run (gatesOf a)) (run (gatesOf b)) same-states
-              (clause-laws .lists-tell n gs (g .cascade .lines-high) (g .cascade .gates)));
-        }
+  emitted : (answer : Outcome Totals) (buffer : List ℤ) → Lists n gs out answer buffer → Emitted n a b answer buffer
+  emitted answer buffer l =
+      record {
+        totals = totals (variablesOf n gs) (length cs) (length (stored cs));
+        is-served = l .counts;
+        clauses = cs;
+        are-read = ap (λ (ws : List ℤ). clausesIn (take (length (stored cs)) ws)) (l .words) ∙ clause-laws .read-back cs (drop (length (stored cs)) out);
+        counted = refl;
+        tells =
+            tells-same n (variablesOf n gs) cs (run gs) (λ x. x) (run (gatesOf a)) (run (gatesOf b)) same-states
+            (clause-laws .lists-tell n gs (g .cascade .lines-high) (g .cascade .gates));
+      }
 
 -- ---- the whole claim
 
-pub equality : Equality
-equality n a b i j c d room fits calls out =
+pub claimed : (emits : ℕ → List ℕ → ℕ → Outcome Totals) (leaves : ℕ → List ℕ → List ℤ → List ℤ) → ListedBy emits leaves → EqualityOf emits leaves
+claimed emits leaves by n a b i j c d room fits calls out =
     let k : ℕ = i + j in
     let s : miterOutcome n a n b (length room) ≡ served k =
     miter-laws .miter-served n a n b (length room) k .1 (record { first = i; second = j; first-good = c; second-good = d; lines = refl; fits = fits; count = refl }) in
     let m = miter-laws .miter-stands n a n b room k s in
     let first : Standing n (miterGates (gatesOf a) (gatesOf b)) (take (3 * k) (miterBuffer n a n b room)) =
     record { count = k; cascade = m .cascade; same = λ x. ap (λ (l : List Gate). run l x) (m .gates) } in
-    let last = after-calls n (miterGates (gatesOf a) (gatesOf b)) calls (take (3 * k) (miterBuffer n a n b room)) first in
+    let ws : List ℕ = afterAll calls (take (3 * k) (miterBuffer n a n b room)) in
+    let last : Standing n (miterGates (gatesOf a) (gatesOf b)) ws = after-calls n (miterGates (gatesOf a) (gatesOf b)) calls (take (3 * k) (miterBuffer n a n b room)) first in
     record {
       gates = k;
       miter-served = s;
-      standing = afterAll calls (take (3 * k) (miterBuffer n a n b room));
+      standing = ws;
       stands = refl;
-      emission = λ h. emitted n a b (afterAll calls (take (3 * k) (miterBuffer n a n b room))) out last h;
+      emission = λ h. emitted n a b ws out last (emits n ws (length out)) (leaves n ws out) (by n ws (last .count) out (last .cascade) h);
     }
+
+pub equality : Equality
+equality = claimed emitOutcome emitBuffer listed

@@ -2,3 +2,4 @@
 pub mod StandIns
 pub mod Rows
 pub mod Equality
+pub mod EqualityLaws

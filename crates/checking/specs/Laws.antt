@@ -4,7 +4,7 @@ use Rattle.checking.specs.StepLaws.{StepLaws}
 use Rattle.checking.specs.ReduceLaws.{ReduceLaws}
 use Rattle.checking.specs.StandIns.{StandInLaws}
 use Rattle.checking.specs.ClauseLaws.{ClauseLaws}
-use Rattle.checking.specs.Equality.{Equality}
+use Rattle.checking.specs.EqualityLaws.{EqualityLaws}
 use Rattle.checking.specs.Rows.{RowLaws}
 
 pub record CheckingLaws : Type 0 where
@@ -14,5 +14,5 @@ pub record CheckingLaws : Type 0 where
   pub stand-ins : StandInLaws
   pub clauses : ClauseLaws
   -- demand 3
-  pub equality : Equality
+  pub equality : EqualityLaws
   pub rows : RowLaws

@@ -14,6 +14,7 @@ pub mod Emit
 pub mod Equality
 pub mod Check
 pub mod ClauseLaws
+pub mod EqualityLaws
 pub mod ReduceLaws
 pub mod StandIns
 pub mod Rows

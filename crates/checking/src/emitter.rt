@@ -4,15 +4,15 @@ use circuit::gate::Gate;
 ghost use mathlib.Core.Path.{_≡_};
 ghost use mathlib.Core.List.{[], _∷_};
 ghost use Prim.Native.Nat.{_+_, _*_, _≤_, _<_};
+ghost use lib.Count.{trailingZeros};
 ghost use lib.IntN.{pos};
 ghost use lib.ListN.{length};
 ghost use Rattle.bits.specs.Digits.{bit};
 ghost use Rattle.bits.specs.Lists.{over};
 ghost use Rattle.circuit.specs.Gate.{maxLines};
 ghost use Rattle.circuit.specs.Outcome.{Yields};
-ghost use Rattle.checking.specs.Clauses.{implied};
-ghost use Rattle.checking.specs.Stored.{stored, wordLimit};
-ghost use Rattle.checking.specs.Emitter.{literalWord, controlsIn, literalsIn, Currents, Many, manyStored, gateStored, Ready};
+ghost use Rattle.checking.specs.Stored.{wordLimit};
+ghost use Rattle.checking.specs.Emitter.{literalWord, literalsIn, controlsStored, Currents, Lines, Many, manyStored, gateStored, Ready};
 
 // The number as a word.
 pub(crate) fn number(x: u64) -> i16
@@ -40,6 +40,13 @@ fn has(mask: u64, k: u64) -> bool
     ensures { λ r. ⌜ r ≡ bit mask k ⌝ }
 {
     (mask >> k) % 2 == 1
+}
+
+// The lowest line of the mask; 64 where it has none.
+fn lowest(mask: u64) -> u64
+    ensures { λ r. ⌜ r ≡ trailingZeros maxLines mask ⌝ }
+{
+    u64::trailing_zeros(mask) as u64
 }
 
 // Three words at the buffer's start.
@@ -75,57 +82,42 @@ pub(crate) fn put_5(out: &mut [i16], a: i16, b: i16, c: i16, d: i16, e: i16)
     out[4] = e;
 }
 
-// The literals c of the controls in two masks, by rising line, at the buffer's start.
-fn put_literals(positive: u64, negative: u64, n: u64, current: &[u64], out: &mut [i16]) -> usize
-    requires { ⌜ Currents n (now current) ⌝ }
-    requires { ⌜ length (controlsIn positive negative n) ≤ length (now out) ⌝ }
-    ensures { λ r. ⌜ Yields r (now (out .exit)) (length (controlsIn positive negative n)) (over (literalsIn (now (current .entry)) positive negative n) (now (out .entry))) ⌝ }
-{
-    let mut k = 0;
-    let mut at = 0;
-    while k < n {
-        if has(positive | negative, k) {
-            out[at] = literal(current[k as usize], has(positive, k));
-            at += 1;
-        }
-        k += 1;
-    }
-    at
-}
-
-// The clauses OR (-p, c) of the controls in two masks, by rising line, at the buffer's start.
-fn put_implied(
+// From the buffer's start, for each of k lines by rising line: its -c, in k words; then its OR (-p, c).
+fn put_controls(
     positive: u64,
-    negative: u64,
+    lines: u64,
+    k: usize,
     n: u64,
     current: &[u64],
     p: u64,
     out: &mut [i16],
-) -> usize
+)
     requires { ⌜ Currents n (now current) ⌝ }
+    requires { ⌜ Lines lines k n ⌝ }
     requires { ⌜ p < wordLimit ⌝ }
-    requires { ⌜ 4 * length (controlsIn positive negative n) ≤ length (now out) ⌝ }
-    ensures { λ r. ⌜ Yields r (now (out .exit)) (4 * length (controlsIn positive negative n)) (over (stored (implied p (literalsIn (now (current .entry)) positive negative n))) (now (out .entry))) ⌝ }
+    requires { ⌜ 5 * k ≤ length (now out) ⌝ }
+    ensures { λ _. ⌜ now (out .exit) ≡ over (controlsStored p (literalsIn (now (current .entry)) positive lines n)) (now (out .entry)) ⌝ }
 {
     let not_p = literal(p, false);
-    let mut k = 0;
-    let mut at = 0;
-    while k < n {
-        if has(positive | negative, k) {
-            let c = literal(current[k as usize], has(positive, k));
-            put_4(&mut out[at..], 0, 2, not_p, c);
-            at += 4;
-        }
-        k += 1;
+    let mut left = lines;
+    let mut i = 0;
+    while left != 0 {
+        let line = lowest(left);
+        let v = current[line as usize];
+        let sign = has(positive, line);
+        out[i] = literal(v, !sign);
+        let at = k + 4 * i;
+        put_4(&mut out[at..], 0, 2, not_p, literal(v, sign));
+        left &= left - 1;
+        i += 1;
     }
-    at
 }
 
 // The clauses of k controls, two or more, with p = used + 1 and w = used + 2: OR (p, then every -c),
 // every OR (-p, c), XOR (-w, v, p).
 fn put_many(
     positive: u64,
-    negative: u64,
+    lines: u64,
     k: u64,
     n: u64,
     current: &[u64],
@@ -134,15 +126,14 @@ fn put_many(
     out: &mut [i16],
 ) -> usize
     requires { ⌜ Currents n (now current) ⌝ }
-    requires { ⌜ Many positive negative k n used v (length (now out)) ⌝ }
-    ensures { λ r. ⌜ Yields r (now (out .exit)) (5 * k + 8) (over (manyStored (now (current .entry)) used v positive negative n) (now (out .entry))) ⌝ }
+    requires { ⌜ Many lines k n used v (length (now out)) ⌝ }
+    ensures { λ r. ⌜ Yields r (now (out .exit)) (5 * k + 8) (over (manyStored (now (current .entry)) used v positive lines n) (now (out .entry))) ⌝ }
 {
     let p = used + 1;
+    let controls = k as usize;
     put_3(out, 0, number(k + 1), literal(p, true));
-    put_literals(negative, positive, n, current, &mut out[3..]);
-    let at = 3 + k as usize;
-    put_implied(positive, negative, n, current, p, &mut out[at..]);
-    let end = at + 4 * k as usize;
+    put_controls(positive, lines, controls, n, current, p, &mut out[3..]);
+    let end = 3 + 5 * controls;
     put_5(
         &mut out[end..],
         1,
@@ -161,6 +152,7 @@ pub(crate) fn put_gate(g: Gate, n: u64, current: &[u64], used: u64, out: &mut [i
 {
     let positive = g.positive;
     let negative = g.negative;
+    let lines = positive | negative;
     let target = g.target;
     let v = current[target as usize];
     let k = g.control_count();
@@ -169,9 +161,16 @@ pub(crate) fn put_gate(g: Gate, n: u64, current: &[u64], used: u64, out: &mut [i
         return 4;
     }
     if k == 1 {
-        put_4(out, 1, 3, literal(used + 1, false), literal(v, true));
-        put_literals(positive, negative, n, current, &mut out[4..]);
+        let line = lowest(lines);
+        put_5(
+            out,
+            1,
+            3,
+            literal(used + 1, false),
+            literal(v, true),
+            literal(current[line as usize], has(positive, line)),
+        );
         return 5;
     }
-    put_many(positive, negative, k, n, current, used, v, out)
+    put_many(positive, lines, k, n, current, used, v, out)
 }

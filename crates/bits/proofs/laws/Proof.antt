@@ -1,5 +1,6 @@
 -- `bits::laws` meets its contract: the record of the laws. Assumes nothing.
 use Rattle.bits.proofs.Digits.{bit-and, bit-or, bit-xor, bit-pow, bit-sum, bits-equal, bit-above, below-of-bits, lines-ones, ones-both}
+use Rattle.bits.proofs.Lowest.{lines-lowest}
 use mathlib.Core.Path.{sym}
 use Rattle.bits.proofs.laws.Statement.{statement}
 use Rattle.bits.proofs.laws.Tie as tie
@@ -16,6 +17,7 @@ returns c =
       below-bits = λ n x. ((λ h k. bit-above n x k h), below-of-bits n x);
       ones-lines = λ n x h. sym (lines-ones n x h);
       ones-both = ones-both;
+      lines-lowest = lines-lowest;
     }
 
 pub laws-spec : {M : Type 1} → statement M

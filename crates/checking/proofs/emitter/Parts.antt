@@ -1,284 +1,225 @@
--- What the parts of the one-gate emitter write, line by line. Assumes nothing.
+-- What the parts of the one-gate emitter write. Assumes nothing.
 use mathlib.Core.Path.{_≡_, refl, sym, ap, ap₂, _∙_}
-use mathlib.Core.Bool.{Bool, true, false, _&&_, _||_, cond, true≢false, false≢true}
+use mathlib.Core.Bool.{Bool, true, false, not}
 use mathlib.Core.List.{List, [], _∷_, _++_, map, map-append, append-assoc, append-nil}
-use Prim.Native.Nat.{ℕ, zero, suc, _+_, _*_, _-_, _≤_, _<_}
-use native.Mathlib.Decide.{le-ind}
+use Prim.Native.Nat.{ℕ, suc, _+_, _*_, _-_, _^_, _≤_, _<_}
 use native.Mathlib.Numerals.{add-one}
 use native.Mathlib.Omega.{arith}
-use lib.Bits.{bitAnd, bitOr}
+use lib.Bits.{bitAnd, and-le-l}
+use lib.Count.{trailingZeros, ones-le}
 use lib.IntN.{ℤ, pos, negℤ, negℤ-negℤ}
-use lib.ListN.{length, set, take, drop, length-append, length-map, length-set, length-drop}
+use lib.ListN.{length, set, take, drop, length-append, length-map, length-set, length-drop, take-append-drop}
+use lib.Seq.{append-snoc, set-append-left, length-take-le, drop-length}
 use borrow.Rule.Slice.PartMut.{putMid}
-use Rattle.bits.specs.Digits.{bit}
+use Rattle.bits.specs.Digits.{bit, linesIn}
 use Rattle.bits.specs.Lists.{over}
-use Rattle.bits.proofs.Digits.{bit-and, bit-or, bit-none}
+use Rattle.bits.proofs.Digits.{lines-ones}
 use Rattle.bits.proofs.Lists.{over-push, over-length, rest-lent, lent-over}
-use Rattle.circuit.specs.Gate.{Control, controlAt, controlsBelow}
-use Rattle.checking.specs.Clauses.{Clause, OR, XOR, plus, minus, literalOf, implied, manyClauses}
+use Rattle.bits.proofs.Lowest.{lines-none, lines-lowest, lowest-below}
+use Rattle.circuit.specs.Gate.{maxLines}
+use Rattle.checking.specs.Clauses.{Clause, OR, XOR, plus, minus, implied, manyClauses}
 use Rattle.checking.specs.Stored.{stored}
-use Rattle.checking.specs.Emitter.{literalWord, byLine, controlsIn, literalsIn, manyStored, Many}
+use Rattle.checking.specs.Emitter.{literalWord, literalAt, literalsIn, controlsStored, byLine, manyStored, Lines, Many}
 use Rattle.checking.proofs.clauses.Reading.{stored-append}
-use Rattle.checking.proofs.clauses.Bounds.{few-controls}
 
 -- the lent rest of a buffer has the words that are left
 pub lent-long : (xs : List ℤ) (at : ℕ) → length (take (length xs - at) (drop at xs)) ≡ length xs - at
 lent-long xs at = ap length (rest-lent xs at) ∙ length-drop at xs
 
--- ---- one line more
+-- ---- the clauses OR (−p, c)
 
-abbrev control : ℕ → Bool → Control
-control k positive = record { line = k; positive = positive }
+implied-append : (p : ℕ) (xs ys : List ℤ) → implied p (xs ++ ys) ≡ implied p xs ++ implied p ys
+implied-append p [] ys = refl
+implied-append p (x ∷ xs) ys = ap (λ (l : List Clause). OR (minus p ∷ x ∷ []) ∷ l) (implied-append p xs ys)
 
-module _ (p q k : ℕ) where
-  line-by : (a b : Bool) → cond a (control k true ∷ []) (cond b (control k false ∷ []) [])
-      ≡ cond (a || b) (control k a ∷ []) []
-  line-by true b = refl
-  line-by false true = refl
-  line-by false false = refl
-
-  pub line-has : bit (bitOr p q) k ≡ true → controlsIn p q (k + 1) ≡ controlsIn p q k ++ (control k (bit p k) ∷ [])
-  unfolding controlsBelow
-  line-has e =
-      ap (controlsIn p q) (add-one k)
-      ∙ ap (λ (l : List Control). controlsIn p q k ++ l)
-      (line-by (bit p k) (bit q k) ∙ ap (λ (b : Bool). cond b (control k (bit p k) ∷ []) []) (sym (bit-or p q k) ∙ e))
-
-  pub line-lacks : bit (bitOr p q) k ≡ false → controlsIn p q (k + 1) ≡ controlsIn p q k
-  unfolding controlsBelow
-  line-lacks e =
-      ap (controlsIn p q) (add-one k)
-      ∙ ap (λ (l : List Control). controlsIn p q k ++ l)
-      (line-by (bit p k) (bit q k) ∙ ap (λ (b : Bool). cond b (control k (bit p k) ∷ []) []) (sym (bit-or p q k) ∙ e))
-      ∙ append-nil (controlsIn p q k)
-
--- fewer lines, no more controls
-pub controls-mono : (p q m n : ℕ) → m ≤ n → length (controlsIn p q m) ≤ length (controlsIn p q n)
-unfolding controlsBelow
-controls-mono p q m n h =
-    le-ind (λ (k : ℕ). length (controlsIn p q m) ≤ length (controlsIn p q k)) (omega arith)
-    (λ k l e. let g = length-append (controlsIn p q k) (controlAt (record { positive = p; negative = q; target = 0 }) k) in omega arith) n h
-
--- ---- the literals
-
--- those of lines below k are written
-pub record Literals (p q n : ℕ) (current : List ℕ) (first out : List ℤ) (k at : ℕ) : Type 0 where
-  pub below : k ≤ n
-  pub count : at ≡ length (controlsIn p q k)
-  pub long : length out ≡ length first
-  pub buffer : out ≡ over (literalsIn current p q k) first
-
-pub literals-none : (p q n : ℕ) (current : List ℕ) (first : List ℤ) → Literals p q n current first first 0 0
-unfolding controlsBelow
-literals-none p q n current first = record { below = omega arith; count = refl; long = refl; buffer = refl }
-
-module _ (p q n : ℕ) (current : List ℕ) (first out : List ℤ) (k at : ℕ) (w : Literals p q n current first out k at) (inside : k < n)
-    (room : length (controlsIn p q n) ≤ length first) where
-  pub literals-room : bit (bitOr p q) k ≡ true → at < length out
-  literals-room b =
-      let m = controls-mono p q (k + 1) n (omega arith) in
-      let s = ap length (line-has p q k b) ∙ length-append (controlsIn p q k) (control k (bit p k) ∷ []) in
-      let l = w .long in
-      let e = w .count in
-      omega arith
-
-  pub literals-stored : (z : ℤ) → z ≡ literalWord (bit p k) (byLine current k) → bit (bitOr p q) k ≡ true
-      → Literals p q n current first (set out at z) (k + 1) (at + 1)
-  literals-stored z e b =
-      let s = ap length (line-has p q k b) ∙ length-append (controlsIn p q k) (control k (bit p k) ∷ []) in
-      let c = w .count in
-      record {
-        below = omega arith;
-        count = omega arith;
-        long = length-set out at z ∙ w .long;
-        buffer =
-            ap (λ (o : List ℤ). set o at z) (w .buffer)
-            ∙ over-push (literalsIn current p q k) first z at (length-map (controlsIn p q k) (literalOf (byLine current)) ∙ sym (w .count)) (let r = literals-room b in let l = w .long in omega arith)
-            ∙ ap (λ (x : ℤ). over (literalsIn current p q k ++ (x ∷ [])) first) e
-            ∙ ap (λ (l : List ℤ). over l first)
-            (sym (ap (map (literalOf (byLine current))) (line-has p q k b) ∙ map-append (literalOf (byLine current)) (controlsIn p q k) (control k (bit p k) ∷ [])));
-      }
-
-  pub literals-passed : bit (bitOr p q) k ≡ false → Literals p q n current first out (k + 1) at
-  literals-passed b =
-      record {
-        below = omega arith;
-        count = w .count ∙ ap length (sym (line-lacks p q k b));
-        long = w .long;
-        buffer = w .buffer ∙ ap (λ (cs : List Control). over (map (literalOf (byLine current)) cs) first) (sym (line-lacks p q k b));
-      }
-
--- ---- the clauses OR (−v, c)
-
-implied-append : (v : ℕ) (xs ys : List ℤ) → implied v (xs ++ ys) ≡ implied v xs ++ implied v ys
-implied-append v [] ys = refl
-implied-append v (x ∷ xs) ys = ap (λ (l : List Clause). OR (minus v ∷ x ∷ []) ∷ l) (implied-append v xs ys)
-
-pub implied-long : (v : ℕ) (ls : List ℤ) → length (stored (implied v ls)) ≡ 4 * length ls
+implied-long : (p : ℕ) (cs : List ℤ) → length (stored (implied p cs)) ≡ 4 * length cs
 unfolding stored
-implied-long v [] = refl
-implied-long v (l ∷ ls) = omega (arith, implied-long v ls)
+implied-long p [] = refl
+implied-long p (c ∷ cs) = omega (arith, implied-long p cs)
 
-abbrev pub impliedIn : List ℕ → ℕ → ℕ → ℕ → ℕ → List ℤ
-impliedIn current v p q k = stored (implied v (literalsIn current p q k))
+implied-more : (p : ℕ) (cs : List ℤ) (c : ℤ) → stored (implied p (cs ++ (c ∷ []))) ≡ stored (implied p cs) ++ (pos 0 ∷ pos 2 ∷ minus p ∷ c ∷ [])
+unfolding stored
+implied-more p cs c = ap stored (implied-append p cs (c ∷ [])) ∙ stored-append (implied p cs) (implied p (c ∷ []))
 
-pub impliedIn-long : (current : List ℕ) (v p q k : ℕ) → length (impliedIn current v p q k) ≡ 4 * length (controlsIn p q k)
-impliedIn-long current v p q k =
-    implied-long v (literalsIn current p q k) ∙ ap (λ (m : ℕ). 4 * m) (length-map (controlsIn p q k) (literalOf (byLine current)))
+-- the word of −c
+pub negated-word : (b : Bool) (v : ℕ) → literalWord (not b) v ≡ negℤ (literalWord b v)
+negated-word true v = refl
+negated-word false v = sym (negℤ-negℤ (pos v))
 
-pub record Implied (v p q n : ℕ) (current : List ℕ) (first out : List ℤ) (k at : ℕ) : Type 0 where
-  pub below : k ≤ n
-  pub count : at ≡ 4 * length (controlsIn p q k)
-  pub long : length out ≡ length first
-  pub buffer : out ≡ over (impliedIn current v p q k) first
+-- ---- two stretches of a buffer, filled at once
 
-pub implied-none : (v p q n : ℕ) (current : List ℕ) (first : List ℤ) → Implied v p q n current first first 0 0
-unfolding controlsBelow stored
-implied-none v p q n current first = record { below = omega arith; count = refl; long = refl; buffer = refl }
+-- every −c of the controls so far in the first k words, and every OR (−p, c) after those
+abbrev pub filling : ℕ → ℕ → List ℤ → List ℤ → List ℤ
+filling k p cs first = over (over (map negℤ cs) (take k first) ++ stored (implied p cs)) first
 
-module _ (v p q n : ℕ) (current : List ℕ) (first out : List ℤ) (k at : ℕ) (w : Implied v p q n current first out k at) (inside : k < n)
-    (room : 4 * length (controlsIn p q n) ≤ length first) where
-  pub implied-room : bit (bitOr p q) k ≡ true → at + 4 ≤ length out
-  implied-room b =
-      let m = controls-mono p q (k + 1) n (omega arith) in
-      let s = ap length (line-has p q k b) ∙ length-append (controlsIn p q k) (control k (bit p k) ∷ []) in
-      let l = w .long in
-      let e = w .count in
-      omega arith
+module _ (k p : ℕ) (first : List ℤ) (room : 5 * k ≤ length first) where
+  front-long : length (take k first) ≡ k
+  front-long = length-take-le k first (omega arith)
 
-  implied-more : bit (bitOr p q) k ≡ true
-      → impliedIn current v p q k ++ (pos 0 ∷ pos 2 ∷ minus v ∷ literalWord (bit p k) (byLine current k) ∷ []) ≡ impliedIn current v p q (k + 1)
+  pub filling-none : first ≡ filling k p [] first
   unfolding stored
-  implied-more b =
-      let f = literalOf (byLine current) in
-      let c : Control = control k (bit p k) in
+  filling-none =
       sym
-      (ap (λ (cs : List Control). stored (implied v (map f cs))) (line-has p q k b)
-      ∙ ap (λ (ls : List ℤ). stored (implied v ls)) (map-append f (controlsIn p q k) (c ∷ []))
-      ∙ ap stored (implied-append v (map f (controlsIn p q k)) (f c ∷ []))
-      ∙ stored-append (implied v (map f (controlsIn p q k))) (implied v (f c ∷ [])))
+      (ap (λ (l : List ℤ). l ++ drop (length l) first) (append-nil (take k first))
+      ∙ ap (λ (m : ℕ). take k first ++ drop m first) front-long
+      ∙ take-append-drop k first)
 
-  pub implied-stored : (a z : ℤ) (last new : List ℤ) → a ≡ minus v → z ≡ literalWord (bit p k) (byLine current k) → bit (bitOr p q) k ≡ true
-      → last ≡ over (pos 0 ∷ pos 2 ∷ a ∷ z ∷ []) (take (length out - at) (drop at out))
-      → new ≡ putMid at (length out - at) out last → length new ≡ length out
-      → Implied v p q n current first new (k + 1) (at + 4)
-  implied-stored a z last new ea ez b l e long =
-      let s = ap length (line-has p q k b) ∙ length-append (controlsIn p q k) (control k (bit p k) ∷ []) in
-      let c = w .count in
-      let r = implied-room b in
-      record {
-        below = omega arith;
-        count = omega arith;
-        long = long ∙ w .long;
-        buffer =
-            e
-            ∙ lent-over (impliedIn current v p q k) (pos 0 ∷ pos 2 ∷ a ∷ z ∷ []) first out last at (w .buffer) (impliedIn-long current v p q k ∙ sym (w .count)) (omega arith) l
-            ∙ ap₂ (λ (x y : ℤ). over (impliedIn current v p q k ++ (pos 0 ∷ pos 2 ∷ x ∷ y ∷ [])) first) ea ez
-            ∙ ap (λ (ls : List ℤ). over ls first) (implied-more b);
-      }
+  pub filling-done : (cs : List ℤ) → length cs ≡ k → filling k p cs first ≡ over (controlsStored p cs) first
+  filling-done cs e =
+      let whole : over (map negℤ cs) (take k first) ≡ map negℤ cs =
+      ap (λ (m : ℕ). map negℤ cs ++ drop m (take k first)) (length-map cs negℤ ∙ e ∙ sym front-long) ∙ ap (λ (l : List ℤ). map negℤ cs ++ l) (drop-length (take k first)) ∙ append-nil (map negℤ cs) in
+      ap (λ (l : List ℤ). over (l ++ stored (implied p cs)) first) whole
 
-  pub implied-passed : bit (bitOr p q) k ≡ false → Implied v p q n current first out (k + 1) at
-  implied-passed b =
-      record {
-        below = omega arith;
-        count = w .count ∙ ap (λ (cs : List Control). 4 * length cs) (sym (line-lacks p q k b));
-        long = w .long;
-        buffer = w .buffer ∙ ap (λ (cs : List Control). over (stored (implied v (map (literalOf (byLine current)) cs))) first) (sym (line-lacks p q k b));
-      }
+  -- one control more
+  module _ (cs : List ℤ) (i : ℕ) (count : length cs ≡ i) (inside : i < k) (c : ℤ) where
+    abbrev negs : List ℤ → List ℤ
+    negs l = over (map negℤ l) (take k first)
 
--- ---- masks with the polarities exchanged
+    negs-long : (l : List ℤ) → length l ≤ k → length (negs l) ≡ k
+    negs-long l h = over-length (map negℤ l) (take k first) (omega (arith, length-map l negℤ, front-long)) ∙ front-long
 
-module _ (p q : ℕ) (apart : bitAnd p q ≡ 0) where
-  one-mask : (k : ℕ) → bit p k ≡ true → bit q k ≡ false
-  one-mask k = none (bit p k) (bit q k) (sym (bit-and p q k) ∙ ap (λ (x : ℕ). bit x k) apart ∙ bit-none k)
-    where
-      none : (a b : Bool) → (a && b) ≡ false → a ≡ true → b ≡ false
-      none true b e h = e
-      none false b e h = absurd (false≢true h)
+    neg-more : set (negs cs) i (negℤ c) ≡ negs (cs ++ (c ∷ []))
+    neg-more =
+        over-push (map negℤ cs) (take k first) (negℤ c) i (length-map cs negℤ ∙ count) (omega (arith, front-long))
+        ∙ ap (λ (l : List ℤ). over l (take k first)) (sym (map-append negℤ cs (c ∷ [])))
 
-  line-swapped : (current : List ℕ) (k : ℕ) (a b : Bool) → (a ≡ true → b ≡ false)
-      → map (literalOf (byLine current)) (cond b (control k true ∷ []) (cond a (control k false ∷ []) []))
-      ≡ map negℤ (map (literalOf (byLine current)) (cond a (control k true ∷ []) (cond b (control k false ∷ []) [])))
-  line-swapped current k true true h = absurd (true≢false (h refl))
-  line-swapped current k true false h = refl
-  line-swapped current k false true h = ap (λ (x : ℤ). x ∷ []) (sym (negℤ-negℤ (plus (byLine current k))))
-  line-swapped current k false false h = refl
+    one-long : length (cs ++ (c ∷ [])) ≡ i + 1
+    one-long = length-append cs (c ∷ []) ∙ ap (λ (m : ℕ). m + 1) count
 
-  -- every −c
-  pub swapped : (current : List ℕ) (n : ℕ) → literalsIn current q p n ≡ map negℤ (literalsIn current p q n)
-  unfolding controlsBelow
-  swapped current zero = refl
-  swapped current (suc n) =
-      let f = literalOf (byLine current) in
-      let one = controlAt (record { positive = p; negative = q; target = 0 }) n in
-      let other = controlAt (record { positive = q; negative = p; target = 0 }) n in
-      map-append f (controlsIn q p n) other
-      ∙ ap₂ (λ (xs ys : List ℤ). xs ++ ys) (swapped current n) (line-swapped current n (bit p n) (bit q n) (one-mask n))
-      ∙ sym (ap (map negℤ) (map-append f (controlsIn p q n) one) ∙ map-append negℤ (map f (controlsIn p q n)) (map f one))
+    -- −c is stored
+    neg-stored : (out : List ℤ) → out ≡ filling k p cs first → set out i (negℤ c) ≡ over (negs (cs ++ (c ∷ [])) ++ stored (implied p cs)) first
+    neg-stored out e =
+        let y : List ℤ = stored (implied p cs) in
+        let a : length (negs cs) ≡ k = negs-long cs (omega arith) in
+        let b : length (negs (cs ++ (c ∷ []))) ≡ k = negs-long (cs ++ (c ∷ [])) (omega (arith, one-long)) in
+        let f : length (negs cs ++ y) ≡ length (negs (cs ++ (c ∷ [])) ++ y) =
+        length-append (negs cs) y ∙ ap (λ (m : ℕ). m + length y) (a ∙ sym b) ∙ sym (length-append (negs (cs ++ (c ∷ []))) y) in
+        ap (λ (o : List ℤ). set o i (negℤ c)) e
+        ∙ set-append-left (negs cs ++ y) (drop (length (negs cs ++ y)) first) i (negℤ c) (omega (arith, length-append (negs cs) y))
+        ∙ ap (λ (l : List ℤ). l ++ drop (length (negs cs ++ y)) first) (set-append-left (negs cs) y i (negℤ c) (omega arith) ∙ ap (λ (l : List ℤ). l ++ y) neg-more)
+        ∙ ap (λ (m : ℕ). (negs (cs ++ (c ∷ [])) ++ y) ++ drop m first) f
 
-  pub swapped-count : (n : ℕ) → length (controlsIn q p n) ≡ length (controlsIn p q n)
-  swapped-count n =
-      sym (length-map (controlsIn q p n) (literalOf (byLine [])))
-      ∙ ap length (swapped [] n)
-      ∙ length-map (literalsIn [] p q n) negℤ
-      ∙ length-map (controlsIn p q n) (literalOf (byLine []))
+    -- and OR (−p, c), in the lent rest
+    pub filling-more : (out last : List ℤ) (z a b : ℤ) → out ≡ filling k p cs first → length out ≡ length first → z ≡ negℤ c → a ≡ minus p → b ≡ c
+        → last ≡ over (pos 0 ∷ pos 2 ∷ a ∷ b ∷ []) (take (length (set out i z) - (k + 4 * i)) (drop (k + 4 * i) (set out i z)))
+        → putMid (k + 4 * i) (length (set out i z) - (k + 4 * i)) (set out i z) last ≡ filling k p (cs ++ (c ∷ [])) first
+    filling-more out last z a b e long ez ea eb l =
+        let y : List ℤ = stored (implied p cs) in
+        let x : List ℤ = negs (cs ++ (c ∷ [])) in
+        let f : length (x ++ y) ≡ k + 4 * i =
+        length-append x y ∙ ap₂ _+_ (negs-long (cs ++ (c ∷ [])) (omega (arith, one-long))) (implied-long p cs ∙ ap (λ (m : ℕ). 4 * m) count) in
+        lent-over (x ++ y) (pos 0 ∷ pos 2 ∷ a ∷ b ∷ []) first (set out i z) last (k + 4 * i) (ap (set out i) ez ∙ neg-stored out e) f
+        (omega (arith, length-set out i z)) l
+        ∙ ap₂ (λ (s t : ℤ). over ((x ++ y) ++ (pos 0 ∷ pos 2 ∷ s ∷ t ∷ [])) first) ea eb
+        ∙ ap (λ (m : List ℤ). over m first) (append-assoc x y (pos 0 ∷ pos 2 ∷ minus p ∷ c ∷ []) ∙ ap (λ (m : List ℤ). x ++ m) (sym (implied-more p cs c)))
+
+-- ---- the walk over the lines of a mask
+
+-- those before i are done, and `left` has the others
+pub record Walk (current : List ℕ) (positive lines k n p : ℕ) (first out : List ℤ) (left i : ℕ) : Type 0 where
+  pub below : left < 2 ^ n
+  pub passed : List ℕ
+  pub all : linesIn lines n ≡ passed ++ linesIn left n
+  pub count : length passed ≡ i
+  pub long : length out ≡ length first
+  pub buffer : out ≡ filling k p (map (literalAt current positive) passed) first
+
+pub walk-start : (current : List ℕ) (positive lines k n p : ℕ) (first : List ℤ) → Lines lines k n → 5 * k ≤ length first
+    → Walk current positive lines k n p first first lines 0
+walk-start current positive lines k n p first h room =
+    record { below = h .below; passed = []; all = refl; count = refl; long = refl; buffer = filling-none k p first room }
+
+module _ (current : List ℕ) (positive lines k n p : ℕ) (first out : List ℤ) (left i : ℕ) (small : n ≤ maxLines) (h : Lines lines k n) (room : 5 * k ≤ length first)
+    (w : Walk current positive lines k n p first out left i) where
+  pub walk-done : left ≡ 0 → out ≡ over (controlsStored p (literalsIn current positive lines n)) first
+  walk-done e =
+      let is : linesIn lines n ≡ w .passed = w .all ∙ ap (λ (l : List ℕ). w .passed ++ l) (ap (λ (x : ℕ). linesIn x n) e ∙ lines-none n) ∙ append-nil (w .passed) in
+      w .buffer
+      ∙ filling-done k p first room (map (literalAt current positive) (w .passed)) (length-map (w .passed) (literalAt current positive) ∙ sym (h .count ∙ ap length is))
+      ∙ ap (λ (l : List ℕ). over (controlsStored p (map (literalAt current positive) l)) first) (sym is)
+
+  -- a line is left
+  module _ (some : 0 < left) (line : ℕ) (is : line ≡ trailingZeros maxLines left) where
+    pub line-below : line < n
+    line-below = omega (arith, is, lowest-below maxLines n left small some (w .below))
+
+    split : linesIn left n ≡ line ∷ linesIn (bitAnd left (left - 1)) n
+    split = lines-lowest maxLines n left small some (w .below) ∙ ap (λ (t : ℕ). t ∷ linesIn (bitAnd left (left - 1)) n) (sym is)
+
+    more : linesIn lines n ≡ (w .passed ++ (line ∷ [])) ++ linesIn (bitAnd left (left - 1)) n
+    more = w .all ∙ ap (λ (l : List ℕ). w .passed ++ l) split ∙ sym (append-snoc (w .passed) line (linesIn (bitAnd left (left - 1)) n))
+
+    passed-long : length (w .passed ++ (line ∷ [])) ≡ i + 1
+    passed-long = length-append (w .passed) (line ∷ []) ∙ ap (λ (m : ℕ). m + 1) (w .count)
+
+    pub inside : i < k
+    inside = omega (arith, h .count, ap length more, length-append (w .passed ++ (line ∷ [])) (linesIn (bitAnd left (left - 1)) n), passed-long)
+
+    pub walk-on : (last : List ℤ) (z a b : ℤ) → z ≡ literalWord (not (bit positive line)) (byLine current line) → a ≡ minus p → b ≡ literalAt current positive line
+        → last ≡ over (pos 0 ∷ pos 2 ∷ a ∷ b ∷ []) (take (length (set out i z) - (k + 4 * i)) (drop (k + 4 * i) (set out i z)))
+        → length (putMid (k + 4 * i) (length (set out i z) - (k + 4 * i)) (set out i z) last) ≡ length (set out i z)
+        → Walk current positive lines k n p first (putMid (k + 4 * i) (length (set out i z) - (k + 4 * i)) (set out i z) last) (bitAnd left (left - 1)) (i + 1)
+    walk-on last z a b ez ea eb l kept =
+        let cs = map (literalAt current positive) (w .passed) in
+        record {
+          below = omega (arith, and-le-l left (left - 1), w .below);
+          passed = w .passed ++ (line ∷ []);
+          all = more;
+          count = passed-long;
+          long = kept ∙ length-set out i z ∙ w .long;
+          buffer =
+              filling-more k p first room cs i (length-map (w .passed) (literalAt current positive) ∙ w .count) inside (literalAt current positive line) out last z a b (w .buffer) (w .long)
+              (ez ∙ negated-word (bit positive line) (byLine current line)) ea eb l
+              ∙ ap (λ (m : List ℤ). filling k p m first) (sym (map-append (literalAt current positive) (w .passed) (line ∷ [])));
+        }
+
+pub lines-few : (lines k n : ℕ) → Lines lines k n → k ≤ n
+lines-few lines k n h = let e = h .count in omega (arith, lines-ones n lines (h .below), ones-le n lines (h .below))
 
 -- ---- the clauses with a p
 
--- three lent rests are filled one after the other
-pub filled : (k : ℕ) (head lits imps tail first o l₂ l₃ l₄ : List ℤ) → length head ≡ 3 → length lits ≡ k → length imps ≡ 4 * k → 5 * k + 8 ≤ length first
+-- two lent rests are filled one after the other
+filled : (k : ℕ) (head mid tail first o l₂ l₃ : List ℤ) → length head ≡ 3 → length mid ≡ 5 * k → 5 * k + 8 ≤ length first
     → o ≡ over head first
-    → l₂ ≡ over lits (take (length o - 3) (drop 3 o))
+    → l₂ ≡ over mid (take (length o - 3) (drop 3 o))
     → (o₂ : List ℤ) → o₂ ≡ putMid 3 (length o - 3) o l₂
-    → l₃ ≡ over imps (take (length o₂ - (3 + k)) (drop (3 + k) o₂))
-    → (o₃ : List ℤ) → o₃ ≡ putMid (3 + k) (length o₂ - (3 + k)) o₂ l₃
-    → l₄ ≡ over tail (take (length o₃ - (3 + k + 4 * k)) (drop (3 + k + 4 * k) o₃))
-    → putMid (3 + k + 4 * k) (length o₃ - (3 + k + 4 * k)) o₃ l₄ ≡ over (((head ++ lits) ++ imps) ++ tail) first
-filled k head lits imps tail first o l₂ l₃ l₄ a b d room e e₂ o₂ f₂ e₃ o₃ f₃ e₄ =
+    → l₃ ≡ over tail (take (length o₂ - (3 + 5 * k)) (drop (3 + 5 * k) o₂))
+    → putMid (3 + 5 * k) (length o₂ - (3 + 5 * k)) o₂ l₃ ≡ over ((head ++ mid) ++ tail) first
+filled k head mid tail first o l₂ l₃ a b room e e₂ o₂ f₂ e₃ =
     let long : length o ≡ length first = ap length e ∙ over-length head first (omega arith) in
-    let two : length (head ++ lits) ≡ 3 + k = length-append head lits ∙ ap₂ _+_ a b in
-    let g₂ : o₂ ≡ over (head ++ lits) first = f₂ ∙ lent-over head lits first o l₂ 3 e a (omega arith) e₂ in
-    let long₂ : length o₂ ≡ length first = ap length g₂ ∙ over-length (head ++ lits) first (omega arith) in
-    let three : length ((head ++ lits) ++ imps) ≡ 3 + k + 4 * k = length-append (head ++ lits) imps ∙ ap₂ _+_ two d in
-    let g₃ : o₃ ≡ over ((head ++ lits) ++ imps) first = f₃ ∙ lent-over (head ++ lits) imps first o₂ l₃ (3 + k) g₂ two (omega arith) e₃ in
-    let long₃ : length o₃ ≡ length first = ap length g₃ ∙ over-length ((head ++ lits) ++ imps) first (omega arith) in
-    lent-over ((head ++ lits) ++ imps) tail first o₃ l₄ (3 + k + 4 * k) g₃ three (omega arith) e₄
+    let two : length (head ++ mid) ≡ 3 + 5 * k = length-append head mid ∙ ap₂ _+_ a b in
+    let g₂ : o₂ ≡ over (head ++ mid) first = f₂ ∙ lent-over head mid first o l₂ 3 e a (omega arith) e₂ in
+    let long₂ : length o₂ ≡ length first = ap length g₂ ∙ over-length (head ++ mid) first (omega arith) in
+    lent-over (head ++ mid) tail first o₂ l₃ (3 + 5 * k) g₂ two (omega arith) e₃
 
-pub many-stored : (p w v k : ℕ) (ls : List ℤ) → length ls ≡ k
-    → (((pos 0 ∷ pos (k + 1) ∷ plus p ∷ []) ++ map negℤ ls) ++ stored (implied p ls)) ++ (pos 1 ∷ pos 3 ∷ minus w ∷ plus v ∷ plus p ∷ [])
-    ≡ stored (manyClauses p w v ls)
+many-stored : (p w v k : ℕ) (cs : List ℤ) → length cs ≡ k
+    → ((pos 0 ∷ pos (k + 1) ∷ plus p ∷ []) ++ controlsStored p cs) ++ (pos 1 ∷ pos 3 ∷ minus w ∷ plus v ∷ plus p ∷ [])
+    ≡ stored (manyClauses p w v cs)
 unfolding stored
-many-stored p w v k ls e =
+many-stored p w v k cs e =
     let end : List Clause = XOR (minus w ∷ plus v ∷ plus p ∷ []) ∷ [] in
-    let c : k + 1 ≡ suc (length (map negℤ ls)) = omega (arith, length-map ls negℤ) in
-    append-assoc ((pos 0 ∷ pos (k + 1) ∷ plus p ∷ []) ++ map negℤ ls) (stored (implied p ls)) (stored end)
-    ∙ ap (λ (r : List ℤ). ((pos 0 ∷ pos (k + 1) ∷ plus p ∷ []) ++ map negℤ ls) ++ r) (sym (stored-append (implied p ls) end))
-    ∙ ap (λ (m : ℕ). (pos 0 ∷ pos m ∷ plus p ∷ map negℤ ls) ++ stored (implied p ls ++ end)) c
-
-pub controls-few : (p q n : ℕ) → length (controlsIn p q n) ≤ n
-controls-few p q n = few-controls n (record { positive = p; negative = q; target = 0 })
+    let c : k + 1 ≡ suc (length (map negℤ cs)) = omega (arith, length-map cs negℤ) in
+    ap (λ (l : List ℤ). pos 0 ∷ pos (k + 1) ∷ plus p ∷ l) (append-assoc (map negℤ cs) (stored (implied p cs)) (stored end))
+    ∙ ap (λ (r : List ℤ). (pos 0 ∷ pos (k + 1) ∷ plus p ∷ []) ++ (map negℤ cs ++ r)) (sym (stored-append (implied p cs) end))
+    ∙ ap (λ (m : ℕ). (pos 0 ∷ pos m ∷ plus p ∷ map negℤ cs) ++ stored (implied p cs ++ end)) c
 
 -- so the clauses with a p stand at the buffer's start
-pub many-filled : (current : List ℕ) (p q k n used v : ℕ) (first : List ℤ) → Many p q k n used v (length first)
+pub many-filled : (current : List ℕ) (positive lines k n used v : ℕ) (first : List ℤ) → Many lines k n used v (length first)
     → (x y a b d : ℤ) → x ≡ plus (k + 1) → y ≡ plus (used + 1) → a ≡ minus (used + 1 + 1) → b ≡ plus v → d ≡ plus (used + 1)
-    → (o l₂ l₃ l₄ : List ℤ) → o ≡ over (pos 0 ∷ x ∷ y ∷ []) first
-    → l₂ ≡ over (literalsIn current q p n) (take (length o - 3) (drop 3 o))
+    → (o l₂ l₃ : List ℤ) → o ≡ over (pos 0 ∷ x ∷ y ∷ []) first
+    → l₂ ≡ over (controlsStored (used + 1) (literalsIn current positive lines n)) (take (length o - 3) (drop 3 o))
     → (o₂ : List ℤ) → o₂ ≡ putMid 3 (length o - 3) o l₂
-    → l₃ ≡ over (impliedIn current (used + 1) p q n) (take (length o₂ - (3 + k)) (drop (3 + k) o₂))
-    → (o₃ : List ℤ) → o₃ ≡ putMid (3 + k) (length o₂ - (3 + k)) o₂ l₃
-    → l₄ ≡ over (pos 1 ∷ pos 3 ∷ a ∷ b ∷ d ∷ []) (take (length o₃ - (3 + k + 4 * k)) (drop (3 + k + 4 * k) o₃))
-    → putMid (3 + k + 4 * k) (length o₃ - (3 + k + 4 * k)) o₃ l₄ ≡ over (manyStored current used v p q n) first
-many-filled current p q k n used v first m x y a b d ex ey ea eb ed o l₂ l₃ l₄ e e₂ o₂ f₂ e₃ o₃ f₃ e₄ =
-    let ls = literalsIn current p q n in
-    let count : length ls ≡ k = length-map (controlsIn p q n) (literalOf (byLine current)) ∙ sym (m .count) in
-    filled k (pos 0 ∷ x ∷ y ∷ []) (literalsIn current q p n) (impliedIn current (used + 1) p q n) (pos 1 ∷ pos 3 ∷ a ∷ b ∷ d ∷ []) first o l₂ l₃ l₄ refl
-    (ap length (swapped p q (m .apart) current n) ∙ length-map ls negℤ ∙ count)
-    (implied-long (used + 1) ls ∙ ap (λ (j : ℕ). 4 * j) count)
-    (m .enough) e e₂ o₂ f₂ e₃ o₃ f₃ e₄
+    → l₃ ≡ over (pos 1 ∷ pos 3 ∷ a ∷ b ∷ d ∷ []) (take (length o₂ - (3 + 5 * k)) (drop (3 + 5 * k) o₂))
+    → putMid (3 + 5 * k) (length o₂ - (3 + 5 * k)) o₂ l₃ ≡ over (manyStored current used v positive lines n) first
+many-filled current positive lines k n used v first m x y a b d ex ey ea eb ed o l₂ l₃ e e₂ o₂ f₂ e₃ =
+    let cs = literalsIn current positive lines n in
+    let p : ℕ = used + 1 in
+    let mid : List ℤ = controlsStored p cs in
+    let count : length cs ≡ k = length-map (linesIn lines n) (literalAt current positive) ∙ sym (m .controls .count) in
+    let long : length mid ≡ 5 * k = omega (arith, length-append (map negℤ cs) (stored (implied p cs)), length-map cs negℤ, implied-long p cs) in
+    filled k (pos 0 ∷ x ∷ y ∷ []) mid (pos 1 ∷ pos 3 ∷ a ∷ b ∷ d ∷ []) first o l₂ l₃ refl long (m .enough) e e₂ o₂ f₂ e₃
     ∙ ap (λ (l : List ℤ). over l first)
-    (ap₂ (λ (s t : List ℤ). (((pos 0 ∷ s) ++ literalsIn current q p n) ++ impliedIn current (used + 1) p q n) ++ (pos 1 ∷ pos 3 ∷ t))
+    (ap₂ (λ (s t : List ℤ). ((pos 0 ∷ s) ++ mid) ++ (pos 1 ∷ pos 3 ∷ t))
     (ap₂ (λ (s t : ℤ). s ∷ t ∷ []) ex ey) (ap₂ (λ (s : ℤ) (t : List ℤ). s ∷ t) ea (ap₂ (λ (s t : ℤ). s ∷ t ∷ []) eb ed))
-    ∙ ap (λ (s : List ℤ). (((pos 0 ∷ pos (k + 1) ∷ plus (used + 1) ∷ []) ++ s) ++ impliedIn current (used + 1) p q n) ++ (pos 1 ∷ pos 3 ∷ minus (used + 1 + 1) ∷ plus v ∷ plus (used + 1) ∷ []))
-    (swapped p q (m .apart) current n)
-    ∙ many-stored (used + 1) (used + 1 + 1) v k ls count
-    ∙ ap₂ (λ (i j : ℕ). stored (manyClauses i j v ls)) (add-one used) (add-one (used + 1) ∙ ap suc (add-one used)))
+    ∙ many-stored p (p + 1) v k cs count
+    ∙ ap₂ (λ (i j : ℕ). stored (manyClauses i j v cs)) (add-one used) (add-one (used + 1) ∙ ap suc (add-one used)))

@@ -1,42 +1,73 @@
 -- What the one-gate emitter writes for a gate with no control, with one, and with more. Assumes nothing.
-use mathlib.Core.Path.{_≡_, refl, sym, ap, _∙_, subst}
-use mathlib.Core.List.{List, [], _∷_, _++_, map}
-use Prim.Native.Nat.{ℕ, zero, suc, _+_, _*_, _-_, _≤_, _<_}
+use mathlib.Core.Path.{_≡_, refl, sym, ap, ap₂, _∙_, subst}
+use mathlib.Core.Bool.{Bool, true, false, cond, _||_}
+use mathlib.Core.Logic.{⊎-elim}
+use mathlib.Core.List.{List, [], _∷_, _++_, map, map-append}
+use Prim.Native.Nat.{ℕ, zero, suc, _+_, _*_, _-_, _^_, _≤_, _<_}
+use native.Mathlib.Nat.{eq-zero-or-pos}
 use native.Mathlib.Numerals.{add-one}
 use native.Mathlib.Omega.{arith}
+use lib.Bits.{bitAnd, bitOr, or-lt}
+use lib.Count.{trailingZeros}
 use lib.IntN.{ℤ, pos}
-use lib.ListN.{length, take, drop, length-map}
-use borrow.Rule.Slice.PartMut.{putMid}
-use Rattle.bits.specs.Lists.{over}
-use Rattle.bits.proofs.Lists.{over-length, lent-over}
+use lib.ListN.{length, length-map}
+use Rattle.bits.specs.Digits.{bit, linesIn}
+use Rattle.bits.proofs.Digits.{bit-or}
+use Rattle.bits.proofs.Lowest.{lines-none, lines-lowest, lowest-below}
 use Rattle.circuit.specs.declared.gate.Gate.{Gate}
-use Rattle.circuit.specs.Gate.{maxLines, controlCount, Control, controlAt, controlsBelow}
+use Rattle.circuit.specs.Gate.{maxLines, controlCount, Control, controlAt, controlsBelow, controlsOf}
 use Rattle.circuit.proofs.gate.Laws.{valid-facts, valid-more}
 use Rattle.circuit.proofs.gate.Controls.{controls-count, controls-below}
 use Rattle.checking.specs.declared.clauses.Totals.{Totals}
 use Rattle.checking.specs.Clauses.{plus, minus, literalOf, gateClauses, manyClauses}
 use Rattle.checking.specs.Stored.{stored, wordLimit}
 use Rattle.checking.specs.Sizes.{gateSizes}
-use Rattle.checking.specs.Emitter.{byLine, controlsIn, literalsIn, gateStored, manyStored, Many, Ready}
+use Rattle.checking.specs.Emitter.{literalWord, byLine, literalAt, literalsIn, gateStored, manyStored, Many, Ready}
 use Rattle.checking.proofs.clauses.Sums.{many-words}
 use Rattle.checking.proofs.clauses.Loop.{sizes-many}
 
--- the target does not matter for the controls
-same-controls : (g : Gate) (n : ℕ) → controlsBelow n g ≡ controlsIn (g .positive) (g .negative) n
-unfolding controlsBelow
-same-controls g zero = refl
-same-controls g (suc n) = ap (λ (cs : List Control). cs ++ controlAt g n) (same-controls g n)
+-- the literal on a line that stands in one of the masks
+on-line : (current : List ℕ) (k : ℕ) (a b : Bool)
+    → map (literalOf (byLine current)) (cond a (record { line = k; positive = true } ∷ []) (cond b (record { line = k; positive = false } ∷ []) []))
+    ≡ cond (a || b) (literalWord a (byLine current k) ∷ []) []
+on-line current k true b = refl
+on-line current k false true = refl
+on-line current k false false = refl
+
+if-set : (f : ℕ → ℤ) (k : ℕ) (b : Bool) → map f (cond b (k ∷ []) []) ≡ cond b (f k ∷ []) []
+if-set f k true = refl
+if-set f k false = refl
+
+-- the literals of a gate's controls, by the lines of both masks
+by-lines : (current : List ℕ) (g : Gate) (n : ℕ) → map (literalOf (byLine current)) (controlsBelow n g) ≡ literalsIn current (g .positive) (bitOr (g .positive) (g .negative)) n
+unfolding controlsBelow linesIn
+by-lines current g zero = refl
+by-lines current g (suc n) =
+    let f = literalAt current (g .positive) in
+    let lines = bitOr (g .positive) (g .negative) in
+    map-append (literalOf (byLine current)) (controlsBelow n g) (controlAt g n)
+    ∙ ap₂ (λ (x y : List ℤ). x ++ y) (by-lines current g n)
+    (on-line current n (bit (g .positive) n) (bit (g .negative) n)
+    ∙ ap (λ (b : Bool). cond b (f n ∷ []) []) (sym (bit-or (g .positive) (g .negative) n))
+    ∙ sym (if-set f n (bit lines n)))
+    ∙ sym (map-append f (linesIn lines n) (cond (bit lines n) (n ∷ []) []))
+
+-- a list of one line
+alone : (ls rest : List ℕ) (line : ℕ) → ls ≡ line ∷ rest → length ls ≡ 1 → ls ≡ line ∷ []
+alone ls rest line e h = e ∙ ap (λ (r : List ℕ). line ∷ r) (none rest (omega (arith, ap length e)))
+  where
+    none : (r : List ℕ) → length r ≡ 0 → r ≡ []
+    none [] z = refl
+    none (x ∷ r) z = absurd (omega arith)
 
 zero-stored : (used v : ℕ) (ls : List ℤ) → length ls ≡ 0 → stored (gateClauses used v ls) ≡ pos 1 ∷ pos 2 ∷ plus (suc used) ∷ plus v ∷ []
 unfolding stored
 zero-stored used v [] e = refl
 zero-stored used v (c ∷ ls) e = absurd (omega arith)
 
-one-stored : (used v : ℕ) (ls : List ℤ) → length ls ≡ 1 → stored (gateClauses used v ls) ≡ (pos 1 ∷ pos 3 ∷ minus (suc used) ∷ plus v ∷ []) ++ ls
+one-stored : (used v : ℕ) (c : ℤ) → stored (gateClauses used v (c ∷ [])) ≡ pos 1 ∷ pos 3 ∷ minus (suc used) ∷ plus v ∷ c ∷ []
 unfolding stored
-one-stored used v [] e = absurd (omega arith)
-one-stored used v (c ∷ []) e = refl
-one-stored used v (c ∷ d ∷ ls) e = absurd (omega arith)
+one-stored used v c = refl
 
 more-stored : (used v : ℕ) (ls : List ℤ) → 2 ≤ length ls → stored (gateClauses used v ls) ≡ stored (manyClauses (suc used) (suc (suc used)) v ls)
 more-stored used v [] h = absurd (omega arith)
@@ -47,8 +78,11 @@ module _ (n used : ℕ) (current : List ℕ) (g : Gate) (room : ℕ) (ready : Re
   abbrev target : ℕ
   target = byLine current (g .target)
 
+  abbrev lines : ℕ
+  lines = bitOr (g .positive) (g .negative)
+
   abbrev literals : List ℤ
-  literals = literalsIn current (g .positive) (g .negative) n
+  literals = literalsIn current (g .positive) lines n
 
   pub target-below : g .target < n
   target-below = valid-facts n g (ready .gate) .target-below
@@ -56,18 +90,26 @@ module _ (n used : ℕ) (current : List ℕ) (g : Gate) (room : ℕ) (ready : Re
   pub target-small : target < wordLimit
   target-small = ready .currents .small (g .target) target-below
 
-  pub controls-known : length (controlsIn (g .positive) (g .negative) n) ≡ controlCount g
-  controls-known =
-      ap length (sym (controls-below n g (ready .currents .lines) (ready .gate) ∙ same-controls g n))
-      ∙ controls-count g (valid-more n maxLines g (ready .currents .lines) (ready .gate))
+  lines-below : lines < 2 ^ n
+  lines-below = let v = valid-facts n g (ready .gate) in or-lt n (g .positive) (g .negative) (v .positive-below) (v .negative-below)
+
+  controls-here : controlsOf g ≡ controlsBelow n g
+  controls-here = controls-below n g (ready .currents .lines) (ready .gate)
 
   literals-known : length literals ≡ controlCount g
-  literals-known = length-map (controlsIn (g .positive) (g .negative) n) (literalOf (byLine current)) ∙ controls-known
+  literals-known =
+      ap length (sym (by-lines current g n))
+      ∙ length-map (controlsBelow n g) (literalOf (byLine current))
+      ∙ ap length (sym controls-here)
+      ∙ controls-count g (valid-more n maxLines g (ready .currents .lines) (ready .gate))
+
+  lines-known : length (linesIn lines n) ≡ controlCount g
+  lines-known = sym (length-map (linesIn lines n) (literalAt current (g .positive))) ∙ literals-known
 
   by-literals : gateStored used current g ≡ stored (gateClauses used target literals)
   by-literals =
-      ap (λ (cs : List Control). stored (gateClauses used target (map (literalOf (byLine current)) cs)))
-      (controls-below n g (ready .currents .lines) (ready .gate) ∙ same-controls g n)
+      ap (λ (cs : List Control). stored (gateClauses used target (map (literalOf (byLine current)) cs))) controls-here
+      ∙ ap (λ (ls : List ℤ). stored (gateClauses used target ls)) (by-lines current g n)
 
   module _ (k : ℕ) (is : k ≡ controlCount g) where
     room-by : (m : ℕ) → gateSizes k .words ≡ m → m ≤ room
@@ -86,16 +128,26 @@ module _ (n used : ℕ) (current : List ℕ) (g : Gate) (room : ℕ) (ready : Re
     pub room-one : k ≡ 1 → 5 ≤ room
     room-one e = room-by 5 (ap (λ (j : ℕ). gateSizes j .words) e)
 
-    one-known : k ≡ 1 → length literals ≡ 1
-    one-known e = literals-known ∙ sym is ∙ e
+    -- it stands on the lowest line
+    module _ (e : k ≡ 1) (line : ℕ) (low : line ≡ trailingZeros maxLines lines) where
+      some : 0 < lines
+      some = ⊎-elim (λ z. absurd (omega (arith, lines-known, ap (λ (x : ℕ). length (linesIn x n)) z, ap length (lines-none n)))) (λ p. p) (eq-zero-or-pos lines)
 
-    pub written-one : k ≡ 1 → gateStored used current g ≡ (pos 1 ∷ pos 3 ∷ minus (used + 1) ∷ plus target ∷ []) ++ literals
-    written-one e =
-        by-literals ∙ one-stored used target literals (one-known e)
-        ∙ ap (λ (w : ℕ). (pos 1 ∷ pos 3 ∷ minus w ∷ plus target ∷ []) ++ literals) (sym (add-one used))
+      pub line-below : line < n
+      line-below = omega (arith, low, lowest-below maxLines n lines (ready .currents .lines) some lines-below)
 
-    pub words-one : k ≡ 1 → 5 ≡ length (gateStored used current g)
-    words-one e = omega (arith, ap length (written-one e), one-known e)
+      one-line : linesIn lines n ≡ line ∷ []
+      one-line =
+          alone (linesIn lines n) (linesIn (bitAnd lines (lines - 1)) n) line
+          (lines-lowest maxLines n lines (ready .currents .lines) some lines-below ∙ ap (λ (t : ℕ). t ∷ linesIn (bitAnd lines (lines - 1)) n) (sym low))
+          (lines-known ∙ sym is ∙ e)
+
+      pub written-one : gateStored used current g ≡ pos 1 ∷ pos 3 ∷ minus (used + 1) ∷ plus target ∷ literalAt current (g .positive) line ∷ []
+      written-one =
+          by-literals
+          ∙ ap (λ (l : List ℕ). stored (gateClauses used target (map (literalAt current (g .positive)) l))) one-line
+          ∙ one-stored used target (literalAt current (g .positive) line)
+          ∙ ap (λ (w : ℕ). pos 1 ∷ pos 3 ∷ minus w ∷ plus target ∷ literalAt current (g .positive) line ∷ []) (sym (add-one used))
 
     -- more
     module _ (a : k ≡ 0 → ⊥) (b : k ≡ 1 → ⊥) where
@@ -107,26 +159,18 @@ module _ (n used : ℕ) (current : List ℕ) (g : Gate) (room : ℕ) (ready : Re
           from (suc zero) x y = absurd (y refl)
           from (suc (suc j)) x y = omega arith
 
-      pub many-ready : Many (g .positive) (g .negative) k n used target room
+      pub many-ready : Many lines k n used target room
       many-ready =
           record {
-            apart = valid-facts n g (ready .gate) .apart;
-            count = is ∙ sym controls-known;
+            controls = record { below = lines-below; count = is ∙ sym lines-known };
             few = ready .few;
             target = target-small;
             enough = room-by (5 * k + 8) (ap (λ (t : Totals). t .words) (sizes-many k two) ∙ omega arith);
           }
 
-      pub written-many : gateStored used current g ≡ manyStored current used target (g .positive) (g .negative) n
+      pub written-many : gateStored used current g ≡ manyStored current used target (g .positive) lines n
       written-many = by-literals ∙ more-stored used target literals (omega (arith, literals-known, two))
 
       pub words-many : 5 * k + 8 ≡ length (gateStored used current g)
       words-many =
           omega (arith, literals-known, ap length written-many, many-words (suc used) (suc (suc used)) target literals)
-
--- a head of four words, and one literal in the lent rest
-pub one-filled : (head lits first o last : List ℤ) → length head ≡ 4 → 5 ≤ length first → o ≡ over head first
-    → last ≡ over lits (take (length o - 4) (drop 4 o)) → putMid 4 (length o - 4) o last ≡ over (head ++ lits) first
-one-filled head lits first o last h room e l =
-    let long : length o ≡ length first = ap length e ∙ over-length head first (omega arith) in
-    lent-over head lits first o last 4 e h (omega arith) l

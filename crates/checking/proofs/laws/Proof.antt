@@ -4,7 +4,7 @@ use Rattle.checking.proofs.step.Laws.{step-laws}
 use Rattle.checking.proofs.reduce.Relation.{reduce-laws}
 use Rattle.checking.proofs.StandIns.{stand-in-laws}
 use Rattle.checking.proofs.clauses.Laws.{clause-laws}
-use Rattle.checking.proofs.Equality.{equality}
+use Rattle.checking.proofs.EqualityLaws.{equality-laws}
 use Rattle.checking.proofs.Rows.{row-laws}
 use Rattle.checking.proofs.laws.Statement.{statement}
 use Rattle.checking.proofs.laws.Tie as tie
@@ -17,7 +17,7 @@ returns c =
       reductions = reduce-laws;
       stand-ins = stand-in-laws;
       clauses = clause-laws;
-      equality = equality;
+      equality = equality-laws;
       rows = row-laws;
     }
 

@@ -1,20 +1,21 @@
 -- `checking::emitter::put_gate` meets its contract. Assumes nothing.
-use mathlib.Core.Path.{_≡_, refl, sym, ap, ap₂, _∙_}
-use mathlib.Core.Bool.{true, false}
-use mathlib.Core.List.{List, [], _∷_, _++_}
-use Prim.Native.Nat.{_+_, _≤_, _<_}
+use mathlib.Core.Path.{sym, ap, ap₂, _∙_}
+use mathlib.Core.Bool.{Bool, true, false}
+use mathlib.Core.List.{List, [], _∷_}
+use Prim.Native.Nat.{_+_, _<_}
 use native.Mathlib.Omega.{arith}
 use lib.IntN.{ℤ, pos}
 use lib.ListN.{length}
 use borrow.Author.Needs.{needs}
 use mir.Syntax.{w16}
 use mir.Val.{toZ, ofZ}
+use Rattle.bits.specs.Digits.{bit}
 use Rattle.bits.specs.Lists.{over}
+use Rattle.checking.specs.Clauses.{plus, minus}
 use Rattle.checking.specs.Stored.{wordLimit}
-use Rattle.checking.specs.Emitter.{byLine, literalsIn}
+use Rattle.checking.specs.Emitter.{literalWord, byLine}
 use Rattle.checking.proofs.emitter.Signed.{literal-kept}
-use Rattle.checking.proofs.emitter.Parts.{lent-long}
-use Rattle.checking.proofs.emitter.Whole.{target-below, target-small, controls-known, room-none, written-none, room-one, written-one, words-one, many-ready, written-many, words-many, one-filled}
+use Rattle.checking.proofs.emitter.Whole.{target-below, target-small, room-none, written-none, room-one, line-below, written-one, many-ready, written-many, words-many}
 use Rattle.checking.proofs.emitter.put_gate.Statement.{statement}
 use Rattle.checking.proofs.emitter.put_gate.Tie as tie
 
@@ -73,6 +74,9 @@ returns c =
           ∙ ap (λ (l : List ℤ). over l (s .args .out .now)) (sym w);
     }
 
+lowest-requires : tie.Need-lowest-requires
+lowest-requires c κs = search needs
+
 add-literal-2 : tie.Need-add-literal-2
 add-literal-2 c = search needs
 
@@ -80,60 +84,67 @@ literal-requires-3 : tie.Need-literal-requires-3
 literal-requires-3 c κs = search needs
 
 literal-requires-4 : tie.Need-literal-requires-4
-literal-requires-4 c κs = v-small (c .before .before .before .before)
+literal-requires-4 c κs = v-small (c .before .before .before .before .before)
 
--- room for five words
-five : (c : tie.Then2) → 5 ≤ length (start (c .before .before) .args .out .now)
-five c = let k = c .before .before in room-one _ _ _ _ _ (start k .pre) _ (k .control-count .ensures) (c .if2 .taken)
+-- the line of the one control, and its variable
+line-in : (c : tie.After-lowest) → c .lowest .result < start (c .before .before .before) .args .n
+line-in c =
+    let k = c .before .before .before in
+    line-below _ _ _ _ _ (start k .pre) _ (k .control-count .ensures) (c .before .if2 .taken) (c .lowest .result) (c .lowest .ensures)
 
-put-4-requires-2 : tie.Need-put-4-requires-2
-put-4-requires-2 c κs = omega (arith, five (c .before .before .before))
+variable-small : (c : tie.After-lowest) → byLine (start (c .before .before .before) .args .current .now) (c .lowest .result) < wordLimit
+variable-small c = start (c .before .before .before) .pre .currents .small (c .lowest .result) (line-in c)
 
--- after the four words, the buffer is as long as before
-as-long : (c : tie.After-put-42) → length (c .put-42 .last .0) ≡ length (start (c .before .before .before .before .before .before) .args .out .now)
-as-long c = c .put-42 .kept .0
+mul-literal : tie.Need-mul-literal
+mul-literal c =
+    let low = c .before .before .before in
+    omega (arith, line-in low, start (low .before .before .before) .pre .currents .lines)
 
-four : (c : tie.After-out2) → 4 ≤ length (c .before .put-42 .last .0)
-four c = omega (arith, as-long (c .before), five (c .before .before .before .before .before))
+shared-slice-read-literal : tie.Need-shared-slice-read-literal
+shared-slice-read-literal c =
+    let low = c .before .before .before .before in
+    omega (arith, line-in low, start (low .before .before .before) .pre .currents .long)
 
-sub-put-literals : tie.Need-sub-put-literals
-sub-put-literals c = four c
+has-requires : tie.Need-has-requires
+has-requires c κs =
+    let low = c .before .before .before .before in
+    omega (arith, line-in low, start (low .before .before .before) .pre .currents .lines)
 
-part-put-literals-start : tie.Need-part-put-literals-start
-part-put-literals-start c = omega (arith, four c)
+literal-requires-5 : tie.Need-literal-requires-5
+literal-requires-5 c κs = variable-small (c .before .before .before .before .before)
 
-part-put-literals-end : tie.Need-part-put-literals-end
-part-put-literals-end c = search needs
-
-put-literals-requires : tie.Need-put-literals-requires
-put-literals-requires c κs =
-    let p = c .before .before in
-    let t = p .before .before .before .before in
+put-5-requires : tie.Need-put-5-requires
+put-5-requires c κs =
+    let t = c .before .before .before .before .before .before .before in
     let k = t .before .before in
-    (start k .pre .currents, omega (arith, lent-long (p .put-42 .last .0) 4, as-long p, five t, controls-known _ _ _ _ _ (start k .pre), k .control-count .ensures, t .if2 .taken))
+    room-one _ _ _ _ _ (start k .pre) _ (k .control-count .ensures) (t .if2 .taken)
 
 same-length-2 : tie.Need-same-length-2
 same-length-2 c = search needs
 
 returns-2 : tie.Need-returns-2
 returns-2 c =
-    let l = c .before in
-    let p = l .before .before .before in
-    let z = p .before in
-    let t = z .before .before .before in
-    let k = t .before .before in
+    let five = c .before in
+    let last = five .before in
+    let h = last .before in
+    let two = h .before .before in
+    let low = two .before .before .before in
+    let k = low .before .before .before in
     let s = start k in
-    let w = written-one _ _ _ _ _ (s .pre) _ (k .control-count .ensures) (t .if2 .taken) in
-    let v = byLine (s .args .current .now) (s .args .g .target) in
+    let o = s .args .out .now in
+    let line = low .lowest .result in
+    let w = written-one _ _ _ _ _ (s .pre) _ (k .control-count .ensures) (low .before .if2 .taken) line (low .lowest .ensures) in
+    let v = byLine (s .args .current .now) line in
     record {
-      answer = words-one _ _ _ _ _ (s .pre) _ (k .control-count .ensures) (t .if2 .taken);
+      answer = sym (ap length w);
       buffer =
-          one-filled (pos 1 ∷ pos 3 ∷ kept (z .before .literal3 .result) ∷ kept (z .literal4 .result) ∷ []) (literalsIn (s .args .current .now) (s .args .g .positive) (s .args .g .negative) (s .args .n)) (s .args .out .now) _ _ refl (five t)
-          (p .put-42 .ensures) (l .put-literals .ensures .buffer)
-          ∙ ap₂ (λ (x y : ℤ). over ((pos 1 ∷ pos 3 ∷ x ∷ y ∷ []) ++ literalsIn (s .args .current .now) (s .args .g .positive) (s .args .g .negative) (s .args .n)) (s .args .out .now))
-          (literal-kept (z .before .literal3 .result) false (s .args .used + 1) (omega (arith, s .pre .few)) (z .before .literal3 .ensures))
-          (literal-kept (z .literal4 .result) true v (v-small k) (z .literal4 .ensures))
-          ∙ ap (λ (x : List ℤ). over x (s .args .out .now)) (sym w);
+          five .put-5 .ensures
+          ∙ ap₂ (λ (x y : ℤ). over (pos 1 ∷ pos 3 ∷ x ∷ y ∷ kept (last .literal5 .result) ∷ []) o)
+          (literal-kept (two .before .literal3 .result) false (s .args .used + 1) (omega (arith, s .pre .few)) (two .before .literal3 .ensures))
+          (literal-kept (two .literal4 .result) true (byLine (s .args .current .now) (s .args .g .target)) (v-small k) (two .literal4 .ensures))
+          ∙ ap (λ (x : ℤ). over (pos 1 ∷ pos 3 ∷ minus (s .args .used + 1) ∷ plus (byLine (s .args .current .now) (s .args .g .target)) ∷ x ∷ []) o)
+          (literal-kept (last .literal5 .result) (bit (s .args .g .positive) line) v (variable-small low) (last .literal5 .ensures ∙ ap (λ (b : Bool). literalWord b v) (h .has .ensures)))
+          ∙ ap (λ (l : List ℤ). over l o) (sym w);
     }
 
 put-many-requires : tie.Need-put-many-requires
@@ -171,14 +182,15 @@ put-gate-spec =
     put-4-requires
     same-length
     returns
+    lowest-requires
     add-literal-2
     literal-requires-3
     literal-requires-4
-    put-4-requires-2
-    sub-put-literals
-    part-put-literals-start
-    part-put-literals-end
-    put-literals-requires
+    mul-literal
+    shared-slice-read-literal
+    has-requires
+    literal-requires-5
+    put-5-requires
     same-length-2
     returns-2
     put-many-requires
