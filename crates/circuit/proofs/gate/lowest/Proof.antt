@@ -1,9 +1,9 @@
--- `checking::emitter::lowest` meets its contract. Assumes nothing.
+-- `circuit::gate::lowest` meets its contract. Assumes nothing.
 use native.Mathlib.Omega.{arith}
 use lib.Count.{trailing-le}
 use borrow.Author.Needs.{needs}
-use Rattle.checking.proofs.emitter.lowest.Statement.{statement}
-use Rattle.checking.proofs.emitter.lowest.Tie as tie
+use Rattle.circuit.proofs.gate.lowest.Statement.{statement}
+use Rattle.circuit.proofs.gate.lowest.Tie as tie
 
 cast-result : tie.Need-cast-result
 cast-result c = omega (arith, trailing-le 64 (c .args .mask))
