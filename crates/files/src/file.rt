@@ -140,7 +140,11 @@ fn put_lines(words: &[u64], out: &mut [u8], table: &[u8]) -> usize
     let mut at = 0;
     let mut i = 0;
     while i < gates {
-        at += crate::file::put::put_gate_line(&mut out[at..], circuit::words::gate_at(words, i), table);
+        at += crate::file::put::put_gate_line(
+            &mut out[at..],
+            circuit::words::gate_at(words, i),
+            table,
+        );
         i += 1;
     }
     at + crate::file::put::put_end(&mut out[at..])
