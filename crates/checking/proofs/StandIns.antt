@@ -9,7 +9,7 @@ use Rattle.circuit.specs.declared.gate.Gate.{Gate}
 use Rattle.circuit.specs.Gate.{maxLines, notGate, valid}
 use Rattle.circuit.specs.Words.{allValid}
 use Rattle.checking.specs.declared.step.Kind.the-variants.{Cancel}
-use Rattle.checking.specs.Step.{differing, matchOf, scanFrom, searchFrom, replaced, Step, found, none, stepGates}
+use Rattle.checking.specs.Step.{differing, matchOf, scanFrom, searchFrom, replaced, found, none, stepGates}
 use Rattle.checking.specs.Reduce.{Reduced, reduceBy, reduceGates}
 use Rattle.checking.specs.StandIns.{StepOf, ReductionOf, alwaysNone, copying, idle, onceOnly, inventing, exchanging, StandInLaws}
 use Rattle.checking.proofs.step.Laws.{step-is, steps-step}
@@ -33,10 +33,6 @@ four-valid = refl
 two-step : stepGates two ≡ found 0 1 Cancel []
 unfolding stepGates searchFrom scanFrom matchOf differing replaced
 two-step = refl
-
-four-step : stepGates four ≡ found 0 1 Cancel two
-unfolding stepGates searchFrom scanFrom matchOf differing replaced
-four-step = refl
 
 two-reduced : reduceGates two ≡ record { left = []; pairs = 1; merges = 0 }
 unfolding reduceGates reduceBy stepGates searchFrom scanFrom matchOf differing replaced

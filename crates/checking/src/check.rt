@@ -3,7 +3,6 @@
 use crate::clauses::SizesAnswer;
 use circuit::gate::Gate;
 use circuit::words::CountAnswer;
-ghost use mathlib.Core.Path.{_≡_};
 ghost use Prim.Native.Nat.{_*_, _≤_};
 ghost use lib.ListN.{length};
 ghost use Rattle.circuit.specs.Outcome.{Yields};

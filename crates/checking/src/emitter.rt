@@ -74,7 +74,7 @@ pub(crate) fn put_5(out: &mut [i16], a: i16, b: i16, c: i16, d: i16, e: i16)
     out[4] = e;
 }
 
-// From the buffer's start, for each of k lines by rising line: its -c, in k words; then its OR (-p, c).
+// Of the controls on k lines, by rising line, every -c and then every OR (-p, c), at the buffer's start.
 fn put_controls(
     positive: u64,
     lines: u64,
