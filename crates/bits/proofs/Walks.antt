@@ -9,12 +9,12 @@ use base.Logic.{SProp, ent, emp, via, sep, snd∗, exE, id⊢}
 use prog.Wp.{Heap, Env, Calls, Loops}
 use ghost.Atoms.{Atoms, sem}
 use contract.Monad.{fact}
-use types.Kit.{Given, Go, Item, ‵, raw, _⊛_, some, later, Post, Sq, runs, lands, _$_, !, move, drop as let-go, use0, use1, split, pick, await}
+use types.Kit.{Given, Go, Item, ‵, raw, _⊛_, some, later, Post, Sq, runs, lands, _$_, _∵_, !, qed, move, drop as let-go, use0, use1, split, join, pick, frame, await, done}
 use types.Run.{Opds}
 use sound.WpLaws.{FmC}
-use denote.Laws.{Is, shows}
-use denote.RattleType.{RattleType}
-use denote.Signature.{typeAt}
+use denote.Laws.{Is, Ises, Are, Makess, owns-make, shows}
+use denote.RattleType.{RattleType, owns}
+use denote.Signature.{typeAt, typesAt}
 use denote.Steps.{facts, heard}
 use denote.Triple.Statement.{Contract, Triple}
 use denote.Triple.Call.{calls-at}
@@ -64,6 +64,9 @@ module _ {M : Type 1} (𝓤 : URA M) (H : Heap 𝓤) (A : Atoms 𝓤) (T : Ended
   abbrev R : RattleType
   R = typeAt (T .signature .result) (y .0 .0)
 
+  abbrev Ps : List RattleType
+  Ps = typesAt (T .signature .params) (y .0 .0)
+
   -- the tokens of what is passed
   abbrev Tokens : SProp 𝓤
   Tokens = alive 𝓤 H A (T .signature) (y .0 .0) (y .0 .1)
@@ -89,9 +92,15 @@ module _ {M : Type 1} (𝓤 : URA M) (H : Heap 𝓤) (A : Atoms 𝓤) (T : Ended
         split ! $ move ! (1 ∷ []) $ use1 W (raw (fact 𝓤 (φ r))) (said r) $ heard ! (φ r) (λ e.
         split ! $ move ! (1 ∷ []) $ facts ! R (Is R) (shows 𝓤 H A R) r (u ∷ []) (λ is. k u r e is))))
 
-    -- what is asked is had for nothing, as of values that own only facts
-    pub called-on-values : ent 𝓤 (emp 𝓤) (promise 𝓤 H A T c .pre y) → FmC 𝓤 H (W .laws) C → Triple 𝓤 (C f) (promise 𝓤 H A T c)
-        → Opds (Go {0}) W (raw (promise 𝓤 H A T c .pre y) ∷ Γ) E xs (promise 𝓤 H A T c .args y)
+    -- values that own only facts are all that is asked: no token, and no clause
+    pub called-on-values : Makess 𝓤 H A Ps (Ises Ps) → Are Ps (Ises Ps) (y .0 .3) (y .0 .4) → ent 𝓤 (emp 𝓤) Tokens → ent 𝓤 (emp 𝓤) (c (y .0 .0) (y .0 .3) .requires (y .1))
+        → FmC 𝓤 H (W .laws) C → Triple 𝓤 (C f) (promise 𝓤 H A T c) → Opds (Go {0}) W (raw (promise 𝓤 H A T c .pre y) ∷ Γ) E xs (promise 𝓤 H A T c .args y)
         → ((u : Val) (r : R .Denot) → φ r → Is R r (u ∷ []) → Sq W Γ (lands C Λ E d u rest q))
         → Sq W Γ (runs C Λ E (seq (call f xs d) rest) q)
-    called-on-values asked fm known passed k = use0 W (raw (promise 𝓤 H A T c .pre y)) asked $ called fm known passed (λ u r e is. let-go ! $ k u r e is)
+    called-on-values makes are no-token no-clause fm known passed k =
+        use0 W (raw (promise 𝓤 H A T c .pre y)) asked $ called fm known passed (λ u r e is. let-go ! $ k u r e is)
+      where
+        asked : ent 𝓤 (emp 𝓤) (promise 𝓤 H A T c .pre y)
+        asked =
+            qed W [] ∵ use0 W (raw (c (y .0 .0) (y .0 .3) .requires (y .1))) no-clause $
+            use0 W (‵ (owns Ps (y .0 .3) (y .0 .4))) (owns-make 𝓤 H A Ps (Ises Ps) makes (y .0 .3) (y .0 .4) are) $ use0 W (raw Tokens) no-token $ join ! $ frame ! $ done !
