@@ -40,15 +40,15 @@ impl RunAnswer {
         }
     }
 
-    // After gate i: the next state, or 7; a refusal stands.
-    fn advance(self, n: u64, i: usize, gate: Gate) -> RunAnswer
-        ensures { λ r. ⌜ ofRun r ≡ advanced n i gate (ofRun self) ⌝ }
+    // After the gate of that index: the next state, or 7; a refusal stands.
+    fn advance(self, n: u64, index: usize, gate: Gate) -> RunAnswer
+        ensures { λ r. ⌜ ofRun r ≡ advanced n index gate (ofRun self) ⌝ }
     {
         match self {
             RunAnswer::Refused(why) => RunAnswer::Refused(why),
             RunAnswer::State(state) => {
                 if !gate.valid(n) {
-                    return RunAnswer::Refused(Refusal::no_gate(i as u64));
+                    return RunAnswer::Refused(Refusal::no_gate(index as u64));
                 }
                 RunAnswer::State(gate.apply(state))
             }

@@ -1,8 +1,8 @@
 -- The laws of a run over gate records: gate by gate it has the outcome of the rules, which is that of a run on the gates' words. Assumes nothing.
-use mathlib.Core.Path.{_≡_, refl, sym, ap, ap₂, _∙_}
+use mathlib.Core.Path.{_≡_, refl, sym, ap, _∙_}
 use mathlib.Core.Bool.{true, false}
 use mathlib.Core.List.{List, [], _∷_}
-use Prim.Native.Nat.{ℕ, suc, _+_, _/_, _%_, _^_, _<_, _≤_}
+use Prim.Native.Nat.{ℕ, _+_, _/_, _%_, _^_, _<_, _≤_}
 use native.Mathlib.Numerals.{add-one}
 use native.Mathlib.Omega.{arith}
 use lib.Dec.{leb, ltb}
@@ -15,7 +15,7 @@ use Rattle.circuit.specs.declared.gate.Gate.{Gate}
 use Rattle.circuit.specs.Gate.{maxGates, valid, apply, notGate}
 use Rattle.circuit.specs.Outcome.{Outcome, served, refused, demand, andThen}
 use Rattle.circuit.specs.Refusal.{badState, badLineCount, tooManyGates}
-use Rattle.circuit.specs.Words.{gatesOf, wordsOf, lineCountGood, validFrom, checkOutcome}
+use Rattle.circuit.specs.Words.{gatesOf, wordsOf, lineCountGood, validFrom}
 use Rattle.circuit.specs.Run.{run, runOutcome, recordsOutcome, begun, goesOn, advanced, ended}
 use Rattle.circuit.proofs.Outcome.{demand-met, demand-failed, then-refused}
 use Rattle.circuit.proofs.words.Laws.{words-length, gates-words, from-good, from-bad, size-good, size-many, gates-sized, check-gates}

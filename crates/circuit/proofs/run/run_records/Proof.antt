@@ -1,7 +1,7 @@
 -- `circuit::run::run_records` meets its contract: a walk of its MIR by hand, a loop over a lent slice of records with calls of proved methods.
 -- What `gates` owns can be had twice. It is kept whole beside the lifetime's token; a turn looks into the borrow in a copy of it, reads record i, and shuts the borrow, which gives the token back.
 -- The loop's invariant: what the gates from i on make of the answer is what all gates make of the first answer. The measure: the number of gates left. Assumes nothing.
-use mathlib.Core.Path.{_≡_, refl, sym, _∙_, ap, subst}
+use mathlib.Core.Path.{_≡_, refl, sym, _∙_, ap}
 use Prim.Native.Nat.{ℕ, _<_, _≤_, _+_, _-_, _^_}
 use native.Mathlib.Omega.{arith}
 use mathlib.Core.List.{List, [], _∷_}

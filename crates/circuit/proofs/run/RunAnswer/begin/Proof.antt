@@ -1,9 +1,7 @@
 -- `circuit::run::RunAnswer::begin` meets its contract. Assumes nothing.
-use mathlib.Core.Path.{_≡_, sym, _∙_}
-use mathlib.Core.Bool.{true}
+use mathlib.Core.Path.{sym, _∙_}
 use borrow.Author.Needs.{needs}
 use borrow.Author.Tests.{le-leb, lt-leb, not-true, not-false}
-use Rattle.circuit.specs.Words.{lineCountGood}
 use Rattle.circuit.proofs.Outcome.{why, demand-met, demand-failed}
 use Rattle.circuit.proofs.run.RunAnswer.begin.Statement.{statement}
 use Rattle.circuit.proofs.run.RunAnswer.begin.Tie as tie

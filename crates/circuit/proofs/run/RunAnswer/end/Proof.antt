@@ -1,5 +1,5 @@
 -- `circuit::run::RunAnswer::end` meets its contract. Assumes nothing.
-use mathlib.Core.Path.{_≡_, sym, ap, _∙_}
+use mathlib.Core.Path.{sym, ap, _∙_}
 use borrow.Author.Needs.{needs}
 use borrow.Author.Tests.{not-true, not-false}
 use Rattle.circuit.specs.Run.{ofRun}
