@@ -1,0 +1,2 @@
+-- `Lends` has what a proof by hand needs that lends the first elements of a local array.
+pub mod Lends
