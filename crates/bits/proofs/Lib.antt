@@ -1,6 +1,7 @@
--- For the proofs of the crates above: `Bools` has laws on tests, `Digits` and `Single` those on digits, `Lists` those on lists and buffers, and `Walks` what a proof by hand over a lent slice of records needs.
+-- For the proofs of the crates above: `Bools` has laws on tests, `Digits` and `Single` those on digits, and `Lists` those on lists and buffers. Proofs by hand over lent slices of records use `Walks`, those that lend a local array `Lends`.
 pub mod Bools
 pub mod Digits
+pub mod Lends
 pub mod Lists
 pub mod Single
 pub mod Walks

@@ -42,6 +42,7 @@ impl RunAnswer {
 
     // After the gate of that index: the next state, or 7; a refusal stands.
     fn advance(self, n: u64, index: usize, gate: Gate) -> RunAnswer
+        requires { ⌜ n ≤ maxLines ⌝ }
         ensures { λ r. ⌜ ofRun r ≡ advanced n index gate (ofRun self) ⌝ }
     {
         match self {
@@ -50,7 +51,7 @@ impl RunAnswer {
                 if !gate.valid(n) {
                     return RunAnswer::Refused(Refusal::no_gate(index as u64));
                 }
-                RunAnswer::State(gate.apply(state))
+                RunAnswer::State(gate.invert(state))
             }
         }
     }

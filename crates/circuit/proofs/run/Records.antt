@@ -12,13 +12,13 @@ use borrow.Author.Tests.{leb-true, leb-false, ltb-true, ltb-false}
 use Rattle.bits.specs.Lists.{fold}
 use Rattle.bits.proofs.Bools.{either, refuted}
 use Rattle.circuit.specs.declared.gate.Gate.{Gate}
-use Rattle.circuit.specs.Gate.{maxGates, valid, apply, notGate}
+use Rattle.circuit.specs.Gate.{maxLines, maxGates, valid, apply, notGate}
 use Rattle.circuit.specs.Outcome.{Outcome, served, refused, demand, andThen}
 use Rattle.circuit.specs.Refusal.{badState, badLineCount, tooManyGates}
 use Rattle.circuit.specs.Words.{gatesOf, wordsOf, lineCountGood, validFrom}
 use Rattle.circuit.specs.Run.{run, runOutcome, recordsOutcome, begun, goesOn, advanced, ended}
 use Rattle.circuit.proofs.Outcome.{demand-met, demand-failed, then-refused}
-use Rattle.circuit.proofs.words.Laws.{words-length, gates-words, from-good, from-bad, size-good, size-many, gates-sized, check-gates}
+use Rattle.circuit.proofs.words.Laws.{words-length, gates-words, from-good, from-bad, lines-good, size-good, size-many, gates-sized, check-gates}
 use Rattle.circuit.proofs.run.Laws.{run-lines, run-size}
 
 -- ---- gate by gate
@@ -87,6 +87,12 @@ pub through-end : (n i : ℕ) (gs : List Gate) (o : Outcome ℕ) → goesOn o i 
 unfolding through
 through-end n i gs (served s) e = ap (λ (l : List Gate). through n i l (served s)) (drop-of-length-le gs (ltb-false i (length gs) e))
 through-end n i gs (refused number place) e = through-refused n i (drop i gs) number place
+
+-- where the run begins to go on, the line count is good
+pub begun-lines : (n count s i : ℕ) → goesOn (begun n count s) i count ≡ true → n ≤ maxLines
+begun-lines n count s i e =
+    either (lineCountGood n) (λ a. lines-good n a .1)
+    (λ a. absurd (refuted (ap (λ (o : Outcome ℕ). goesOn o i count) (demand-failed _ _ _ _ a)) e))
 
 -- where it goes on, there is a gate i
 pub goes-inside : (o : Outcome ℕ) (i count : ℕ) → goesOn o i count ≡ true → i < count

@@ -53,7 +53,7 @@ use Rattle.circuit.proofs.run.run_records as run-records
 use Rattle.circuit.proofs.run.run_records.Symbol as records-def
 use Rattle.circuit.proofs.run.run_records.Symbol.{name as #records}
 use Rattle.circuit.proofs.run.run_records.Met as records-thm
-use Rattle.record_rows.proofs.Lends.{behind, Row, apart, together}
+use Rattle.bits.proofs.Lends.{behind, Row, apart, together}
 use Rattle.record_rows.proofs.run_first.Key.{name as #run-first}
 use Rattle.record_rows.proofs.run_first as run-first
 use Rattle.record_rows.proofs.run_first.Statement as stated

@@ -21,7 +21,7 @@ use prog.Memory.{Memory}
 use prog.Routine.{Routine}
 use prog.Wp.{Heap, Out, Env, afterSeq, afterBlock, afterTurn, Calls, Loops, Wp, atReturn, WpFn, Tables}
 use ghost.Atoms.{Atoms}
-use contract.Monad.{Fun}
+use contract.Monad.{Fun, factI}
 use contract.Running.{givenOf, tables, tablesOf}
 use types.Kit.{Given, Item, ‵, _⊛_, ⋆, anyQ, atRet, Sq, runs, _$_, _∵_, !, qed, by, move, keep, drop as let-go, use1, split, join, rewrite, fsplit, fjoin, suffices, frame, done}
 use types.Part.{whole, sub, look-in}
@@ -46,7 +46,7 @@ use denote.Triple.Walked.{says, Stays, stay-none-slice, stay-none, walkOf, goes-
 use denote.Exit.{yes}
 use Rattle.bits.proofs.Bools.{either}
 use Rattle.bits.proofs.Walks.{after, offset-fits, next-fits, next-le, nearer, promise, called-on-values}
-use Rattle.circuit.specs.Gate.{notGate}
+use Rattle.circuit.specs.Gate.{maxLines, notGate}
 use Rattle.circuit.specs.Run.{recordsOutcome, begun, goesOn, advanced, ended, ofRun}
 use Rattle.circuit.specs.declared.gate.Gate.{Gate}
 use Rattle.circuit.specs.declared.run.RunAnswer.{RunAnswer}
@@ -71,7 +71,7 @@ use Rattle.circuit.proofs.run.RunAnswer.end.Symbol as finish-def
 use Rattle.circuit.proofs.run.RunAnswer.end.Symbol.{name as #finish}
 use Rattle.circuit.proofs.run.RunAnswer.end.Met as finish-thm
 use Rattle.circuit.proofs.run.Answers.{IsAnswer, told, as-told, makes-answer, lawful-answer}
-use Rattle.circuit.proofs.run.Records.{through, records-through, through-turn, through-end, goes-inside}
+use Rattle.circuit.proofs.run.Records.{through, records-through, through-turn, through-end, begun-lines, goes-inside}
 use Rattle.circuit.proofs.run.run_records.Key.{name as #run-records}
 use Rattle.circuit.proofs.run.run_records as run-records
 use Rattle.circuit.proofs.run.run_records.Statement as stated
@@ -154,6 +154,7 @@ module _ {M : Type 1} (𝓤 : URA M) (H : Heap 𝓤) (A : Atoms 𝓤) (W : Given
     pub answer : RunAnswer
     pub inside : i ≤ count
     pub is : IsAnswer answer
+    pub lines : goesOn (ofRun answer) i count ≡ true → n ≤ maxLines
     pub left : ended n state (through n i (drop i gs) (ofRun answer)) ≡ recordsOutcome n gs state
 
   abbrev Nearer : Stand → Stand → Type 0
@@ -164,19 +165,20 @@ module _ {M : Type 1} (𝓤 : URA M) (H : Heap 𝓤) (A : Atoms 𝓤) (W : Given
 
   -- the first answer, at 0
   starts : (a : RunAnswer) → IsAnswer a → ofRun a ≡ begun n count state → Stand
-  starts a is e = record { i = 0; answer = a; inside = omega arith; is = is; left = ap (λ (p : _). ended n state (through n 0 gs p)) e ∙ records-through n gs state }
+  starts a is e = record { i = 0; answer = a; inside = omega arith; is = is; lines = λ g. begun-lines n count state 0 (sym (ap (λ (p : _). goesOn p 0 count) e) ∙ g); left = ap (λ (p : _). ended n state (through n 0 gs p)) e ∙ records-through n gs state }
 
   index-fits : (t : Stand) → t .i < 2 ^ 64
   index-fits t = let l = t .inside in let r = room .0 in omega arith
 
   -- one gate further
-  next : (t : Stand) → t .i < count → (a : RunAnswer) → IsAnswer a → ofRun a ≡ advanced n (t .i) (getD gs (t .i) (notGate 0)) (ofRun (t .answer)) → Stand
-  next t less a is e =
+  next : (t : Stand) → t .i < count → n ≤ maxLines → (a : RunAnswer) → IsAnswer a → ofRun a ≡ advanced n (t .i) (getD gs (t .i) (notGate 0)) (ofRun (t .answer)) → Stand
+  next t less low a is e =
       record {
         i = t .i + 1;
         answer = a;
         inside = next-le (t .i) count less;
         is = is;
+        lines = λ g. low;
         left = ap (λ (p : _). ended n state (through n (t .i + 1) (drop (t .i + 1) gs) p)) e ∙ sym (ap (ended n state) (through-turn n (t .i) gs (ofRun (t .answer)) less)) ∙ t .left;
       }
 
@@ -213,9 +215,9 @@ module _ {M : Type 1} (𝓤 : URA M) (H : Heap 𝓤) (A : Atoms 𝓤) (W : Given
         ∷ ‵ (froom word l₆ 0) ∷ ‵ (fdies word l₆) ∷ Outer t
 
     -- the test holds: gate i advances the answer
-    goes-on : (t : Stand) → t .i < count → Sq W (Tested t true) (runs C Λ En (after (after (after code-mir.turn-1))) (anyQ (Turned t)))
+    goes-on : (t : Stand) → t .i < count → n ≤ maxLines → Sq W (Tested t true) (runs C Λ En (after (after (after code-mir.turn-1))) (anyQ (Turned t)))
     unfolding afterTurn next
-    goes-on t less =
+    goes-on t less low =
         -- _9 = the place of gates[i]
         assigns ! (bin ! (load ! (from ! (stop !)) (look ! 10 refl)) (lit ! tt) (record { fits = offset-fits i count less (room .1) })) (from ! (stop !)) (store ! 4 refl (tt, record { fits = offset-fits i count less (room .1) })) $
         assigns ! (bin ! (load ! (from ! (fld ! refl (stop !))) (look-in ! 16 (sub ! 0 refl (whole !)))) (load ! (from ! (stop !)) (look ! 4 refl)) tt) (from ! (stop !)) (init ! 2 refl (tt, tt)) $
@@ -229,13 +231,13 @@ module _ {M : Type 1} (𝓤 : URA M) (H : Heap 𝓤) (A : Atoms 𝓤) (W : Given
         elem-back ! G.the-row q′ gs i (notGate 0) (G′.lowered gate ∷ []) b o less $ shuts-slice ! tt G.the-row q′ gs b o $ move ! (1 ∷ []) $ let-go ! $
         -- [the token; what gates owns; _10; …; _0; …]: _4 = the answer after the gate
         called-on-values 𝓤 H A advance.ended (advance.clauses 𝓤 H A mem run) (to-advance 𝓤 H A mem run (t .answer) n i gate) (λ r. ofRun r ≡ advanced n i gate (ofRun (t .answer))) (λ r e. id⊢ 𝓤 _)
-        (makes-answer 𝓤 H A, (makes-u64, (makes-u64, (LL.makes G.the-type G′.the-plain 𝓤 H A, tt)))) (t .is, ((refl, fn), ((refl, index-fits t), (g, tt)))) (id⊢ 𝓤 _) (id⊢ 𝓤 _) (fmOf 𝓤 H (W .laws) 𝓣) (known .advances)
+        (makes-answer 𝓤 H A, (makes-u64, (makes-u64, (LL.makes G.the-type G′.the-plain 𝓤 H A, tt)))) (t .is, ((refl, fn), ((refl, index-fits t), (g, tt)))) (id⊢ 𝓤 _) (factI 𝓤 (n ≤ maxLines) (emp 𝓤) low) (fmOf 𝓤 H (W .laws) 𝓣) (known .advances)
         (and-then ! (load ! (from ! (stop !)) (look ! 15 refl)) (and-then ! (load ! (from ! (stop !)) (look ! 21 refl)) (and-then ! (load ! (from ! (stop !)) (look ! 13 refl)) (and-then ! (load ! (from ! (stop !)) (look ! 3 refl)) (no-more !))))) (λ u r e is.
         land ! (from ! (stop !)) (store ! 14 refl (lawful-answer 𝓤 H A W .typed r (u ∷ []) is .0)) $ rewrite ! 14 (λ (w : Val). ‵ (fat fullShare answer-ty l₄ 0 w)) (ap only (told r u is)) refl $
         -- _5 = i + 1, and the turn ends
         assigns-last ! (bin ! (load ! (from ! (stop !)) (look ! 12 refl)) (lit ! tt) (record { fits = next-fits i count less (room .0) })) (from ! (stop !)) (store ! 12 refl (tt, record { fits = next-fits i count less (room .0) })) $
         forget ! 2 refl $ forget ! 4 refl $ forget ! 6 refl $ forget ! 8 refl $
-        move ! (2 ∷ 3 ∷ 4 ∷ 5 ∷ 6 ∷ 7 ∷ 8 ∷ 9 ∷ 10 ∷ 11 ∷ 12 ∷ 13 ∷ 14 ∷ 15 ∷ 16 ∷ 17 ∷ 18 ∷ 19 ∷ 20 ∷ 21 ∷ 22 ∷ 23 ∷ []) $ again ! Nearer At t (next t less r (as-told r u is) e) (nearer i count less))))
+        move ! (2 ∷ 3 ∷ 4 ∷ 5 ∷ 6 ∷ 7 ∷ 8 ∷ 9 ∷ 10 ∷ 11 ∷ 12 ∷ 13 ∷ 14 ∷ 15 ∷ 16 ∷ 17 ∷ 18 ∷ 19 ∷ 20 ∷ 21 ∷ 22 ∷ 23 ∷ []) $ again ! Nearer At t (next t less low r (as-told r u is) e) (nearer i count less))))
       where
         i : ℕ
         i = t .i
@@ -269,7 +271,7 @@ module _ {M : Type 1} (𝓤 : URA M) (H : Heap 𝓤) (A : Atoms 𝓤) (W : Given
         either r
         (λ y.
         rewrite ! 6 (λ (z : Bool). ‵ (fat fullShare tyBool l₇ 0 (vbool z))) y refl $ stays ! (load ! (from ! (stop !)) (look ! 6 refl)) $
-        goes-on t (goes-inside (ofRun (t .answer)) (t .i) count (sym e ∙ y)))
+        goes-on t (goes-inside (ofRun (t .answer)) (t .i) count (sym e ∙ y)) (t .lines (sym e ∙ y)))
         (λ y.
         rewrite ! 6 (λ (z : Bool). ‵ (fat fullShare tyBool l₇ 0 (vbool z))) y refl $ leaves-loop ! (load ! (from ! (stop !)) (look ! 6 refl)) $ exec ! C Λ En code-mir.t-5 (atRet En Post) $
         leaves t (sym e ∙ y)))
