@@ -1,5 +1,5 @@
 -- `record_rows::run_first` meets its contract: a walk of its MIR by hand. The array is copied into a slot, and its first `count` gates are lent to `run_records` for a lifetime that the walk makes and ends; the others stay. Assumes nothing.
-use mathlib.Core.Path.{_≡_, refl, sym, ap, subst}
+use mathlib.Core.Path.{_≡_, refl, sym, subst}
 use Prim.Native.Nat.{ℕ, _<_, _≤_, _^_}
 use native.Mathlib.Omega.{arith}
 use mathlib.Core.List.{List, [], _∷_}
@@ -67,7 +67,7 @@ N = 1025
 abbrev Arr : RattleType
 Arr = Array G.the-row N
 
--- ---- the types of locals, as the function's MIR spells them
+-- the slice's type in a local
 abbrev slice : Ty
 slice = sliceTy (tyRef erased imm (pointee (G.the-row .written)))
 

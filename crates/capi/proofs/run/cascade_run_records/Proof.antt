@@ -12,7 +12,7 @@ use base.Logic.{SProp, ent, emp, via, fst∗, id⊢}
 use base.Fml.{Lft, Share, ftrue, fat, flft}
 use prog.Memory.{Memory}
 use prog.Routine.{Routine}
-use prog.Wp.{Heap, Calls, Loops, WpFn, Tables}
+use prog.Wp.{Heap, WpFn, Tables}
 use ghost.Atoms.{Atoms}
 use contract.Monad.{Fun}
 use contract.Running.{givenOf, tables, tablesOf}
@@ -66,16 +66,9 @@ use Rattle.capi.proofs.run.cascade_run_records.Code.Mir as code-mir
 abbrev stayed : Stays (records.ended .signature .params) (records.ended .kept)
 stayed = (stay-none (λ _. u64) yes, (stay-none-slice (0 ∷ []) tt (plain (λ _. G.the-row)) yes, (stay-none (λ _. u64) yes, tt)))
 
--- ---- the types of locals, as the function's MIR spells them
+-- the type of an answer in a local, as the function's MIR spells it
 abbrev answer-ty : Ty
 answer-ty = spell code-mir.table (pointee (S.the-row .written))
-
-abbrev result-ty : Ty
-result-ty = spell code-mir.table (pointee (R.the-row .written))
-
--- the result's machine value
-result-told : (a : CascadeRunAnswer) (u : Val) → Is R.the-row a (u ∷ []) → u ∷ [] ≡ R′.lowered a ∷ []
-result-told a u is = R′.lowers .val-is a (u ∷ []) is
 
 module _ {M : Type 1} (𝓤 : URA M) (H : Heap 𝓤) (A : Atoms 𝓤) (mem : Memory → SProp 𝓤) (run : Routine → Fun 𝓤) where
   abbrev to-answer : RunAnswer → promise 𝓤 H A answer.ended (answer.clauses 𝓤 H A mem run) .Ghost

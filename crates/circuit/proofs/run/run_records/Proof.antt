@@ -219,7 +219,7 @@ module _ {M : Type 1} (𝓤 : URA M) (H : Heap 𝓤) (A : Atoms 𝓤) (W : Given
     unfolding afterTurn next
     goes-on t less low =
         -- _9 = the place of gates[i]
-        assigns ! (bin ! (load ! (from ! (stop !)) (look ! 10 refl)) (lit ! tt) (record { fits = offset-fits i count less (room .1) })) (from ! (stop !)) (store ! 4 refl (tt, record { fits = offset-fits i count less (room .1) })) $
+        assigns ! (bin ! (load ! (from ! (stop !)) (look ! 10 refl)) (lit ! tt) (record { fits = offset-fits 24 i count less (room .1) })) (from ! (stop !)) (store ! 4 refl (tt, record { fits = offset-fits 24 i count less (room .1) })) $
         assigns ! (bin ! (load ! (from ! (fld ! refl (stop !))) (look-in ! 16 (sub ! 0 refl (whole !)))) (load ! (from ! (stop !)) (look ! 4 refl)) tt) (from ! (stop !)) (init ! 2 refl (tt, tt)) $
         rewrite ! 2 (λ (p : ℕ). ‵ (fat fullShare tyPtr l₉ 0 (vptr b p))) (sym (place-is 24 o i)) refl $
         -- [_10; …; the token; what gates owns]: a copy of what gates owns is taken apart, for the borrow in it
