@@ -1,5 +1,5 @@
 -- `circuit::run::run_records` meets its contract: a walk of its MIR by hand, a loop over a lent slice of records with calls of proved methods.
--- What `gates` owns can be had twice. It is kept whole beside the lifetime's token; a turn looks into the borrow in a copy of it, reads record i, and shuts the borrow, which gives the token back.
+-- What `gates` owns is kept whole beside the lifetime's token. A turn opens its borrow at record i, reads the record, and shuts the borrow, which gives the token back.
 -- The loop's invariant: what the gates from i on make of the answer is what all gates make of the first answer. The measure: the number of gates left. Assumes nothing.
 use mathlib.Core.Path.{_≡_, refl, sym, _∙_, ap}
 use Prim.Native.Nat.{ℕ, _<_, _≤_, _+_, _-_, _^_}
@@ -23,18 +23,18 @@ use prog.Wp.{Heap, Out, Env, afterSeq, afterBlock, afterTurn, Calls, Loops, Wp, 
 use ghost.Atoms.{Atoms}
 use contract.Monad.{Fun, factI}
 use contract.Running.{givenOf, tables, tablesOf}
-use types.Kit.{Given, Item, ‵, _⊛_, ⋆, anyQ, atRet, Sq, runs, _$_, _∵_, !, qed, by, move, keep, drop as let-go, use1, split, join, rewrite, fsplit, fjoin, suffices, frame, done}
+use types.Kit.{Given, Item, ‵, _⊛_, ⋆, anyQ, atRet, Sq, runs, _$_, _∵_, !, qed, by, move, keep, split, join, rewrite, fsplit, fjoin, suffices, frame, done}
 use types.Part.{whole, sub, look-in}
 use types.Run.{look, look-raw, store, init, forget, stop, hop, fld, from, load, lit, of-opd, bin, and-then, no-more, assigns, assigns-last, land, stays, leaves-loop, first, blocks, loops, again, Below, exec, returns, enter, alloc1, alloc0, params1, pass1, pass0, free1, free0}
 use sound.WpLaws.{fmOf, WpFn-mono}
 use denote.RattleType.{owns}
-use denote.Laws.{Is, Makes, shows}
+use denote.Laws.{Is, Makes}
 use denote.Memory.{pointee}
 use denote.Plain.{uint-vals, uint-tells, uint-makes, bool-lawful}
 use denote.Builtin.{u64}
-use denote.Index.{place-is, elem-out, elem-back, looks-slice, shuts-slice}
+use denote.Index.{place-is}
 use denote.Ref.{RefT}
-use denote.Slice.{sliceTy, sliceVal, ShrSlice, Room, slice-vals, shr-slice-tells, shr-slice-copy}
+use denote.Slice.{sliceTy, sliceVal, ShrSlice, Room, slice-vals, shr-slice-tells}
 use denote.Signature.{plain}
 use denote.Steps.{only, owned, nothing}
 use denote.Struct.Laws as LL
@@ -45,7 +45,7 @@ use denote.Triple.Table.{entered, cited}
 use denote.Triple.Walked.{says, Stays, stay-none-slice, stay-none, walkOf, goes-none-slice, goes-none, Walks, ends-at, walked, walk-meets}
 use denote.Exit.{yes}
 use Rattle.bits.proofs.Bools.{either}
-use Rattle.bits.proofs.Walks.{after, offset-fits, next-fits, next-le, nearer, promise, called-on-values}
+use Rattle.bits.proofs.Walks.{after, offset-fits, next-fits, next-le, nearer, opens, shuts, promise, called-on-values}
 use Rattle.circuit.specs.Gate.{maxLines, notGate}
 use Rattle.circuit.specs.Run.{recordsOutcome, begun, goesOn, advanced, ended, ofRun}
 use Rattle.circuit.specs.declared.gate.Gate.{Gate}
@@ -222,13 +222,11 @@ module _ {M : Type 1} (𝓤 : URA M) (H : Heap 𝓤) (A : Atoms 𝓤) (W : Given
         assigns ! (bin ! (load ! (from ! (stop !)) (look ! 10 refl)) (lit ! tt) (record { fits = offset-fits 24 i count less (room .1) })) (from ! (stop !)) (store ! 4 refl (tt, record { fits = offset-fits 24 i count less (room .1) })) $
         assigns ! (bin ! (load ! (from ! (fld ! refl (stop !))) (look-in ! 16 (sub ! 0 refl (whole !)))) (load ! (from ! (stop !)) (look ! 4 refl)) tt) (from ! (stop !)) (init ! 2 refl (tt, tt)) $
         rewrite ! 2 (λ (p : ℕ). ‵ (fat fullShare tyPtr l₉ 0 (vptr b p))) (sym (place-is 24 o i)) refl $
-        -- [_10; …; the token; what gates owns]: a copy of what gates owns is taken apart, for the borrow in it
-        move ! (23 ∷ []) $ use1 W (‵ Own ⊛ ‵ Own) (shr-slice-copy 𝓤 H A W (named 0) κ G.the-row .twice x (v ∷ [])) $ split ! $ fsplit ! $ let-go ! $ fsplit ! $ let-go ! $ move ! (0 ∷ 24 ∷ []) $
-        looks-slice ! tt G.the-row (Is G.the-row) (shows 𝓤 H A G.the-row) (LL.vals G.the-type G′.the-laws) (LL.tells G.the-type G′.the-laws) (LL.copy G.the-type G′.the-copy 𝓤 H A W) gs b o (λ q′.
-        elem-out ! G.the-row (Is G.the-row) (shows 𝓤 H A G.the-row) (LL.vals G.the-type G′.the-laws) (LL.tells G.the-type G′.the-laws) q′ gs i (notGate 0) b o less (λ g.
+        -- [_10; …; _0; …; the token; what gates owns]: the borrow is opened at gates[i]
+        move ! (23 ∷ 22 ∷ []) $ opens 𝓤 H A G.the-row vals (named 0) κ q x (v ∷ []) i (notGate 0) tt less (LL.tells G.the-type G′.the-laws) (LL.copy G.the-type G′.the-copy 𝓤 H A W) (λ q′ g.
         -- [gates[i]; what it owns; the others; what shuts; the borrow; what gates owns; _10; …]: _10 = gates[i], and the borrow is shut
         assigns ! (of-opd ! (load ! (from ! (hop ! (look ! 8 refl) (stop !))) (look-raw ! 0 refl))) (from ! (stop !)) (init ! 6 refl (LL.lawful G.the-type G′.the-laws 𝓤 H A W .typed gate (G′.lowered gate ∷ []) g .0)) $
-        elem-back ! G.the-row q′ gs i (notGate 0) (G′.lowered gate ∷ []) b o less $ shuts-slice ! tt G.the-row q′ gs b o $ move ! (1 ∷ []) $ let-go ! $
+        shuts 𝓤 H A G.the-row vals (named 0) κ q x (v ∷ []) i (notGate 0) tt less q′ $
         -- [the token; what gates owns; _10; …; _0; …]: _4 = the answer after the gate
         called-on-values 𝓤 H A advance.ended (advance.clauses 𝓤 H A mem run) (to-advance 𝓤 H A mem run (t .answer) n i gate) (λ r. ofRun r ≡ advanced n i gate (ofRun (t .answer))) (λ r e. id⊢ 𝓤 _)
         (makes-answer 𝓤 H A, (makes-u64, (makes-u64, (LL.makes G.the-type G′.the-plain 𝓤 H A, tt)))) (t .is, ((refl, fn), ((refl, index-fits t), (g, tt)))) (id⊢ 𝓤 _) (factI 𝓤 (n ≤ maxLines) (emp 𝓤) low) (fmOf 𝓤 H (W .laws) 𝓣) (known .advances)
@@ -237,13 +235,16 @@ module _ {M : Type 1} (𝓤 : URA M) (H : Heap 𝓤) (A : Atoms 𝓤) (W : Given
         -- _5 = i + 1, and the turn ends
         assigns-last ! (bin ! (load ! (from ! (stop !)) (look ! 12 refl)) (lit ! tt) (record { fits = next-fits i count less (room .0) })) (from ! (stop !)) (store ! 12 refl (tt, record { fits = next-fits i count less (room .0) })) $
         forget ! 2 refl $ forget ! 4 refl $ forget ! 6 refl $ forget ! 8 refl $
-        move ! (2 ∷ 3 ∷ 4 ∷ 5 ∷ 6 ∷ 7 ∷ 8 ∷ 9 ∷ 10 ∷ 11 ∷ 12 ∷ 13 ∷ 14 ∷ 15 ∷ 16 ∷ 17 ∷ 18 ∷ 19 ∷ 20 ∷ 21 ∷ 22 ∷ 23 ∷ []) $ again ! Nearer At t (next t less low r (as-told r u is) e) (nearer i count less))))
+        move ! (2 ∷ 3 ∷ 4 ∷ 5 ∷ 6 ∷ 7 ∷ 8 ∷ 9 ∷ 10 ∷ 11 ∷ 12 ∷ 13 ∷ 14 ∷ 15 ∷ 16 ∷ 17 ∷ 18 ∷ 19 ∷ 20 ∷ 21 ∷ 22 ∷ 23 ∷ []) $ again ! Nearer At t (next t less low r (as-told r u is) e) (nearer i count less)))
       where
         i : ℕ
         i = t .i
 
         gate : Gate
         gate = getD gs i (notGate 0)
+
+        vals : Gate → List Val
+        vals = LL.vals G.the-type G′.the-laws
 
     -- the test fails: the loop is left, the input is tested, and the locals are freed
     leaves : (t : Stand) → goesOn (ofRun (t .answer)) (t .i) count ≡ false → Sq W (Tested t false) (runs C Λ En code-mir.t-5 (atRet En Post))
