@@ -94,7 +94,10 @@ fn stop(b: u64) -> bool
 fn sign(b: u64) -> bool
     ensures { λ r. ⌜ r ≡ (eqb b plus || eqb b minus) ⌝ }
 {
-    (b == 43) | (b == 45)
+    match b {
+        43 | 45 => true,
+        _ => false,
+    }
 }
 
 // How many digits a number below 100 has.
