@@ -135,6 +135,17 @@ fn number(text: &[u8], at: usize) -> u64
     10 * (a - 48) + (b - 48)
 }
 
+// How many bytes the field at a position has, which are one or two.
+fn field_size(text: &[u8], at: usize) -> usize
+    requires { ⌜ (at ≤ length (now text)) × (1 ≤ length (fieldAt (drop at (now text)))) × (length (fieldAt (drop at (now text))) ≤ 2) ⌝ }
+    ensures { λ r. ⌜ r ≡ length (fieldAt (drop at (now (text .entry)))) ⌝ }
+{
+    if stop(byte(text, at + 1)) {
+        return 1;
+    }
+    2
+}
+
 // Whether the text at a position starts with the word.
 fn starts(text: &[u8], at: usize, word: &[u8]) -> bool
     requires { ⌜ at ≤ length (now text) ⌝ }
@@ -260,7 +271,7 @@ fn controls(text: &[u8], first: usize, n: u64, place: u64, target: u64) -> GateA
             }
             ControlAnswer::Control { line, positive } => {
                 seen = seen.add(target, line, positive);
-                at += 2 + digits(line);
+                at += 2 + field_size(text, at + 2);
             }
         }
     }
@@ -297,7 +308,7 @@ pub(crate) fn gate_line(text: &[u8], start: usize, n: u64, place: u64) -> GateAn
     let at = start + 2;
     match line(text, at, n, place) {
         LineAnswer::Refused(why) => GateAnswer::Refused(why),
-        LineAnswer::Line(target) => controls(text, at + digits(target), n, place, target),
+        LineAnswer::Line(target) => controls(text, at + field_size(text, at), n, place, target),
     }
 }
 

@@ -11,6 +11,7 @@ use Rattle.files.specs.File.{lineOf}
 use Rattle.circuit.specs.Outcome.{served}
 use Rattle.files.specs.Scan.{fieldAt, startsWith, ofLine}
 use Rattle.circuit.proofs.Outcome.{why}
+use Rattle.files.proofs.file.scan.Laws.{width-one, width-two}
 use Rattle.files.proofs.file.scan.Rest.{parted, gate-other, gate-room, gate-many, gate-refused, gate-target, line-field-length}
 use borrow.Author.Needs.{needs}
 use Rattle.files.proofs.file.scan.gate_line.Statement.{statement}
@@ -39,11 +40,11 @@ target c =
     let a = start (ln .before .before) .args in
     ap (λ (x : List ℕ). lineOf (a .n) (a .place) (fieldAt x)) (drop-drop 2 (a .start) (a .text .now)) ∙ sym (ln .line .ensures) ∙ ap ofLine (c .target .given .1)
 
-wide : (c : tie.After-digits) → length (fieldAt (field (c .before .before .before .before .before .before))) ≡ c .digits .result
-wide c = line-field-length _ _ _ _ (target (c .before .before)) ∙ sym (c .digits .ensures)
+wide : (c : tie.After-field-size) → length (fieldAt (field (c .before .before .before .before .before .before))) ≡ c .field-size .result
+wide c = let a = start (c .before .before .before .before .before .before) .args in ap (λ (x : List ℕ). length (fieldAt x)) (drop-drop 2 (a .start) (a .text .now)) ∙ sym (c .field-size .ensures)
 
-after : (c : tie.After-digits)
-    → drop (start (c .before .before .before .before .before .before) .args .start + 2 + c .digits .result) (start (c .before .before .before .before .before .before) .args .text .now)
+after : (c : tie.After-field-size)
+    → drop (start (c .before .before .before .before .before .before) .args .start + 2 + c .field-size .result) (start (c .before .before .before .before .before .before) .args .text .now)
     ≡ drop (length (fieldAt (field (c .before .before .before .before .before .before)))) (field (c .before .before .before .before .before .before))
 after c =
     let e = c .before .before .before .before .before .before in
@@ -89,8 +90,14 @@ enum-known-why c = search needs
 enum-known-target : tie.Need-enum-known-target
 enum-known-target c = search needs
 
-digits-requires : tie.Need-digits-requires
-digits-requires c κs = search needs
+field-size-requires : tie.Need-field-size-requires
+field-size-requires c κs =
+    let t = c .before in
+    let e = t .before .before .before .before in
+    let a = start e .args in
+    let k = t .target .given .0 .0 in
+    let w = sym (ap (λ (x : List ℕ). length (fieldAt x)) (drop-drop 2 (a .start) (a .text .now))) ∙ line-field-length _ _ _ _ (target t) in
+    (omega (arith, gate-room _ (word e), length-drop (a .start) (a .text .now)), omega (arith, w, width-one k), omega (arith, w, width-two k))
 
 add-controls : tie.Need-add-controls
 add-controls c =
@@ -123,7 +130,7 @@ returns-4 c =
     let e₂ = d .before .before .before .before .before in
     let e = e₂ .before in
     let a = start e .args in
-    let m : a .start + 2 + d .digits .result ≡ a .start + 2 + length (fieldAt (field e)) = ap (λ (k : ℕ). a .start + 2 + k) (sym (wide d)) in
+    let m : a .start + 2 + d .field-size .result ≡ a .start + 2 + length (fieldAt (field e)) = ap (λ (k : ℕ). a .start + 2 + k) (sym (wide d)) in
     c .controls .ensures ∙ sym (gate-target _ (word e) _ _ _ (e₂ .if2 .left) _ (target (d .before .before)) _ (after d) _ m)
 
 pub gate-line-spec : {M : Type 1} → statement M
@@ -140,7 +147,7 @@ gate-line-spec =
     line-requires
     enum-known-why
     enum-known-target
-    digits-requires
+    field-size-requires
     add-controls
     controls-requires
     returns-3
