@@ -43,10 +43,6 @@ pub width-two : (k : ℕ) → width k ≤ 2
 width-two k =
     either (ltb k 10) (λ t. omega (arith, width-short k (ltb-true k 10 t))) (λ t. omega (arith, width-long k (ltb-false k 10 t)))
 
-pub width-one : (k : ℕ) → 1 ≤ width k
-width-one k =
-    either (ltb k 10) (λ t. omega (arith, width-short k (ltb-true k 10 t))) (λ t. omega (arith, width-long k (ltb-false k 10 t)))
-
 -- ---- the field at the start of a text
 
 pub field-more : (b : ℕ) (r : List ℕ) → isStop b ≡ false → fieldAt (b ∷ r) ≡ b ∷ fieldAt r

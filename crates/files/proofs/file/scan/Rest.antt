@@ -158,35 +158,6 @@ control-field n i f c e = go (controlOf n i f) (control-found n i f) e
     go o (ControlFound.beyond d h l) q = absurd (never q refl)
     go o (ControlFound.wrong h) q = absurd (never q refl)
 
--- a field that has a byte
-field-first : (b : ℕ) (bs : List ℕ) → 1 ≤ length (fieldAt (b ∷ bs)) → length (fieldAt (b ∷ bs)) ≡ suc (length (fieldAt bs))
-field-first b bs h = either (isStop b) (λ t. absurd (omega (arith, ap length (field-stop b bs t)))) (λ t. ap length (field-more b bs t))
-
--- the field after a control's sign
-pub control-line-field : (n i : ℕ) (r : List ℕ) (c : Control) → controlOf n i (fieldAt r) ≡ served c → length (fieldAt (drop 1 r)) ≡ width (c .line)
-control-line-field n i r c e = go r (control-field n i (fieldAt r) c e .0)
-  where
-    go : (r : List ℕ) → length (fieldAt r) ≡ 1 + width (c .line) → length (fieldAt (drop 1 r)) ≡ width (c .line)
-    go [] h = absurd (omega (arith, ap length field-none))
-    go (b ∷ bs) h = omega (arith, field-first b bs (omega arith))
-
--- a field of one byte or of two, by the byte after the first
-stop-none : (r : List ℕ) → isStop (getD r 0 10) ≡ true → fieldAt r ≡ []
-stop-none [] e = field-none
-stop-none (b ∷ bs) e = field-stop b bs e
-
-goes-some : (r : List ℕ) → isStop (getD r 0 10) ≡ false → 1 ≤ length (fieldAt r)
-goes-some [] e = absurd (true≢false e)
-goes-some (b ∷ bs) e = omega (arith, ap length (field-more b bs e))
-
-pub field-one : (r : List ℕ) → 1 ≤ length (fieldAt r) → isStop (getD r 1 10) ≡ true → length (fieldAt r) ≡ 1
-field-one [] h e = absurd (omega (arith, ap length field-none))
-field-one (b ∷ bs) h e = field-first b bs h ∙ ap (λ (l : List ℕ). suc (length l)) (stop-none bs e)
-
-pub field-two : (r : List ℕ) → 1 ≤ length (fieldAt r) → length (fieldAt r) ≤ 2 → isStop (getD r 1 10) ≡ false → length (fieldAt r) ≡ 2
-field-two [] h l e = absurd (true≢false e)
-field-two (b ∷ bs) h l e = omega (arith, field-first b bs h, goes-some bs e)
-
 -- ---- the controls of a gate line
 
 abbrev pub seenOf : ℕ → List Control → Seen

@@ -1,17 +1,16 @@
 -- `files::file::scan::controls` meets its contract. The loop's invariant: the controls that were passed are known, and what is left of the line decides. Assumes nothing.
-use mathlib.Core.Path.{_≡_, sym, ap, _∙_}
-use Prim.Native.Nat.{ℕ, _+_, _-_, _≤_}
+use mathlib.Core.Path.{_≡_, sym, ap, subst, _∙_}
+use Prim.Native.Nat.{_+_, _-_, _≤_}
 use native.Mathlib.Omega.{arith}
 use lib.ListN.{length, drop, getD}
-use lib.Seq.{drop-drop}
 use borrow.Author.Needs.{needs}
 use borrow.Author.Tests.{not-true, not-false}
 use Rattle.circuit.specs.Gate.{maxLines, Control}
 use Rattle.files.specs.Text.{tab}
-use Rattle.files.specs.Scan.{fieldAt, width, ofControl}
+use Rattle.files.specs.Scan.{width, ofControl, ControlEnds}
 use Rattle.circuit.proofs.Outcome.{why}
-use Rattle.files.proofs.file.scan.Laws.{byte-at, width-one, width-two}
-use Rattle.files.proofs.file.scan.Rest.{control-line-field, Going, going-start, going-room, going-refused, going-below, going-inside, going-on, going-open, going-controlled, going-falls, going-gate}
+use Rattle.files.proofs.file.scan.Laws.{byte-at}
+use Rattle.files.proofs.file.scan.Rest.{Going, going-start, going-room, going-refused, going-below, going-inside, going-on, going-open, going-controlled, going-falls, going-gate}
 use mathlib.Core.List.{List}
 use Rattle.circuit.specs.Outcome.{Outcome}
 use Rattle.files.proofs.file.scan.controls.Statement.{statement}
@@ -63,7 +62,7 @@ returns c =
     let w = c .before in
     let ct = w .before .before in
     let l = ct .before .before .before in
-    sym (going-refused _ _ _ _ _ _ _ (l .loop .inv .1) (here (ct .before)) _ _ (sym (ct .control .ensures) ∙ ap ofControl (w .why .given .1)))
+    sym (going-refused _ _ _ _ _ _ _ (l .loop .inv .1) (here (ct .before)) _ _ (sym (ct .control .ensures .0) ∙ ap ofControl (w .why .given .1)))
 
 enum-known-line : tie.Need-enum-known-line Inv-loop μ-loop
 enum-known-line c = search needs
@@ -73,77 +72,36 @@ add-requires c κs =
     let ln = c .before in
     let ct = ln .before .before in
     let l = ct .before .before .before in
-    omega (arith, going-below _ _ _ _ _ _ _ (l .loop .inv .1) (here (ct .before)) _ (sym (ct .control .ensures) ∙ ap ofControl (ln .line .given .1)))
+    omega (arith, going-below _ _ _ _ _ _ _ (l .loop .inv .1) (here (ct .before)) _ (sym (ct .control .ensures .0) ∙ ap ofControl (ln .line .given .1)))
 
--- the field of the control's line has as many bytes as its number has digits
-sized : (c : tie.After-add Inv-loop μ-loop)
-    → (c .before .before .before .before .before .before .before .loop .at + 2 + width (c .before .before .line .given .0 .0) ≤ length (c .before .before .before .before .before .before .before .before .before .before .args .text .now))
-    × (length (fieldAt (drop (c .before .before .before .before .before .before .before .loop .at + 2) (c .before .before .before .before .before .before .before .before .before .before .args .text .now))) ≡ width (c .before .before .line .given .0 .0))
-sized c =
+-- the position after the control
+after : (c : tie.After-add Inv-loop μ-loop)
+    → c .before .before .line .given .0 .1 .1 .0 ≡ c .before .before .before .before .before .before .before .loop .at + (2 + width (c .before .before .line .given .0 .0))
+after c =
     let ln = c .before .before in
     let ct = ln .before .before in
     let l = ct .before .before .before in
-    let a = l .before .before .before .args in
-    let x : Control = record { line = ln .line .given .0 .0; positive = ln .line .given .0 .1 .0 } in
-    let r = sym (ct .control .ensures) ∙ ap ofControl (ln .line .given .1) in
-    let e : l .loop .at + 1 + 1 ≡ l .loop .at + 2 = omega arith in
-    (omega (arith, going-inside _ _ _ _ _ _ _ (l .loop .inv .1) (here (ct .before)) x r),
-    ap (λ (y : List ℕ). length (fieldAt y)) (sym (drop-drop 1 (l .loop .at + 1) (a .text .now) ∙ ap (λ (k : ℕ). drop k (a .text .now)) e))
-    ∙ control-line-field (a .n) (a .place) (drop (l .loop .at + 1) (a .text .now)) x r)
-
-add-field-size : tie.Need-add-field-size Inv-loop μ-loop
-add-field-size c = omega (arith, sized c .0)
-
-field-size-requires : tie.Need-field-size-requires Inv-loop μ-loop
-field-size-requires c κs =
-    let h = sized c in
-    let k = c .before .before .line .given .0 .0 in
-    (omega (arith, h .0), omega (arith, h .1, width-one k), omega (arith, h .1, width-two k))
-
-wide : (c : tie.After-field-size Inv-loop μ-loop) → c .field-size .result ≡ width (c .before .before .before .line .given .0 .0)
-wide c = c .field-size .ensures ∙ sized (c .before) .1
-
-add-at : tie.Need-add-at Inv-loop μ-loop
-add-at c = omega (arith, wide c, width-two (c .before .before .before .line .given .0 .0))
-
-add-at-2 : tie.Need-add-at-2 Inv-loop μ-loop
-add-at-2 c =
-    let ad = c .before in
-    let ln = ad .before .before in
-    let ct = ln .before .before in
-    let th = ct .before in
-    let l = th .before .before in
-    let a = l .before .before .before .args in
-    let x : Control = record { line = ln .line .given .0 .0; positive = ln .line .given .0 .1 .0 } in
-    let r = sym (ct .control .ensures) ∙ ap ofControl (ln .line .given .1) in
-    let h = here th in
-    omega (arith, wide c, going-inside _ _ _ _ _ _ _ (l .loop .inv .1) h x r)
+    omega (arith, subst (ControlEnds (l .loop .at + 1)) (ln .line .given .1) (ct .control .ensures .1))
 
 loop-less : tie.Need-loop-less Inv-loop μ-loop
 loop-less c =
-    let ad = c .before in
-    let ln = ad .before .before in
+    let ln = c .before .before in
     let ct = ln .before .before in
     let th = ct .before in
     let l = th .before .before in
-    let a = l .before .before .before .args in
     let x : Control = record { line = ln .line .given .0 .0; positive = ln .line .given .0 .1 .0 } in
-    let r = sym (ct .control .ensures) ∙ ap ofControl (ln .line .given .1) in
-    let h = here th in
-    omega (arith, wide c, going-inside _ _ _ _ _ _ _ (l .loop .inv .1) h x r)
+    let r = sym (ct .control .ensures .0) ∙ ap ofControl (ln .line .given .1) in
+    omega (arith, after c, going-inside _ _ _ _ _ _ _ (l .loop .inv .1) (here th) x r)
 
 loop-again : tie.Need-loop-again Inv-loop μ-loop
 loop-again c =
-    let ad = c .before in
-    let ln = ad .before .before in
+    let ln = c .before .before in
     let ct = ln .before .before in
     let th = ct .before in
     let l = th .before .before in
-    let a = l .before .before .before .args in
     let x : Control = record { line = ln .line .given .0 .0; positive = ln .line .given .0 .1 .0 } in
-    let r = sym (ct .control .ensures) ∙ ap ofControl (ln .line .given .1) in
-    let h = here th in
-    (l .loop .inv .0, rw (wide c) (going-on _ _ _ _ _ _ _ (l .loop .inv .1) h x r _ (ad .add .ensures)))
+    let r = sym (ct .control .ensures .0) ∙ ap ofControl (ln .line .given .1) in
+    (l .loop .inv .0, rw (after c) (going-on _ _ _ _ _ _ _ (l .loop .inv .1) (here th) x r _ (c .add .ensures)))
 
 wrong-form-requires : tie.Need-wrong-form-requires Inv-loop μ-loop
 wrong-form-requires c κs = search needs
@@ -177,8 +135,8 @@ returns-4 c =
     why (c .not-rising .ensures)
     ∙ sym (going-falls _ _ _ _ _ _ _ (l .loop .inv .1) (none e) (e₂ .if2 .left) (not-false _ (e₃ .if3 .left)) (not-true _ (c .before .if4 .taken)))
 
-add-t18 : tie.Need-add-t18 Inv-loop μ-loop
-add-t18 c = search needs
+add-t16 : tie.Need-add-t16 Inv-loop μ-loop
+add-t16 c = search needs
 
 returns-5 : tie.Need-returns-5 Inv-loop μ-loop
 returns-5 c =
@@ -203,10 +161,6 @@ controls-spec =
     returns
     enum-known-line
     add-requires
-    add-field-size
-    field-size-requires
-    add-at
-    add-at-2
     loop-less
     loop-again
     wrong-form-requires
@@ -215,5 +169,5 @@ controls-spec =
     returns-3
     not-rising-requires
     returns-4
-    add-t18
+    add-t16
     returns-5)
