@@ -92,12 +92,22 @@ controlsNext n i t at r =
     (λ g. served (record { gate = g; next = at + size (lineAt r) }))
 
 abbrev pub ofLine : LineAnswer → Outcome ℕ
-ofLine (line.Line k) = served k
+ofLine (line.Line k next) = served k
 ofLine (line.Refused r) = refused (r .number) (r .place)
 
+-- where the field of a line ends that starts at a position
+abbrev pub LineEnds : ℕ → LineAnswer → Type 0
+LineEnds at (line.Line k next) = next ≡ at + width k
+LineEnds at (line.Refused r) = Unit
+
 abbrev pub ofControl : ControlAnswer → Outcome Control
-ofControl (control.Control k p) = served (record { line = k; positive = p })
+ofControl (control.Control k p next) = served (record { line = k; positive = p })
 ofControl (control.Refused r) = refused (r .number) (r .place)
+
+-- and that of a control, whose sign is before its line
+abbrev pub ControlEnds : ℕ → ControlAnswer → Type 0
+ControlEnds at (control.Control k p next) = next ≡ at + 1 + width k
+ControlEnds at (control.Refused r) = Unit
 
 abbrev pub ofGate : GateAnswer → Outcome GateNext
 ofGate (gate.Gate g next) = served (record { gate = g; next = next })

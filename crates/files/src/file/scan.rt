@@ -12,7 +12,7 @@ ghost use lib.ListN.{length, drop, getD};
 ghost use Rattle.circuit.specs.Gate.{maxLines};
 ghost use Rattle.files.specs.Text.{plus, minus};
 ghost use Rattle.files.specs.File.{isDigit, numberOf, lineOf, controlOf, isEnd};
-ghost use Rattle.files.specs.Scan.{isStop, fieldAt, lineAt, startsWith, orHundred, width, added, headerNext, gateNext, controlsNext, ofLine, ofControl, ofGate, ofHeader};
+ghost use Rattle.files.specs.Scan.{isStop, fieldAt, lineAt, startsWith, orHundred, width, added, headerNext, gateNext, controlsNext, ofLine, ofControl, ofGate, ofHeader, LineEnds, ControlEnds};
 
 const TAB: u64 = 9;
 
@@ -21,15 +21,25 @@ const LINE_FEED: u64 = 10;
 // What no number field has.
 const NO_NUMBER: u64 = 100;
 
-// A line of the cascade, or a refusal.
+// The number in a field, or 100, and the position after the field.
+pub struct Numeral {
+    pub value: u64,
+    pub next: usize,
+}
+
+// A line of the cascade and the position after its field, or a refusal.
 pub enum LineAnswer {
-    Line(u64),
+    Line { line: u64, next: usize },
     Refused(Refusal),
 }
 
-// A control, or a refusal.
+// A control and the position after its field, or a refusal.
 pub enum ControlAnswer {
-    Control { line: u64, positive: bool },
+    Control {
+        line: u64,
+        positive: bool,
+        next: usize,
+    },
     Refused(Refusal),
 }
 
@@ -94,7 +104,10 @@ fn stop(b: u64) -> bool
 fn sign(b: u64) -> bool
     ensures { λ r. ⌜ r ≡ (eqb b plus || eqb b minus) ⌝ }
 {
-    (b == 43) | (b == 45)
+    match b {
+        43 | 45 => true,
+        _ => false,
+    }
 }
 
 // How many digits a number below 100 has.
@@ -107,29 +120,45 @@ pub(crate) fn digits(k: u64) -> usize
     1
 }
 
-// The number in the field at a position; 100 where it is none.
-fn number(text: &[u8], at: usize) -> u64
+// A field at a position that is no number.
+fn no_number(at: usize) -> Numeral
+    ensures { λ r. ⌜ r ≡ record { value = 100; next = at } ⌝ }
+{
+    Numeral {
+        value: NO_NUMBER,
+        next: at,
+    }
+}
+
+// The number in the field at a position, and the position after the field; 100 where it is none.
+fn number(text: &[u8], at: usize) -> Numeral
     requires { ⌜ at ≤ length (now text) ⌝ }
-    ensures { λ r. ⌜ r ≡ orHundred (numberOf 0 (fieldAt (drop at (now (text .entry))))) ⌝ }
+    ensures { λ r. ⌜ (r .value ≡ orHundred (numberOf 0 (fieldAt (drop at (now (text .entry)))))) × ((r .value ≡ 100 → ⊥) → r .next ≡ at + width (r .value)) ⌝ }
 {
     let a = byte(text, at);
     if !digit(a) {
-        return NO_NUMBER;
+        return no_number(at);
     }
     let b = byte(text, at + 1);
     if stop(b) {
-        return a - 48;
+        return Numeral {
+            value: a - 48,
+            next: at + 1,
+        };
     }
     if a == 48 {
-        return NO_NUMBER;
+        return no_number(at);
     }
     if !digit(b) {
-        return NO_NUMBER;
+        return no_number(at);
     }
     if !stop(byte(text, at + 2)) {
-        return NO_NUMBER;
+        return no_number(at);
     }
-    10 * (a - 48) + (b - 48)
+    Numeral {
+        value: 10 * (a - 48) + (b - 48),
+        next: at + 2,
+    }
 }
 
 // Whether the text at a position starts with the word.
@@ -153,22 +182,24 @@ fn starts(text: &[u8], at: usize, word: &[u8]) -> bool
 // The target or control line in the field at a position; else 1 or 3.
 fn line(text: &[u8], at: usize, n: u64, place: u64) -> LineAnswer
     requires { ⌜ at ≤ length (now text) ⌝ }
-    ensures { λ r. ⌜ ofLine r ≡ lineOf n place (fieldAt (drop at (now (text .entry)))) ⌝ }
+    ensures { λ r. ⌜ (ofLine r ≡ lineOf n place (fieldAt (drop at (now (text .entry))))) × LineEnds at r ⌝ }
 {
     let k = number(text, at);
-    if k == NO_NUMBER {
+    let line = k.value;
+    let next = k.next;
+    if line == NO_NUMBER {
         return LineAnswer::Refused(Refusal::wrong_form(place));
     }
-    if n <= k {
+    if n <= line {
         return LineAnswer::Refused(Refusal::line_outside(place));
     }
-    LineAnswer::Line(k)
+    LineAnswer::Line { line, next }
 }
 
 // The control in the field at a position; else 1 or 3.
 fn control(text: &[u8], at: usize, n: u64, place: u64) -> ControlAnswer
     requires { ⌜ at ≤ length (now text) ⌝ }
-    ensures { λ r. ⌜ ofControl r ≡ controlOf n place (fieldAt (drop at (now (text .entry)))) ⌝ }
+    ensures { λ r. ⌜ (ofControl r ≡ controlOf n place (fieldAt (drop at (now (text .entry))))) × ControlEnds at r ⌝ }
 {
     let s = byte(text, at);
     if !sign(s) {
@@ -176,9 +207,10 @@ fn control(text: &[u8], at: usize, n: u64, place: u64) -> ControlAnswer
     }
     match line(text, at + 1, n, place) {
         LineAnswer::Refused(why) => ControlAnswer::Refused(why),
-        LineAnswer::Line(k) => ControlAnswer::Control {
-            line: k,
+        LineAnswer::Line { line, next } => ControlAnswer::Control {
+            line,
             positive: s == 43,
+            next,
         },
     }
 }
@@ -255,9 +287,13 @@ fn controls(text: &[u8], first: usize, n: u64, place: u64, target: u64) -> GateA
             ControlAnswer::Refused(why) => {
                 return GateAnswer::Refused(why);
             }
-            ControlAnswer::Control { line, positive } => {
+            ControlAnswer::Control {
+                line,
+                positive,
+                next,
+            } => {
                 seen = seen.add(target, line, positive);
-                at += 2 + digits(line);
+                at = next;
             }
         }
     }
@@ -291,10 +327,9 @@ pub(crate) fn gate_line(text: &[u8], start: usize, n: u64, place: u64) -> GateAn
     if (Gate::MAX_GATES as u64) < place {
         return GateAnswer::Refused(Refusal::too_many_gates(place));
     }
-    let at = start + 2;
-    match line(text, at, n, place) {
+    match line(text, start + 2, n, place) {
         LineAnswer::Refused(why) => GateAnswer::Refused(why),
-        LineAnswer::Line(target) => controls(text, at + digits(target), n, place, target),
+        LineAnswer::Line { line, next } => controls(text, next, n, place, line),
     }
 }
 
@@ -313,14 +348,15 @@ pub(crate) fn header(text: &[u8]) -> HeaderAnswer
     if !starts(text, 0, b"lines\t") {
         return HeaderAnswer::Refused(Refusal::wrong_form(0));
     }
-    let n = number(text, 6);
+    let k = number(text, 6);
+    let n = k.value;
+    let at = k.next;
     if n == NO_NUMBER {
         return HeaderAnswer::Refused(Refusal::wrong_form(0));
     }
     if !circuit::words::line_count_good(n) {
         return HeaderAnswer::Refused(Refusal::bad_line_count());
     }
-    let at = 6 + digits(n);
     if text.len() <= at {
         return HeaderAnswer::Refused(Refusal::wrong_form(0));
     }

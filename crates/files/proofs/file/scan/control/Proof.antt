@@ -1,5 +1,5 @@
 -- `files::file::scan::control` meets its contract. Assumes nothing.
-use mathlib.Core.Path.{_≡_, sym, ap, _∙_}
+use mathlib.Core.Path.{_≡_, sym, ap, subst, _∙_}
 use mathlib.Core.Bool.{true, _||_}
 use mathlib.Core.List.{List}
 use Prim.Native.Nat.{ℕ, _+_}
@@ -12,7 +12,7 @@ use Rattle.circuit.specs.Gate.{Control}
 use Rattle.files.specs.Text.{plus, minus}
 use Rattle.files.specs.File.{lineOf}
 use Rattle.circuit.specs.Outcome.{served}
-use Rattle.files.specs.Scan.{fieldAt, ofLine}
+use Rattle.files.specs.Scan.{fieldAt, ofLine, LineEnds}
 use Rattle.circuit.proofs.Outcome.{why}
 use Rattle.files.proofs.file.scan.Laws.{byte-at, sign-inside, control-unsigned, control-refused, control-good}
 use borrow.Author.Needs.{needs}
@@ -50,9 +50,11 @@ wrong-form-requires c κs = search needs
 returns : tie.Need-returns
 returns c =
     let s = c .before .before in
-    let a = s .before .before .before .args in
-    why (c .wrong-form .ensures)
-    ∙ sym (control-unsigned _ _ (rest (s .before .before .before)) (sym (ap (λ (b : ℕ). eqb b plus || eqb b minus) (first (s .before))) ∙ sym (s .sign .ensures) ∙ not-true _ (c .before .if1 .taken)))
+    let a = s .before .before .before .args in (
+      why (c .wrong-form .ensures)
+          ∙ sym (control-unsigned _ _ (rest (s .before .before .before)) (sym (ap (λ (b : ℕ). eqb b plus || eqb b minus) (first (s .before))) ∙ sym (s .sign .ensures) ∙ not-true _ (c .before .if1 .taken))),
+      tt,
+    )
 
 add-line : tie.Need-add-line
 add-line c = search needs
@@ -65,21 +67,23 @@ line-requires c κs =
 enum-known-why : tie.Need-enum-known-why
 enum-known-why c = search needs
 
-enum-known-k : tie.Need-enum-known-k
-enum-known-k c = search needs
+enum-known-line : tie.Need-enum-known-line
+enum-known-line c = search needs
 
 returns-2 : tie.Need-returns-2
 returns-2 c =
     let w = c .before in
     let e = w .before .before .before in
-    sym (control-refused _ _ (rest (e .before .before .before .before)) _ _ (signed e) (later e ∙ sym (w .before .before .line .ensures) ∙ ap ofLine (w .why .given .1)))
+    (sym (control-refused _ _ (rest (e .before .before .before .before)) _ _ (signed e) (later e ∙ sym (w .before .before .line .ensures .0) ∙ ap ofLine (w .why .given .1))), tt)
 
 returns-3 : tie.Need-returns-3
 returns-3 c =
     let w = c .before in
-    let e = w .before .before .before in
-    ap (λ (b : ℕ). served (record { line = w .k .given .0 .0; positive = eqb b plus })) (first (e .before .before))
-    ∙ sym (control-good _ _ (rest (e .before .before .before .before)) _ (signed e) (later e ∙ sym (w .before .before .line .ensures) ∙ ap ofLine (w .k .given .1)))
+    let e = w .before .before .before in (
+      ap (λ (b : ℕ). served (record { line = w .line2 .given .0 .0; positive = eqb b plus })) (first (e .before .before))
+          ∙ sym (control-good _ _ (rest (e .before .before .before .before)) _ (signed e) (later e ∙ sym (w .before .before .line .ensures .0) ∙ ap ofLine (w .line2 .given .1))),
+      subst (LineEnds (e .before .before .before .before .args .at + 1)) (w .line2 .given .1) (w .before .before .line .ensures .1),
+    )
 
 pub control-spec : {M : Type 1} → statement M
 control-spec =
@@ -92,6 +96,6 @@ control-spec =
     add-line
     line-requires
     enum-known-why
-    enum-known-k
+    enum-known-line
     returns-2
     returns-3)

@@ -1,15 +1,15 @@
 -- `files::file::scan::controls` meets its contract. The loop's invariant: the controls that were passed are known, and what is left of the line decides. Assumes nothing.
-use mathlib.Core.Path.{_≡_, sym, ap, _∙_}
-use Prim.Native.Nat.{_-_, _≤_}
+use mathlib.Core.Path.{_≡_, sym, ap, subst, _∙_}
+use Prim.Native.Nat.{_+_, _-_, _≤_}
 use native.Mathlib.Omega.{arith}
 use lib.ListN.{length, drop, getD}
 use borrow.Author.Needs.{needs}
 use borrow.Author.Tests.{not-true, not-false}
 use Rattle.circuit.specs.Gate.{maxLines, Control}
 use Rattle.files.specs.Text.{tab}
-use Rattle.files.specs.Scan.{ofControl}
+use Rattle.files.specs.Scan.{width, ofControl, ControlEnds}
 use Rattle.circuit.proofs.Outcome.{why}
-use Rattle.files.proofs.file.scan.Laws.{byte-at, width-two}
+use Rattle.files.proofs.file.scan.Laws.{byte-at}
 use Rattle.files.proofs.file.scan.Rest.{Going, going-start, going-room, going-refused, going-below, going-inside, going-on, going-open, going-controlled, going-falls, going-gate}
 use mathlib.Core.List.{List}
 use Rattle.circuit.specs.Outcome.{Outcome}
@@ -62,7 +62,7 @@ returns c =
     let w = c .before in
     let ct = w .before .before in
     let l = ct .before .before .before in
-    sym (going-refused _ _ _ _ _ _ _ (l .loop .inv .1) (here (ct .before)) _ _ (sym (ct .control .ensures) ∙ ap ofControl (w .why .given .1)))
+    sym (going-refused _ _ _ _ _ _ _ (l .loop .inv .1) (here (ct .before)) _ _ (sym (ct .control .ensures .0) ∙ ap ofControl (w .why .given .1)))
 
 enum-known-line : tie.Need-enum-known-line Inv-loop μ-loop
 enum-known-line c = search needs
@@ -72,52 +72,36 @@ add-requires c κs =
     let ln = c .before in
     let ct = ln .before .before in
     let l = ct .before .before .before in
-    omega (arith, going-below _ _ _ _ _ _ _ (l .loop .inv .1) (here (ct .before)) _ (sym (ct .control .ensures) ∙ ap ofControl (ln .line .given .1)))
+    omega (arith, going-below _ _ _ _ _ _ _ (l .loop .inv .1) (here (ct .before)) _ (sym (ct .control .ensures .0) ∙ ap ofControl (ln .line .given .1)))
 
-digits-requires : tie.Need-digits-requires Inv-loop μ-loop
-digits-requires c κs = search needs
-
-add-at : tie.Need-add-at Inv-loop μ-loop
-add-at c = omega (arith, c .digits .ensures, width-two (c .before .before .before .line .given .0 .0))
-
-add-at-2 : tie.Need-add-at-2 Inv-loop μ-loop
-add-at-2 c =
-    let ad = c .before in
-    let ln = ad .before .before in
+-- the position after the control
+after : (c : tie.After-add Inv-loop μ-loop)
+    → c .before .before .line .given .0 .1 .1 .0 ≡ c .before .before .before .before .before .before .before .loop .at + (2 + width (c .before .before .line .given .0 .0))
+after c =
+    let ln = c .before .before in
     let ct = ln .before .before in
-    let th = ct .before in
-    let l = th .before .before in
-    let a = l .before .before .before .args in
-    let x : Control = record { line = ln .line .given .0 .0; positive = ln .line .given .0 .1 .0 } in
-    let r = sym (ct .control .ensures) ∙ ap ofControl (ln .line .given .1) in
-    let h = here th in
-    omega (arith, c .digits .ensures, going-inside _ _ _ _ _ _ _ (l .loop .inv .1) h x r)
+    let l = ct .before .before .before in
+    omega (arith, subst (ControlEnds (l .loop .at + 1)) (ln .line .given .1) (ct .control .ensures .1))
 
 loop-less : tie.Need-loop-less Inv-loop μ-loop
 loop-less c =
-    let ad = c .before in
-    let ln = ad .before .before in
+    let ln = c .before .before in
     let ct = ln .before .before in
     let th = ct .before in
     let l = th .before .before in
-    let a = l .before .before .before .args in
     let x : Control = record { line = ln .line .given .0 .0; positive = ln .line .given .0 .1 .0 } in
-    let r = sym (ct .control .ensures) ∙ ap ofControl (ln .line .given .1) in
-    let h = here th in
-    omega (arith, c .digits .ensures, going-inside _ _ _ _ _ _ _ (l .loop .inv .1) h x r)
+    let r = sym (ct .control .ensures .0) ∙ ap ofControl (ln .line .given .1) in
+    omega (arith, after c, going-inside _ _ _ _ _ _ _ (l .loop .inv .1) (here th) x r)
 
 loop-again : tie.Need-loop-again Inv-loop μ-loop
 loop-again c =
-    let ad = c .before in
-    let ln = ad .before .before in
+    let ln = c .before .before in
     let ct = ln .before .before in
     let th = ct .before in
     let l = th .before .before in
-    let a = l .before .before .before .args in
     let x : Control = record { line = ln .line .given .0 .0; positive = ln .line .given .0 .1 .0 } in
-    let r = sym (ct .control .ensures) ∙ ap ofControl (ln .line .given .1) in
-    let h = here th in
-    (l .loop .inv .0, rw (c .digits .ensures) (going-on _ _ _ _ _ _ _ (l .loop .inv .1) h x r _ (ad .add .ensures)))
+    let r = sym (ct .control .ensures .0) ∙ ap ofControl (ln .line .given .1) in
+    (l .loop .inv .0, rw (after c) (going-on _ _ _ _ _ _ _ (l .loop .inv .1) (here th) x r _ (c .add .ensures)))
 
 wrong-form-requires : tie.Need-wrong-form-requires Inv-loop μ-loop
 wrong-form-requires c κs = search needs
@@ -151,8 +135,8 @@ returns-4 c =
     why (c .not-rising .ensures)
     ∙ sym (going-falls _ _ _ _ _ _ _ (l .loop .inv .1) (none e) (e₂ .if2 .left) (not-false _ (e₃ .if3 .left)) (not-true _ (c .before .if4 .taken)))
 
-add-t17 : tie.Need-add-t17 Inv-loop μ-loop
-add-t17 c = search needs
+add-t16 : tie.Need-add-t16 Inv-loop μ-loop
+add-t16 c = search needs
 
 returns-5 : tie.Need-returns-5 Inv-loop μ-loop
 returns-5 c =
@@ -177,9 +161,6 @@ controls-spec =
     returns
     enum-known-line
     add-requires
-    digits-requires
-    add-at
-    add-at-2
     loop-less
     loop-again
     wrong-form-requires
@@ -188,5 +169,5 @@ controls-spec =
     returns-3
     not-rising-requires
     returns-4
-    add-t17
+    add-t16
     returns-5)

@@ -1,5 +1,5 @@
 -- `files::file::scan::gate_line` meets its contract. Assumes nothing.
-use mathlib.Core.Path.{_≡_, sym, ap, _∙_}
+use mathlib.Core.Path.{_≡_, sym, ap, subst, _∙_}
 use mathlib.Core.Bool.{true}
 use mathlib.Core.List.{List, [], _∷_}
 use Prim.Native.Nat.{ℕ, _+_}
@@ -9,7 +9,7 @@ use lib.Seq.{drop-drop}
 use borrow.Author.Tests.{not-true, not-false}
 use Rattle.files.specs.File.{lineOf}
 use Rattle.circuit.specs.Outcome.{served}
-use Rattle.files.specs.Scan.{fieldAt, startsWith, ofLine}
+use Rattle.files.specs.Scan.{fieldAt, startsWith, ofLine, LineEnds}
 use Rattle.circuit.proofs.Outcome.{why}
 use Rattle.files.proofs.file.scan.Rest.{parted, gate-other, gate-room, gate-many, gate-refused, gate-target, line-field-length}
 use borrow.Author.Needs.{needs}
@@ -30,27 +30,30 @@ rest e = drop (start e .args .start) (start e .args .text .now)
 abbrev field : tie.Else1 → List ℕ
 field e = drop 2 (rest e)
 
--- the target that was read, its length, and the text after it
-target : (c : tie.After-target)
+-- the target that was read, the position after it, and the text from there on
+target : (c : tie.After-line2)
     → lineOf (start (c .before .before .before .before) .args .n) (start (c .before .before .before .before) .args .place) (fieldAt (field (c .before .before .before .before)))
-    ≡ served (c .target .given .0 .0)
+    ≡ served (c .line2 .given .0 .0)
 target c =
     let ln = c .before .before in
     let a = start (ln .before .before) .args in
-    ap (λ (x : List ℕ). lineOf (a .n) (a .place) (fieldAt x)) (drop-drop 2 (a .start) (a .text .now)) ∙ sym (ln .line .ensures) ∙ ap ofLine (c .target .given .1)
+    ap (λ (x : List ℕ). lineOf (a .n) (a .place) (fieldAt x)) (drop-drop 2 (a .start) (a .text .now)) ∙ sym (ln .line .ensures .0) ∙ ap ofLine (c .line2 .given .1)
 
-wide : (c : tie.After-digits) → length (fieldAt (field (c .before .before .before .before .before .before))) ≡ c .digits .result
-wide c = line-field-length _ _ _ _ (target (c .before .before)) ∙ sym (c .digits .ensures)
+next : (c : tie.After-line2)
+    → c .line2 .given .0 .1 .0 ≡ start (c .before .before .before .before) .args .start + 2 + length (fieldAt (field (c .before .before .before .before)))
+next c =
+    let ln = c .before .before in
+    let at : ℕ = start (ln .before .before) .args .start + 2 in
+    subst (LineEnds at) (c .line2 .given .1) (ln .line .ensures .1) ∙ ap (λ (k : ℕ). at + k) (sym (line-field-length _ _ _ _ (target c)))
 
-after : (c : tie.After-digits)
-    → drop (start (c .before .before .before .before .before .before) .args .start + 2 + c .digits .result) (start (c .before .before .before .before .before .before) .args .text .now)
-    ≡ drop (length (fieldAt (field (c .before .before .before .before .before .before)))) (field (c .before .before .before .before .before .before))
+after : (c : tie.After-line2)
+    → drop (c .line2 .given .0 .1 .0) (start (c .before .before .before .before) .args .text .now)
+    ≡ drop (length (fieldAt (field (c .before .before .before .before)))) (field (c .before .before .before .before))
 after c =
-    let e = c .before .before .before .before .before .before in
+    let e = c .before .before .before .before in
     let a = start e .args in
-    sym (ap (drop (length (fieldAt (field e)))) (drop-drop 2 (a .start) (a .text .now))
-    ∙ drop-drop (length (fieldAt (field e))) (a .start + 2) (a .text .now)
-    ∙ ap (λ (k : ℕ). drop (a .start + 2 + k) (a .text .now)) (wide c))
+    ap (λ (k : ℕ). drop k (a .text .now)) (next c)
+    ∙ sym (ap (drop (length (fieldAt (field e)))) (drop-drop 2 (a .start) (a .text .now)) ∙ drop-drop (length (fieldAt (field e))) (a .start + 2) (a .text .now))
 
 slice-aggregate-starts : tie.Need-slice-aggregate-starts
 slice-aggregate-starts c = search needs
@@ -74,8 +77,8 @@ returns-2 c =
     let e = c .before .before in
     why (c .too-many-gates .ensures) ∙ sym (gate-many _ (word e) _ _ _ (c .before .if2 .taken))
 
-add-at : tie.Need-add-at
-add-at c = search needs
+add-line : tie.Need-add-line
+add-line c = search needs
 
 line-requires : tie.Need-line-requires
 line-requires c κs =
@@ -86,25 +89,17 @@ line-requires c κs =
 enum-known-why : tie.Need-enum-known-why
 enum-known-why c = search needs
 
-enum-known-target : tie.Need-enum-known-target
-enum-known-target c = search needs
-
-digits-requires : tie.Need-digits-requires
-digits-requires c κs = search needs
-
-add-controls : tie.Need-add-controls
-add-controls c =
-    let e = c .before .before .before .before .before .before in
-    let a = start e .args in
-    omega (arith, wide c, parted (field e) .inside, length-drop 2 (rest e), length-drop (a .start) (a .text .now))
+enum-known-line : tie.Need-enum-known-line
+enum-known-line c = search needs
 
 controls-requires : tie.Need-controls-requires
 controls-requires c κs =
-    let e = c .before .before .before .before .before .before in
+    let t = c .before in
+    let e = t .before .before .before .before in
     let a = start e .args in (
-      omega (arith, wide c, parted (field e) .inside, gate-room _ (word e), length-drop 2 (rest e), length-drop (a .start) (a .text .now)),
+      omega (arith, next t, parted (field e) .inside, gate-room _ (word e), length-drop 2 (rest e), length-drop (a .start) (a .text .now)),
       omega arith,
-      ap fieldAt (after c) ∙ parted (field e) .stop,
+      ap fieldAt (after t) ∙ parted (field e) .stop,
     )
 
 returns-3 : tie.Need-returns-3
@@ -115,16 +110,14 @@ returns-3 c =
     let e = e₂ .before in
     let a = start e .args in
     sym (gate-refused _ (word e) _ _ _ (e₂ .if2 .left) _ _
-    (ap (λ (x : List ℕ). lineOf (a .n) (a .place) (fieldAt x)) (drop-drop 2 (a .start) (a .text .now)) ∙ sym (ln .line .ensures) ∙ ap ofLine (w .why .given .1)))
+    (ap (λ (x : List ℕ). lineOf (a .n) (a .place) (fieldAt x)) (drop-drop 2 (a .start) (a .text .now)) ∙ sym (ln .line .ensures .0) ∙ ap ofLine (w .why .given .1)))
 
 returns-4 : tie.Need-returns-4
 returns-4 c =
-    let d = c .before in
-    let e₂ = d .before .before .before .before .before in
+    let t = c .before .before in
+    let e₂ = t .before .before .before in
     let e = e₂ .before in
-    let a = start e .args in
-    let m : a .start + 2 + d .digits .result ≡ a .start + 2 + length (fieldAt (field e)) = ap (λ (k : ℕ). a .start + 2 + k) (sym (wide d)) in
-    c .controls .ensures ∙ sym (gate-target _ (word e) _ _ _ (e₂ .if2 .left) _ (target (d .before .before)) _ (after d) _ m)
+    c .controls .ensures ∙ sym (gate-target _ (word e) _ _ _ (e₂ .if2 .left) _ (target t) _ (after t) _ (next t))
 
 pub gate-line-spec : {M : Type 1} → statement M
 gate-line-spec =
@@ -136,12 +129,10 @@ gate-line-spec =
     returns
     too-many-gates-requires
     returns-2
-    add-at
+    add-line
     line-requires
     enum-known-why
-    enum-known-target
-    digits-requires
-    add-controls
+    enum-known-line
     controls-requires
     returns-3
     returns-4)

@@ -20,17 +20,20 @@ use Rattle.files.proofs.file.scan.header.Tie as tie
 word : (e : tie.Else1) → startsWith (108 ∷ 105 ∷ 110 ∷ 101 ∷ 115 ∷ 9 ∷ []) (e .before .before .before .before .args .text .now) ≡ true
 word e = sym (e .before .starts .ensures) ∙ not-false _ (e .if1 .left)
 
-good : (c : tie.Else3) → lineCountGood (c .before .before .before .number .result) ≡ true
+good : (c : tie.Else3) → lineCountGood (c .before .before .before .number .result .value) ≡ true
 good c = sym (c .before .line-count-good .ensures) ∙ not-false _ (c .if3 .left)
 
--- the byte after the number
+-- the position after the number, and the byte there
+after : (c : tie.Else3) → c .before .before .before .number .result .next ≡ 6 + width (c .before .before .before .number .result .value)
+after c = c .before .before .before .number .ensures .1 (c .before .before .if2 .left)
+
 byte : (c : tie.Else4)
-    → getD (c .before .before .before .before .before .before .before .before .before .before .args .text .now) (6 + c .before .digits .result) 0
-    ≡ getD (c .before .before .before .before .before .before .before .before .before .before .args .text .now) (6 + width (c .before .before .before .before .before .number .result)) 10
+    → getD (c .before .before .before .before .before .before .before .before .before .args .text .now) (c .before .before .before .before .number .result .next) 0
+    ≡ getD (c .before .before .before .before .before .before .before .before .before .args .text .now) (6 + width (c .before .before .before .before .number .result .value)) 10
 byte c =
-    let d = c .before in
-    let t = d .before .before .before .before .before .before .before .before .before .args .text .now in
-    default-any t (6 + d .digits .result) 0 10 (c .if4 .left) ∙ ap (λ (k : ℕ). getD t (6 + k) 10) (d .digits .ensures)
+    let e₃ = c .before in
+    let t = e₃ .before .before .before .before .before .before .before .before .args .text .now in
+    default-any t (e₃ .before .before .before .number .result .next) 0 10 (c .if4 .left) ∙ ap (λ (k : ℕ). getD t k 10) (after e₃)
 
 slice-aggregate-starts : tie.Need-slice-aggregate-starts
 slice-aggregate-starts c = search needs
@@ -55,7 +58,7 @@ wrong-form-requires-2 c κs = search needs
 returns-2 : tie.Need-returns-2
 returns-2 c =
     let n = c .before .before in
-    why (c .wrong-form2 .ensures) ∙ sym (header-wrong _ (word (n .before)) (sym (n .number .ensures) ∙ c .before .if2 .taken))
+    why (c .wrong-form2 .ensures) ∙ sym (header-wrong _ (word (n .before)) (sym (n .number .ensures .0) ∙ c .before .if2 .taken))
 
 line-count-good-requires : tie.Need-line-count-good-requires
 line-count-good-requires c κs = search needs
@@ -68,24 +71,17 @@ returns-3 c =
     let g = c .before .before in
     let n = g .before .before in
     why (c .bad-line-count .ensures)
-    ∙ sym (header-outside _ (word (n .before)) _ (sym (n .number .ensures)) (g .before .if2 .left) (sym (g .line-count-good .ensures) ∙ not-true _ (c .before .if3 .taken)))
-
-digits-requires : tie.Need-digits-requires
-digits-requires c κs = search needs
-
-add-at : tie.Need-add-at
-add-at c = omega (arith, c .digits .ensures, width-two (c .before .before .before .before .number .result))
+    ∙ sym (header-outside _ (word (n .before)) _ (sym (n .number .ensures .0)) (g .before .if2 .left) (sym (g .line-count-good .ensures) ∙ not-true _ (c .before .if3 .taken)))
 
 wrong-form-requires-3 : tie.Need-wrong-form-requires-3
 wrong-form-requires-3 c κs = search needs
 
 returns-4 : tie.Need-returns-4
 returns-4 c =
-    let d = c .before .before in
-    let e₃ = d .before in
+    let e₃ = c .before .before in
     let n = e₃ .before .before .before in
     why (c .wrong-form3 .ensures)
-    ∙ sym (header-missing _ (word (n .before)) _ (sym (n .number .ensures)) (e₃ .before .before .if2 .left) (good e₃) (omega (arith, d .digits .ensures)))
+    ∙ sym (header-missing _ (word (n .before)) _ (sym (n .number .ensures .0)) (e₃ .before .before .if2 .left) (good e₃) (omega (arith, after e₃)))
 
 shared-slice-read-if5 : tie.Need-shared-slice-read-if5
 shared-slice-read-if5 c = search needs
@@ -96,23 +92,21 @@ wrong-form-requires-4 c κs = search needs
 returns-5 : tie.Need-returns-5
 returns-5 c =
     let e₄ = c .before .before .before in
-    let d = e₄ .before in
-    let e₃ = d .before in
+    let e₃ = e₄ .before in
     let n = e₃ .before .before .before in
     why (c .wrong-form4 .ensures)
-    ∙ sym (header-further _ (word (n .before)) _ (sym (n .number .ensures)) (e₃ .before .before .if2 .left) (good e₃) (omega (arith, d .digits .ensures)) (λ z. c .before .if5 .taken (byte e₄ ∙ z)))
+    ∙ sym (header-further _ (word (n .before)) _ (sym (n .number .ensures .0)) (e₃ .before .before .if2 .left) (good e₃) (omega (arith, after e₃)) (λ z. c .before .if5 .taken (byte e₄ ∙ z)))
 
-add-t12 : tie.Need-add-t12
-add-t12 c = search needs
+add-t13 : tie.Need-add-t13
+add-t13 c = search needs
 
 returns-6 : tie.Need-returns-6
 returns-6 c =
     let e₄ = c .before .before in
-    let d = e₄ .before in
-    let e₃ = d .before in
+    let e₃ = e₄ .before in
     let n = e₃ .before .before .before in
-    ap (λ (k : ℕ). served (record { lines = n .number .result; next = 6 + k + 1 })) (d .digits .ensures)
-    ∙ sym (header-good _ (word (n .before)) _ (sym (n .number .ensures)) (e₃ .before .before .if2 .left) (good e₃) (omega (arith, d .digits .ensures)) (sym (byte e₄) ∙ c .if5 .left))
+    ap (λ (k : ℕ). served (record { lines = n .number .result .value; next = k + 1 })) (after e₃)
+    ∙ sym (header-good _ (word (n .before)) _ (sym (n .number .ensures .0)) (e₃ .before .before .if2 .left) (good e₃) (omega (arith, after e₃)) (sym (byte e₄) ∙ c .if5 .left))
 
 pub header-spec : {M : Type 1} → statement M
 header-spec =
@@ -128,12 +122,10 @@ header-spec =
     line-count-good-requires
     bad-line-count-requires
     returns-3
-    digits-requires
-    add-at
     wrong-form-requires-3
     returns-4
     shared-slice-read-if5
     wrong-form-requires-4
     returns-5
-    add-t12
+    add-t13
     returns-6)
