@@ -4,7 +4,7 @@ use circuit::gate::Gate;
 use circuit::refusal::Refusal;
 use circuit::words::CountAnswer;
 ghost use mathlib.Core.Path.{_≡_};
-ghost use Prim.Native.Nat.{_/_, _^_, _<_, _≤_};
+ghost use Prim.Native.Nat.{_+_, _/_, _^_, _<_, _≤_};
 ghost use lib.Bits.{bitOr};
 ghost use lib.ListN.{length};
 ghost use Rattle.circuit.specs.Gate.{maxLines, maxMiterGates};
@@ -26,22 +26,21 @@ pub enum SizesAnswer {
     Refused(Refusal),
 }
 
-// The sizes of the clauses of a gate with k controls.
-fn gate_sizes(k: u64) -> Totals
-    requires { ⌜ k ≤ maxLines ⌝ }
-    ensures { λ r. ⌜ r ≡ gateSizes k ⌝ }
+// The variables of a gate with k controls, less one.
+fn extra_variables(k: u64) -> u64
+    ensures { λ r. ⌜ r + 1 ≡ gateSizes k .variables ⌝ }
 {
-    let mut variables = 1;
-    let mut clauses = 1;
-    if 2 <= k {
-        variables = 2;
-        clauses = k + 2;
+    (2 <= k) as u64
+}
+
+// The clauses of a gate with k controls, less one a variable.
+fn extra_clauses(k: u64) -> u64
+    ensures { λ r. ⌜ r + gateSizes k .variables ≡ gateSizes k .clauses ⌝ }
+{
+    if k < 2 {
+        return 0;
     }
-    Totals {
-        variables,
-        clauses,
-        words: 4 * clauses + k,
-    }
+    k
 }
 
 // The lines of the mask, and line k.
@@ -59,9 +58,9 @@ pub(crate) fn list_sizes(n: u64, words: &[u64]) -> SizesAnswer
     ensures { λ r. ⌜ ofSizes r ≡ andThen (validFrom n 0 (gatesOf (now (words .entry)))) (λ k. served (sizesOf n (gatesOf (now (words .entry))))) ⌝ }
 {
     let gates = words.len() / Gate::WORDS;
-    let mut variables = n + n;
-    let mut clauses = n + 1;
-    let mut total = 4 * n + 2;
+    let mut variables = 0;
+    let mut clauses = 0;
+    let mut controls = 0;
     let mut hit = 0;
     let mut i = 0;
     while i < gates {
@@ -70,17 +69,19 @@ pub(crate) fn list_sizes(n: u64, words: &[u64]) -> SizesAnswer
             return SizesAnswer::Refused(Refusal::no_gate(i as u64));
         }
         let target = g.target;
-        let t = gate_sizes(g.control_count());
-        variables += t.variables;
-        clauses += t.clauses;
-        total += t.words;
+        let k = g.control_count();
+        variables += extra_variables(k);
+        clauses += extra_clauses(k);
+        controls += k;
         hit = with_line(hit, target);
         i += 1;
     }
+    let gate_variables = gates as u64 + variables;
+    let gate_clauses = gate_variables + clauses;
     SizesAnswer::Sizes(Totals {
-        variables,
-        clauses,
-        words: total + 2 * circuit::gate::count(hit),
+        variables: 2 * n + gate_variables,
+        clauses: n + 1 + gate_clauses,
+        words: 4 * n + 2 + 4 * gate_clauses + controls + 2 * circuit::gate::count(hit),
     })
 }
 

@@ -11,7 +11,7 @@ ghost use Prim.Native.Nat.{_*_, _-_, _≤_, _^_};
 ghost use lib.Dec.{ltb};
 ghost use lib.ListN.{length};
 ghost use Rattle.bits.specs.Lists.{over};
-ghost use Rattle.circuit.specs.Gate.{maxLines, valid, apply};
+ghost use Rattle.circuit.specs.Gate.{maxLines, valid};
 ghost use Rattle.circuit.specs.Outcome.{Yields};
 ghost use Rattle.circuit.specs.Refusal.{badState, agreeingState};
 ghost use Rattle.circuit.specs.Words.{gatesOf, allValid, ofCount};
@@ -44,9 +44,10 @@ fn free_lines(g: Gate, n: u64) -> u64
 
 // The lines that a state leaves in the mask of missing positive controls.
 fn kept_positive(g: Gate, state: u64) -> u64
+    requires { ⌜ valid maxLines g ≡ true ⌝ }
     ensures { λ r. ⌜ r ≡ kept true g state ⌝ }
 {
-    if g.fires(state) {
+    if crate::compare::gate_fires(g, state) {
         return state ^ u64::MAX;
     }
     0
@@ -54,21 +55,13 @@ fn kept_positive(g: Gate, state: u64) -> u64
 
 // The lines that a state leaves in the mask of missing negative controls.
 fn kept_negative(g: Gate, state: u64) -> u64
+    requires { ⌜ valid maxLines g ≡ true ⌝ }
     ensures { λ r. ⌜ r ≡ kept false g state ⌝ }
 {
-    if g.fires(state) {
+    if crate::compare::gate_fires(g, state) {
         return state;
     }
     0
-}
-
-// The state after a gate, which is known to be one.
-fn after(g: Gate, state: u64) -> u64
-    requires { ⌜ valid maxLines g ≡ true ⌝ }
-    ensures { λ r. ⌜ r ≡ apply g state ⌝ }
-{
-    let target = g.target;
-    state ^ ((g.fires(state) as u64) << target)
 }
 
 // The masks before any state: the free lines of each gate, twice.
@@ -103,7 +96,7 @@ fn narrow(words: &[u64], state: u64, out: &mut [u64])
         let at = 2 * i;
         out[at] = out[at] & kept_positive(g, s);
         out[at + 1] = out[at + 1] & kept_negative(g, s);
-        s = after(g, s);
+        s = crate::compare::after(g, s);
         i += 1;
     }
 }
@@ -137,11 +130,13 @@ fn check_states(n: u64, states: &[u64]) -> CountAnswer
 
 // The number of states, on all of which the cascades differ; else 12 at the first on which they agree.
 fn check_differing(a: &[u64], b: &[u64], states: &[u64]) -> CountAnswer
+    requires { ⌜ allValid maxLines (gatesOf (now a)) ≡ true ⌝ }
+    requires { ⌜ allValid maxLines (gatesOf (now b)) ≡ true ⌝ }
     ensures { λ r. ⌜ ofCount r ≡ eachFrom (outputsDiffer (gatesOf (now (a .entry))) (gatesOf (now (b .entry)))) agreeingState 0 (now (states .entry)) ⌝ }
 {
     let mut i = 0;
     while i < states.len() {
-        if !crate::compare::outputs_differ(a, b, states[i]) {
+        if !crate::compare::tested_differ(a, b, states[i]) {
             return CountAnswer::Refused(Refusal::agreeing_state(i as u64));
         }
         i += 1;

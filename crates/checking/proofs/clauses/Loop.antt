@@ -3,12 +3,14 @@ use mathlib.Core.Path.{_≡_, refl, sym, ap, ap₂, _∙_, subst}
 use mathlib.Core.Bool.{Bool, true, false, _||_, cond}
 use mathlib.Core.List.{List, [], _∷_, _++_}
 use Prim.Native.Nat.{ℕ, zero, suc, _+_, _*_, _/_, _^_, _≤_, _<_}
+use native.Mathlib.Nat.{zero-add}
 use native.Mathlib.Omega.{arith}
-use lib.Dec.{eqb}
+use mir.Val.{boolByte}
+use lib.Dec.{eqb, leb}
 use lib.Bits.{bitOr}
 use lib.Count.{ones}
 use lib.ListN.{length, drop, length-append}
-use borrow.Author.Tests.{ne-eqb}
+use borrow.Author.Tests.{ne-eqb, le-leb}
 use Rattle.bits.specs.Digits.{bit, linesIn}
 use Rattle.bits.proofs.Bools.{and-parts}
 use Rattle.bits.proofs.Digits.{bit-none, bit-or, bit-pow, below-of-bits, lines-ones}
@@ -28,11 +30,7 @@ use Rattle.checking.proofs.clauses.Bounds.{few-controls}
 use Rattle.checking.proofs.clauses.Tests.{or-false}
 use Rattle.checking.proofs.clauses.Forced.{length-upFrom}
 
--- the words of a gate, as the code counts them
-pub sizes-few : (k : ℕ) → k < 2 → gateSizes k ≡ totals 1 1 (4 * 1 + k)
-sizes-few zero h = refl
-sizes-few (suc zero) h = refl
-sizes-few (suc (suc k)) h = absurd (omega arith)
+-- ---- the sizes of a gate
 
 pub sizes-many : (k : ℕ) → 2 ≤ k → gateSizes k ≡ totals 2 (k + 2) (4 * (k + 2) + k)
 sizes-many zero h = absurd (omega arith)
@@ -41,23 +39,40 @@ sizes-many (suc (suc k)) h =
     let e : suc (suc k) + 3 + 4 * suc (suc k) + 5 ≡ 4 * (suc (suc k) + 2) + suc (suc k) = omega arith in
     ap (totals 2 (suc (suc k) + 2)) e
 
+-- its variables less one, and its clauses less one a variable, as the code sums them up
+pub variables-more : (k : ℕ) → boolByte (leb 2 k) + 1 ≡ gateSizes k .variables
+variables-more zero = refl
+variables-more (suc zero) = refl
+variables-more (suc (suc k)) = ap (λ (b : Bool). boolByte b + 1) (le-leb 2 (suc (suc k)) (omega arith))
+
+pub clauses-few : (k : ℕ) → k < 2 → 0 + gateSizes k .variables ≡ gateSizes k .clauses
+clauses-few zero h = refl
+clauses-few (suc zero) h = refl
+clauses-few (suc (suc k)) h = absurd (omega arith)
+
+pub clauses-many : (k : ℕ) → 2 ≤ k → k + gateSizes k .variables ≡ gateSizes k .clauses
+clauses-many zero h = absurd (omega arith)
+clauses-many (suc zero) h = absurd (omega arith)
+clauses-many (suc (suc k)) h = refl
+
+gate-words : (k : ℕ) → gateSizes k .words ≡ 4 * gateSizes k .clauses + k
+gate-words zero = refl
+gate-words (suc zero) = refl
+gate-words (suc (suc k)) = omega arith
+
+pub one-more : (k m : ℕ) → m + 1 ≡ gateSizes k .variables → m ≤ 1
+one-more zero m e = omega arith
+one-more (suc zero) m e = omega arith
+one-more (suc (suc k)) m e = omega arith
+
+pub controls-more : (k m : ℕ) → m + gateSizes k .variables ≡ gateSizes k .clauses → m ≤ k
+controls-more zero m e = omega arith
+controls-more (suc zero) m e = omega arith
+controls-more (suc (suc k)) m e = omega arith
+
 -- a gate on at most 64 lines has at most 64 controls
 pub controls-few : (n : ℕ) (g : Gate) → n ≤ maxLines → valid n g ≡ true → controlCount g ≤ maxLines
 controls-few n g few v = omega (arith, controls-count g (valid-more n maxLines g few v), few-controls maxLines g)
-
--- the sums stay small
-pub record Small (t : Totals) (m : ℕ) : Type 0 where
-  pub few-variables : t .variables ≤ 2 * m
-  pub few-clauses : t .clauses ≤ 66 * m
-  pub few-words : t .words ≤ 328 * m
-
-gate-small : (k : ℕ) → k ≤ maxLines → Small (gateSizes k) 1
-gate-small zero h = record { few-variables = omega arith; few-clauses = omega arith; few-words = omega arith }
-gate-small (suc zero) h = record { few-variables = omega arith; few-clauses = omega arith; few-words = omega arith }
-gate-small (suc (suc k)) h = record { few-variables = omega arith; few-clauses = omega arith; few-words = omega arith }
-
-pub sizes-small : (k : ℕ) (t : Totals) → k ≤ maxLines → t ≡ gateSizes k → Small t 1
-sizes-small k t h e = subst (λ (x : Totals). Small x 1) (sym e) (gate-small k h)
 
 -- ---- the lines that gates target, as a mask
 
@@ -109,38 +124,38 @@ lines-words mask hit same (suc n) =
 -- ---- the loop
 
 -- gates below i are valid and summed up, and the others are left
-pub record Summed (n : ℕ) (ws : List ℕ) (variables clauses words hit i : ℕ) : Type 0 where
+pub record Summed (n : ℕ) (ws : List ℕ) (variables clauses controls hit i : ℕ) : Type 0 where
   pub inside : i ≤ length ws / 3
   pub tested : validFrom n 0 (gatesOf ws) ≡ validFrom n i (gatesOf (drop (3 * i) ws))
-  pub few-variables : variables ≤ 2 * n + 2 * i
-  pub few-clauses : clauses ≤ n + 1 + 66 * i
-  pub few-words : words ≤ 4 * n + 2 + 328 * i
-  pub variables-left : variables + gatesSizes (gatesOf (drop (3 * i) ws)) .variables ≡ n + n + gatesSizes (gatesOf ws) .variables
-  pub clauses-left : clauses + gatesSizes (gatesOf (drop (3 * i) ws)) .clauses ≡ n + 1 + gatesSizes (gatesOf ws) .clauses
-  pub words-left : words + gatesSizes (gatesOf (drop (3 * i) ws)) .words ≡ 4 * n + 2 + gatesSizes (gatesOf ws) .words
+  pub few-variables : variables ≤ i
+  pub few-clauses : clauses ≤ 64 * i
+  pub few-controls : controls ≤ 64 * i
+  pub variables-left : i + variables + gatesSizes (gatesOf (drop (3 * i) ws)) .variables ≡ gatesSizes (gatesOf ws) .variables
+  pub clauses-left : i + variables + clauses + gatesSizes (gatesOf (drop (3 * i) ws)) .clauses ≡ gatesSizes (gatesOf ws) .clauses
+  pub words-left : 4 * (i + variables + clauses) + controls + gatesSizes (gatesOf (drop (3 * i) ws)) .words ≡ gatesSizes (gatesOf ws) .words
   pub lines-left : (k : ℕ) → (bit hit k || targeted (gatesOf (drop (3 * i) ws)) k) ≡ targeted (gatesOf ws) k
 
-pub summed-start : (n : ℕ) (ws : List ℕ) → Summed n ws (n + n) (n + 1) (4 * n + 2) 0 0
+pub summed-start : (n : ℕ) (ws : List ℕ) → Summed n ws 0 0 0 0 0
 summed-start n ws =
     record {
       inside = omega arith;
       tested = refl;
       few-variables = omega arith;
       few-clauses = omega arith;
-      few-words = omega arith;
-      variables-left = refl;
-      clauses-left = refl;
-      words-left = refl;
+      few-controls = omega arith;
+      variables-left = zero-add _;
+      clauses-left = zero-add _;
+      words-left = zero-add _;
       lines-left = λ k. ap (λ (b : Bool). b || targeted (gatesOf ws) k) (bit-none k);
     }
 
-module _ (n : ℕ) (ws : List ℕ) (v c w hit i : ℕ) (g : Gate) (few : n ≤ maxLines) (s : Summed n ws v c w hit i) (inside : i < length ws / 3) (is : g ≡ gateAt ws i)
-    (good : valid n g ≡ true) (t : Totals) (sizes : t ≡ gateSizes (controlCount g)) where
-  turn-sizes : gatesSizes (gatesOf (drop (3 * i) ws)) ≡ added t (gatesSizes (gatesOf (drop (3 * (i + 1)) ws)))
+module _ (n : ℕ) (ws : List ℕ) (v c d hit i : ℕ) (g : Gate) (few : n ≤ maxLines) (s : Summed n ws v c d hit i) (inside : i < length ws / 3) (is : g ≡ gateAt ws i)
+    (good : valid n g ≡ true) where
+  turn-sizes : gatesSizes (gatesOf (drop (3 * i) ws)) ≡ added (gateSizes (controlCount g)) (gatesSizes (gatesOf (drop (3 * (i + 1)) ws)))
   unfolding gatesSizes
   turn-sizes =
       ap gatesSizes (gates-next ws i inside)
-      ∙ ap (λ (x : Totals). added x (gatesSizes (gatesOf (drop (3 * (i + 1)) ws)))) (ap (λ (h : Gate). gateSizes (controlCount h)) (sym is) ∙ sym sizes)
+      ∙ ap (λ (h : Gate). added (gateSizes (controlCount h)) (gatesSizes (gatesOf (drop (3 * (i + 1)) ws)))) (sym is)
 
   turn-lines : (k : ℕ) → (bit (bitOr hit (2 ^ g .target)) k || targeted (gatesOf (drop (3 * (i + 1)) ws)) k) ≡ targeted (gatesOf ws) k
   unfolding targeted
@@ -155,27 +170,34 @@ module _ (n : ℕ) (ws : List ℕ) (v c w hit i : ℕ) (g : Gate) (few : n ≤ m
       or-assoc true b d = refl
       or-assoc false b d = refl
 
-  pub summed-next : Summed n ws (v + t .variables) (c + t .clauses) (w + t .words) (bitOr hit (2 ^ g .target)) (i + 1)
-  summed-next =
-      let one = sizes-small (controlCount g) t (controls-few n g few good) sizes in
+  pub summed-next : (k x y : ℕ) → k ≡ controlCount g → x + 1 ≡ gateSizes k .variables → y + gateSizes k .variables ≡ gateSizes k .clauses
+      → Summed n ws (v + x) (c + y) (d + k) (bitOr hit (2 ^ g .target)) (i + 1)
+  summed-next k x y count p q =
+      let controls = controls-few n g few good in
+      let turn : gatesSizes (gatesOf (drop (3 * i) ws)) ≡ added (gateSizes k) (gatesSizes (gatesOf (drop (3 * (i + 1)) ws))) =
+      turn-sizes ∙ ap (λ (j : ℕ). added (gateSizes j) (gatesSizes (gatesOf (drop (3 * (i + 1)) ws)))) (sym count) in
       record {
         inside = omega arith;
         tested = s .tested ∙ next-good n ws i g inside is good;
-        few-variables = omega (arith, s .few-variables, one .few-variables);
-        few-clauses = omega (arith, s .few-clauses, one .few-clauses);
-        few-words = omega (arith, s .few-words, one .few-words);
-        variables-left = omega (arith, s .variables-left, ap (λ (x : Totals). x .variables) turn-sizes);
-        clauses-left = omega (arith, s .clauses-left, ap (λ (x : Totals). x .clauses) turn-sizes);
-        words-left = omega (arith, s .words-left, ap (λ (x : Totals). x .words) turn-sizes);
+        few-variables = omega (arith, s .few-variables, one-more k x p);
+        few-clauses = omega (arith, s .few-clauses, controls-more k y q);
+        few-controls = omega (arith, s .few-controls);
+        variables-left = omega (arith, s .variables-left, ap (λ (t : Totals). t .variables) turn);
+        clauses-left = omega (arith, s .clauses-left, ap (λ (t : Totals). t .clauses) turn);
+        words-left = omega (arith, s .words-left, ap (λ (t : Totals). t .words) turn, gate-words k);
         lines-left = turn-lines;
       }
 
--- at the end
-module _ (n : ℕ) (ws : List ℕ) (v c w hit i : ℕ) (past : length ws / 3 ≤ i) (s : Summed n ws v c w hit i) where
+-- at the end: the totals that the code makes of the sums
+abbrev pub summed : (n gates variables clauses controls lines : ℕ) → Totals
+summed n gates variables clauses controls lines =
+    totals (2 * n + (gates + variables)) (n + 1 + (gates + variables + clauses)) (4 * n + 2 + 4 * (gates + variables + clauses) + controls + 2 * lines)
+
+module _ (n : ℕ) (ws : List ℕ) (v c d hit i : ℕ) (past : length ws / 3 ≤ i) (s : Summed n ws v c d hit i) where
   all-tested : validFrom n 0 (gatesOf ws) ≡ served i
   all-tested = s .tested ∙ none-left n ws i past
 
-  all-summed : totals v c (w + 2 * ones hit) ≡ sizesOf n (gatesOf ws)
+  all-summed : summed n (length ws / 3) v c d (ones hit) ≡ sizesOf n (gatesOf ws)
   unfolding sizesOf gatesSizes targeted
   all-summed =
       let gs = gatesOf ws in
@@ -187,15 +209,16 @@ module _ (n : ℕ) (ws : List ℕ) (v c w hit i : ℕ) (past : length ws / 3 ≤
       let empty : gatesSizes (gatesOf (drop (3 * i) ws)) ≡ totals 0 0 0 = ap gatesSizes none in
       let counts = lines-count (targeted gs) (upFrom 0 n) in
       let long = length-upFrom 0 n in
-      let a : v ≡ n + (gatesSizes gs .variables + (linesSizes (targeted gs) (upFrom 0 n) .variables + 0)) =
+      let all : length ws / 3 ≡ i = omega (arith, s .inside) in
+      let a : summed n (length ws / 3) v c d (ones hit) .variables ≡ n + (gatesSizes gs .variables + (linesSizes (targeted gs) (upFrom 0 n) .variables + 0)) =
       omega (arith, s .variables-left, ap (λ (x : Totals). x .variables) empty) in
-      let b : c ≡ 0 + (gatesSizes gs .clauses + (linesSizes (targeted gs) (upFrom 0 n) .clauses + 1)) =
+      let b : summed n (length ws / 3) v c d (ones hit) .clauses ≡ 0 + (gatesSizes gs .clauses + (linesSizes (targeted gs) (upFrom 0 n) .clauses + 1)) =
       omega (arith, s .clauses-left, ap (λ (x : Totals). x .clauses) empty) in
-      let d : w + 2 * ones hit ≡ 0 + (gatesSizes gs .words + (linesSizes (targeted gs) (upFrom 0 n) .words + (n + 2))) =
+      let e : summed n (length ws / 3) v c d (ones hit) .words ≡ 0 + (gatesSizes gs .words + (linesSizes (targeted gs) (upFrom 0 n) .words + (n + 2))) =
       omega (arith, s .words-left, ap (λ (x : Totals). x .words) empty, lines-words hit (targeted gs) same n, lines-ones n hit below) in
-      ap₂ (λ (x y : ℕ). totals x y (w + 2 * ones hit)) a b ∙ ap (totals _ _) d
+      ap₂ (λ (x y : ℕ). totals x y (summed n (length ws / 3) v c d (ones hit) .words)) a b ∙ ap (totals _ _) e
 
-  pub summed-all : served (totals v c (w + 2 * ones hit)) ≡ andThen (validFrom n 0 (gatesOf ws)) (λ k. served (sizesOf n (gatesOf ws)))
+  pub summed-all : served (summed n (length ws / 3) v c d (ones hit)) ≡ andThen (validFrom n 0 (gatesOf ws)) (λ k. served (sizesOf n (gatesOf ws)))
   summed-all = ap served all-summed ∙ sym (then-served (validFrom n 0 (gatesOf ws)) (λ k. served (sizesOf n (gatesOf ws))) i all-tested)
 
 -- ---- what the call answers

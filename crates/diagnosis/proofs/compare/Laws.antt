@@ -8,11 +8,13 @@ use lib.Dec.{eqb, leb, ltb}
 use borrow.Author.Tests.{eqb-true, eqb-false, not-true, not-false, le-leb, lt-leb, ltb-true, ltb-false}
 use Rattle.bits.proofs.Bools.{either, cond-true, cond-false}
 use Rattle.circuit.specs.declared.gate.Gate.{Gate}
+use Rattle.circuit.specs.Gate.{maxLines}
 use Rattle.circuit.specs.Outcome.{Outcome, served, refused}
 use Rattle.circuit.specs.Refusal.{badState, tooWide}
-use Rattle.circuit.specs.Words.{gatesOf, Counts, pairOutcome}
+use Rattle.circuit.specs.Words.{gatesOf, allValid, Counts, pairOutcome}
 use Rattle.circuit.specs.Run.{run, Equal, Differs}
 use Rattle.circuit.proofs.Outcome.{demand-met, demand-failed, then-served, then-refused}
+use Rattle.circuit.proofs.words.Laws.{valid-all-more, pair-served}
 use Rattle.diagnosis.specs.Compare.{outputsDiffer, maxSweepLines, Difference, none, lowest, lowestFrom, differenceOutcome, Says, differsOutcome, picked, pickOutcome, Picks}
 
 pub differ-no : (a b : List Gate) (x : ℕ) → outputsDiffer a b x ≡ false → run a x ≡ run b x
@@ -20,6 +22,13 @@ differ-no a b x e = eqb-true _ _ (not-false (eqb (run a x) (run b x)) e)
 
 pub differ-yes : (a b : List Gate) (x : ℕ) → outputsDiffer a b x ≡ true → run a x ≡ run b x → ⊥
 differ-yes a b x e = eqb-false _ _ (not-true (eqb (run a x) (run b x)) e)
+
+-- the gates of two cascades that were tested
+pub pair-gates : (na : ℕ) (a : List ℕ) (nb : ℕ) (b : List ℕ) (c : Counts) → pairOutcome na a nb b ≡ served c
+    → (allValid maxLines (gatesOf a) ≡ true) × (allValid maxLines (gatesOf b) ≡ true)
+pair-gates na a nb b c e =
+    let (k, m, same) = pair-served na a nb b c e in
+    (valid-all-more na maxLines (gatesOf a) (k .lines-high) (k .gates), valid-all-more nb maxLines (gatesOf b) (m .lines-high) (m .gates))
 
 -- ---- the search
 

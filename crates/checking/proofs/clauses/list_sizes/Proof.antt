@@ -1,8 +1,9 @@
 -- `checking::clauses::list_sizes` meets its contract. The loop's invariant: the gates passed are valid and summed up, and their targets stand in the mask. Assumes nothing.
 use mathlib.Core.Path.{_≡_, sym, ap, _∙_, subst}
 use mathlib.Core.Bool.{true}
-use Prim.Native.Nat.{ℕ, _+_, _*_, _-_, _≤_}
+use Prim.Native.Nat.{ℕ, _+_, _/_, _-_, _≤_}
 use native.Mathlib.Omega.{arith}
+use lib.ListN.{length}
 use borrow.Author.Needs.{needs}
 use borrow.Author.Tests.{not-true, not-false}
 use Rattle.circuit.specs.Gate.{maxLines, valid}
@@ -10,28 +11,15 @@ use Rattle.circuit.specs.Outcome.{served}
 use Rattle.circuit.proofs.Outcome.{why, then-refused}
 use Rattle.circuit.proofs.gate.Laws.{valid-facts}
 use Rattle.circuit.proofs.words.Laws.{next-bad}
-use Rattle.checking.specs.Sizes.{totals, gateSizes}
-use Rattle.checking.proofs.clauses.Loop.{Small, sizes-small, controls-few, Summed, summed-start, summed-next, summed-all}
+use Rattle.checking.proofs.clauses.Loop.{one-more, controls-more, controls-few, Summed, summed-start, summed-next, summed, summed-all}
 use Rattle.checking.proofs.clauses.list_sizes.Statement.{statement}
 use Rattle.checking.proofs.clauses.list_sizes.Tie as tie
 
 abbrev Inv-loop : tie.InvT-loop
-Inv-loop n words gates variables₀ clauses₀ total₀ hit₀ i₀ variables clauses total hit i = Summed n words variables clauses total hit i
+Inv-loop n words gates variables₀ clauses₀ controls₀ hit₀ i₀ variables clauses controls hit i = Summed n words variables clauses controls hit i
 
 abbrev μ-loop : tie.MeasureT-loop
-μ-loop n words gates variables₀ clauses₀ total₀ hit₀ i₀ variables clauses total hit i = gates - i
-
-add-variables : tie.Need-add-variables Inv-loop μ-loop
-add-variables c = search needs
-
-add-clauses : tie.Need-add-clauses Inv-loop μ-loop
-add-clauses c = search needs
-
-mul-total : tie.Need-mul-total Inv-loop μ-loop
-mul-total c = search needs
-
-add-total : tie.Need-add-total Inv-loop μ-loop
-add-total c = search needs
+μ-loop n words gates variables₀ clauses₀ controls₀ hit₀ i₀ variables clauses controls hit i = gates - i
 
 loop-holds : tie.Need-loop-holds Inv-loop μ-loop
 loop-holds c = summed-start (c .before .args .n) (c .before .args .words .now)
@@ -62,27 +50,29 @@ few c =
     let e = c .before in
     subst (λ (k : ℕ). k ≤ maxLines) (sym (c .control-count .ensures)) (controls-few _ (e .before .before .gate-at .result) (e .before .before .before .before .before .before .pre .0) (good e))
 
-adds : (c : tie.After-gate-sizes Inv-loop μ-loop) → Small (c .gate-sizes .result) 1
-adds c = sizes-small (c .before .control-count .result) (c .gate-sizes .result) (few (c .before)) (c .gate-sizes .ensures)
-
 control-count-requires : tie.Need-control-count-requires Inv-loop μ-loop
 control-count-requires c κs = search needs
 
-gate-sizes-requires : tie.Need-gate-sizes-requires Inv-loop μ-loop
-gate-sizes-requires c κs = few c
+extra-variables-requires : tie.Need-extra-variables-requires Inv-loop μ-loop
+extra-variables-requires c κs = search needs
 
-add-variables-2 : tie.Need-add-variables-2 Inv-loop μ-loop
-add-variables-2 c = let t = adds (c .before) in omega (arith, t .few-variables)
+add-variables : tie.Need-add-variables Inv-loop μ-loop
+add-variables c = omega (arith, one-more (c .before .control-count .result) (c .extra-variables .result) (c .extra-variables .ensures))
 
-add-clauses-2 : tie.Need-add-clauses-2 Inv-loop μ-loop
-add-clauses-2 c = let t = adds (c .before .before) in omega (arith, t .few-clauses)
+extra-clauses-requires : tie.Need-extra-clauses-requires Inv-loop μ-loop
+extra-clauses-requires c κs = search needs
 
-add-total-2 : tie.Need-add-total-2 Inv-loop μ-loop
-add-total-2 c = let t = adds (c .before .before .before) in omega (arith, t .few-words)
+add-clauses : tie.Need-add-clauses Inv-loop μ-loop
+add-clauses c =
+    let k = c .before .before in
+    omega (arith, few k, controls-more (k .control-count .result) (c .extra-clauses .result) (c .extra-clauses .ensures))
+
+add-controls : tie.Need-add-controls Inv-loop μ-loop
+add-controls c = omega (arith, few (c .before .before))
 
 with-line-requires : tie.Need-with-line-requires Inv-loop μ-loop
 with-line-requires c κs =
-    let e = c .before .before .before .before .before in
+    let e = c .before .before .before in
     let s = e .before .before .before .before .before .before in
     omega (arith, valid-facts (s .args .n) (e .before .before .gate-at .result) (good e) .target-below, s .pre .0)
 
@@ -94,31 +84,65 @@ loop-less c = omega arith
 
 loop-again : tie.Need-loop-again Inv-loop μ-loop
 loop-again c =
-    let z = c .before .before .before .before in
-    let k = z .before in
+    let y = c .before in
+    let x = y .before in
+    let k = x .before in
     let e = k .before in
     let g = e .before .before in
     let l = g .before .before in
     let s = l .before .before in
-    subst (λ (hit : ℕ). Summed (s .args .n) (s .args .words .now) (l .loop .variables + z .gate-sizes .result .variables) (l .loop .clauses + z .gate-sizes .result .clauses) (l .loop .total + z .gate-sizes .result .words) hit (l .loop .i + 1))
+    subst (λ (hit : ℕ). Summed (s .args .n) (s .args .words .now) (l .loop .variables + x .extra-variables .result) (l .loop .clauses + y .extra-clauses .result) (l .loop .controls + k .control-count .result) hit (l .loop .i + 1))
     (sym (c .with-line .ensures))
-    (summed-next (s .args .n) (s .args .words .now) _ _ _ _ _ (g .gate-at .result) (s .pre .0) (l .loop .inv) (omega arith) (g .gate-at .ensures) (good e) (z .gate-sizes .result)
-    (z .gate-sizes .ensures ∙ ap gateSizes (k .control-count .ensures)))
+    (summed-next (s .args .n) (s .args .words .now) _ _ _ _ _ (g .gate-at .result) (s .pre .0) (l .loop .inv) (omega arith) (g .gate-at .ensures) (good e) (k .control-count .result)
+    (x .extra-variables .result) (y .extra-clauses .result) (k .control-count .ensures) (x .extra-variables .ensures) (y .extra-clauses .ensures))
+
+add-gate-variables : tie.Need-add-gate-variables Inv-loop μ-loop
+add-gate-variables c = omega arith
+
+add-gate-clauses : tie.Need-add-gate-clauses Inv-loop μ-loop
+add-gate-clauses c = omega arith
+
+mul-t20 : tie.Need-mul-t20 Inv-loop μ-loop
+mul-t20 c = omega arith
+
+add-t21 : tie.Need-add-t21 Inv-loop μ-loop
+add-t21 c = omega arith
+
+add-t22 : tie.Need-add-t22 Inv-loop μ-loop
+add-t22 c = omega arith
+
+add-t23 : tie.Need-add-t23 Inv-loop μ-loop
+add-t23 c = omega arith
+
+mul-t24 : tie.Need-mul-t24 Inv-loop μ-loop
+mul-t24 c = omega arith
+
+add-t25 : tie.Need-add-t25 Inv-loop μ-loop
+add-t25 c = omega arith
+
+mul-t26 : tie.Need-mul-t26 Inv-loop μ-loop
+mul-t26 c = omega arith
+
+add-t27 : tie.Need-add-t27 Inv-loop μ-loop
+add-t27 c = omega arith
+
+add-t28 : tie.Need-add-t28 Inv-loop μ-loop
+add-t28 c = omega arith
 
 count-requires : tie.Need-count-requires Inv-loop μ-loop
 count-requires c κs = search needs
 
-mul-t19 : tie.Need-mul-t19 Inv-loop μ-loop
-mul-t19 c = omega arith
+mul-t30 : tie.Need-mul-t30 Inv-loop μ-loop
+mul-t30 c = omega arith
 
-add-t20 : tie.Need-add-t20 Inv-loop μ-loop
-add-t20 c = omega (arith, c .count .ensures .1)
+add-t31 : tie.Need-add-t31 Inv-loop μ-loop
+add-t31 c = omega (arith, c .count .ensures .1)
 
 returns-2 : tie.Need-returns-2 Inv-loop μ-loop
 returns-2 c =
     let l = c .before .before in
     let s = l .before .before in
-    ap (λ (k : ℕ). served (totals (l .loop .variables) (l .loop .clauses) (l .loop .total + 2 * k))) (c .count .ensures .0)
+    ap (λ (k : ℕ). served (summed (s .args .n) (length (s .args .words .now) / 3) (l .loop .variables) (l .loop .clauses) (l .loop .controls) k)) (c .count .ensures .0)
     ∙ summed-all (s .args .n) (s .args .words .now) _ _ _ (l .loop .hit) (l .loop .i) (omega arith) (l .loop .inv)
 
 pub list-sizes-spec : {M : Type 1} → statement M
@@ -127,25 +151,33 @@ list-sizes-spec =
     (tie.spec
     Inv-loop
     μ-loop
-    add-variables
-    add-clauses
-    mul-total
-    add-total
     loop-holds
     gate-at-requires
     valid-requires
     no-gate-requires
     returns
     control-count-requires
-    gate-sizes-requires
-    add-variables-2
-    add-clauses-2
-    add-total-2
+    extra-variables-requires
+    add-variables
+    extra-clauses-requires
+    add-clauses
+    add-controls
     with-line-requires
     add-i
     loop-less
     loop-again
+    add-gate-variables
+    add-gate-clauses
+    mul-t20
+    add-t21
+    add-t22
+    add-t23
+    mul-t24
+    add-t25
+    mul-t26
+    add-t27
+    add-t28
     count-requires
-    mul-t19
-    add-t20
+    mul-t30
+    add-t31
     returns-2)

@@ -10,7 +10,7 @@ use Rattle.circuit.specs.Outcome.{Outcome, served}
 use Rattle.circuit.specs.Words.{gatesOf, ofPair}
 use Rattle.circuit.proofs.Outcome.{why}
 use Rattle.diagnosis.specs.Compare.{lowestFrom, Says}
-use Rattle.diagnosis.proofs.compare.Laws.{difference-refused, difference-wide, difference-made, sweep-says}
+use Rattle.diagnosis.proofs.compare.Laws.{pair-gates, difference-refused, difference-wide, difference-made, sweep-says}
 use Rattle.diagnosis.proofs.compare.first_difference.Statement.{statement}
 use Rattle.diagnosis.proofs.compare.first_difference.Tie as tie
 
@@ -40,7 +40,9 @@ shl-lowest-difference : tie.Need-shl-lowest-difference
 shl-lowest-difference c = search needs
 
 lowest-difference-requires : tie.Need-lowest-difference-requires
-lowest-difference-requires c κs = search needs
+lowest-difference-requires c κs =
+    let t = c .before in
+    pair-gates _ _ _ _ _ (sym (t .before .before .check-pair .ensures) ∙ ap ofPair (t .enum-told .given .1))
 
 returns-2 : tie.Need-returns-2
 returns-2 c =

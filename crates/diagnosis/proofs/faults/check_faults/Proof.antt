@@ -3,6 +3,7 @@ use mathlib.Core.Path.{_≡_, sym, ap, _∙_}
 use borrow.Author.Needs.{needs}
 use Rattle.circuit.specs.Outcome.{served}
 use Rattle.circuit.specs.Words.{ofCount, ofPair, pairOutcome}
+use Rattle.diagnosis.proofs.compare.Laws.{pair-gates}
 use Rattle.diagnosis.proofs.faults.Loops.{fault-pair, fault-state, fault-agree, fault-good}
 use Rattle.diagnosis.proofs.faults.check_faults.Statement.{statement}
 use Rattle.diagnosis.proofs.faults.check_faults.Tie as tie
@@ -26,7 +27,9 @@ enum-told : tie.Need-enum-told
 enum-told c = search needs
 
 check-differing-requires : tie.Need-check-differing-requires
-check-differing-requires c κs = search needs
+check-differing-requires c κs =
+    let f = c .before .before .before .before in
+    pair-gates _ _ _ _ _ (sym (f .before .before .check-pair .ensures) ∙ ap ofPair (f .first .given .1))
 
 enum-known-why-3 : tie.Need-enum-known-why-3
 enum-known-why-3 c = search needs

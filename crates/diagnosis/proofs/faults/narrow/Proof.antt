@@ -43,7 +43,10 @@ slice-read-out : tie.Need-slice-read-out Inv-loop μ-loop
 slice-read-out c = search needs
 
 kept-positive-requires : tie.Need-kept-positive-requires Inv-loop μ-loop
-kept-positive-requires c κs = search needs
+kept-positive-requires c κs =
+    let g = c .before in
+    let l = g .before .before in
+    valid-next maxLines (l .before .before .before .args .words .now) (l .loop .i) _ (omega arith) (g .gate-at .ensures) (l .loop .inv .3)
 
 mul-out-2 : tie.Need-mul-out-2 Inv-loop μ-loop
 mul-out-2 c = search needs
@@ -61,7 +64,10 @@ slice-read-out-2 : tie.Need-slice-read-out-2 Inv-loop μ-loop
 slice-read-out-2 c = simp length-set (omega arith)
 
 kept-negative-requires : tie.Need-kept-negative-requires Inv-loop μ-loop
-kept-negative-requires c κs = search needs
+kept-negative-requires c κs =
+    let g = c .before .before .before in
+    let l = g .before .before in
+    valid-next maxLines (l .before .before .before .args .words .now) (l .loop .i) _ (omega arith) (g .gate-at .ensures) (l .loop .inv .3)
 
 add-out-2 : tie.Need-add-out-2 Inv-loop μ-loop
 add-out-2 c = search needs

@@ -1,0 +1,10 @@
+-- `diagnosis::compare::gate_fires` meets its contract. Assumes nothing.
+use Rattle.circuit.proofs.gate.Laws.{fires-gate}
+use Rattle.diagnosis.proofs.compare.gate_fires.Statement.{statement}
+use Rattle.diagnosis.proofs.compare.gate_fires.Tie as tie
+
+returns : tie.Need-returns
+returns c = fires-gate (c .args .g) (c .args .state) (c .pre)
+
+pub gate-fires-spec : {M : Type 1} → statement M
+gate-fires-spec = tie.close (tie.spec returns)
