@@ -1,12 +1,12 @@
 -- `diagnosis::compare::first_difference` meets its contract. Assumes nothing.
-use mathlib.Core.Path.{_≡_, refl, sym, ap, subst, _∙_}
+use mathlib.Core.Path.{sym, ap, subst, _∙_}
 use Prim.Native.Nat.{ℕ, _≤_, _^_}
 use native.Mathlib.Nat.{one-mul}
 use native.Mathlib.Omega.{arith}
 use lib.Dec.{lit<}
 use lib.Pow.{shl-exact}
 use borrow.Author.Needs.{needs}
-use Rattle.circuit.specs.Outcome.{Outcome, served}
+use Rattle.circuit.specs.Outcome.{served}
 use Rattle.circuit.specs.Words.{gatesOf, ofPair}
 use Rattle.circuit.proofs.Outcome.{why}
 use Rattle.diagnosis.specs.Compare.{lowestFrom, Says}

@@ -1,8 +1,7 @@
 -- `diagnosis::compare::lowest_difference` meets its contract. The loop's invariant: the states below x agree, so those from x on decide. Assumes nothing.
-use mathlib.Core.Path.{_≡_, refl, sym, ap, _∙_}
-use Prim.Native.Nat.{ℕ, _≤_, _-_}
+use mathlib.Core.Path.{_≡_, sym, ap, _∙_}
+use Prim.Native.Nat.{_≤_, _-_}
 use native.Mathlib.Omega.{arith}
-use borrow.Author.Needs.{needs}
 use Rattle.circuit.specs.Outcome.{served}
 use Rattle.circuit.specs.Words.{gatesOf}
 use Rattle.diagnosis.specs.Compare.{lowestFrom}

@@ -1,7 +1,7 @@
 -- `diagnosis::compare::output` meets its contract. The loop's invariant: what is left are gates, and running them on the state gives the output. Assumes nothing.
 use mathlib.Core.Path.{_≡_, refl, sym, ap, _∙_}
 use mathlib.Core.Bool.{true}
-use Prim.Native.Nat.{ℕ, _≤_, _-_, _*_}
+use Prim.Native.Nat.{_≤_, _-_, _*_}
 use native.Mathlib.Omega.{arith}
 use lib.ListN.{drop}
 use borrow.Author.Needs.{needs}

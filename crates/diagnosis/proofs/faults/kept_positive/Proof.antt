@@ -1,5 +1,5 @@
 -- `diagnosis::faults::kept_positive` meets its contract. Assumes nothing.
-use mathlib.Core.Path.{_≡_, sym, _∙_}
+use mathlib.Core.Path.{sym, _∙_}
 use Rattle.bits.proofs.Bools.{cond-true, cond-false}
 use Rattle.diagnosis.specs.Faults.{kept}
 use Rattle.diagnosis.proofs.faults.kept_positive.Statement.{statement}
