@@ -1,0 +1,3 @@
+pub mod Dimacs
+pub mod Words
+pub mod Tomiter
