@@ -9,12 +9,12 @@ use Rattle.bits.proofs.Bools.{either, cond-true, cond-false}
 use Rattle.files.specs.Text.{digit}
 use Rattle.text.specs.Dimacs.{decimalWithin, decimal}
 
-within-short : (most k : ℕ) → k < 10 → decimalWithin most k ≡ digit k ∷ []
+pub within-short : (most k : ℕ) → k < 10 → decimalWithin most k ≡ digit k ∷ []
 unfolding decimalWithin
 within-short zero k h = refl
 within-short (suc most) k h = cond-true (ltb k 10) _ _ (lt-ltb k 10 h)
 
-within-long : (most k : ℕ) → 10 ≤ k → decimalWithin (suc most) k ≡ decimalWithin most (k / 10) ++ (digit (k % 10) ∷ [])
+pub within-long : (most k : ℕ) → 10 ≤ k → decimalWithin (suc most) k ≡ decimalWithin most (k / 10) ++ (digit (k % 10) ∷ [])
 unfolding decimalWithin
 within-long most k h = cond-false (ltb k 10) _ _ (le-ltb k 10 h)
 

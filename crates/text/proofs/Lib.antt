@@ -1,2 +1,3 @@
--- The laws of `specs/Dimacs.antt` and `specs/Tomiter.antt`: `Decimal` on numbers.
+-- The laws of `specs/Dimacs.antt` and `specs/Tomiter.antt`: `Decimal` on numbers, `Reading` on reading a text back.
 pub mod Decimal
+pub mod Reading

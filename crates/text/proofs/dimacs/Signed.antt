@@ -13,7 +13,8 @@ use mir.Val.{Fits, SFits, toZ, ofZ}
 use mir.ValLaws.{toZ-ofZ}
 use Rattle.checking.specs.Satisfaction.{size}
 use Rattle.files.specs.Text.{minus}
-use Rattle.text.specs.Words.{signText}
+use Rattle.text.specs.Dimacs.{xorSign}
+use Rattle.text.specs.Words.{signText, kindText}
 
 -- a word of 16 bits fits 64
 wide : (z : ℤ) → SFits w16 z → SFits w64 z
@@ -92,3 +93,13 @@ sign-minus (negsuc i) h = refl
 pub sign-plus : (z : ℤ) → ltZ z (pos 0) ≡ false → signText z ≡ []
 sign-plus (pos v) h = refl
 sign-plus (negsuc i) h = absurd (true≢false h)
+
+-- the code's test of a kind word
+pub kind-xor : (z : ℤ) → SFits w16 z → ofZ w16 z ≡ 1 → kindText z ≡ xorSign ∷ []
+kind-xor z f h = ap kindText (sym (word-is z f) ∙ ap (toZ w16) h)
+
+pub kind-other : (z : ℤ) → (ofZ w16 z ≡ 1 → ⊥) → kindText z ≡ []
+kind-other (pos zero) h = refl
+kind-other (pos (suc zero)) h = absurd (h refl)
+kind-other (pos (suc (suc k))) h = refl
+kind-other (negsuc i) h = refl

@@ -1,54 +1,79 @@
+-- `text::dimacs::put_clause` meets its contract. Assumes nothing.
+use mathlib.Core.Path.{ap}
+use mathlib.Core.List.{_++_}
+use native.Mathlib.Omega.{arith}
+use lib.IntN.{ℤ}
+use lib.ListN.{length, length-append}
+use Rattle.files.proofs.file.put.Laws.{put-as}
+use Rattle.text.specs.Dimacs.{literalsText, closing}
+use Rattle.text.specs.Words.{kindText}
+use Rattle.text.proofs.put.Laws.{two-put}
+use Rattle.text.proofs.dimacs.Signed.{word-is}
 use borrow.Author.Needs.{needs}
 use Rattle.text.proofs.dimacs.put_clause.Statement.{statement}
 use Rattle.text.proofs.dimacs.put_clause.Tie as tie
-use Rattle.text.proofs.dimacs.put_clause.Reads as reads
-use Rattle.text.proofs.dimacs.put_clause.Lts as lts
-use Rattle.text.proofs.dimacs.put_closed.Reads as put-closed-reads
-use Rattle.text.proofs.dimacs.put_kind.Reads as put-kind-reads
 
--- src/dimacs.rt:90:23
 sub-put-kind : tie.Need-sub-put-kind
 sub-put-kind c = search needs
 
--- src/dimacs.rt:90:23
 part-put-kind-start : tie.Need-part-put-kind-start
 part-put-kind-start c = search needs
 
--- src/dimacs.rt:90:23
 part-put-kind-end : tie.Need-part-put-kind-end
 part-put-kind-end c = search needs
 
--- src/dimacs.rt:90:9
 put-kind-requires : tie.Need-put-kind-requires
-put-kind-requires c κs = ?
+put-kind-requires c κs =
+    let s = c .before .before in
+    let e = ap (λ (z : ℤ). length (kindText z)) (word-is (s .args .kind) (s .fits .kind)) in
+    let l = length-append (kindText (s .args .kind)) (literalsText (s .args .literals .now) ++ closing) in
+    let m = length-append (literalsText (s .args .literals .now)) closing in
+    search needs
 
--- src/dimacs.rt:91:21
 sub-put-closed : tie.Need-sub-put-closed
-sub-put-closed c = ?
+sub-put-closed c =
+    let s = c .before .before .before .before .before in
+    let e = ap (λ (z : ℤ). length (kindText z)) (word-is (s .args .kind) (s .fits .kind)) in
+    let l = length-append (kindText (s .args .kind)) (literalsText (s .args .literals .now) ++ closing) in
+    let m = length-append (literalsText (s .args .literals .now)) closing in
+    search needs
 
--- src/dimacs.rt:91:21
 part-put-closed-start : tie.Need-part-put-closed-start
-part-put-closed-start c = ?
+part-put-closed-start c =
+    let s = c .before .before .before .before .before in
+    let e = ap (λ (z : ℤ). length (kindText z)) (word-is (s .args .kind) (s .fits .kind)) in
+    let l = length-append (kindText (s .args .kind)) (literalsText (s .args .literals .now) ++ closing) in
+    let m = length-append (literalsText (s .args .literals .now)) closing in
+    search needs
 
--- src/dimacs.rt:91:21
 part-put-closed-end : tie.Need-part-put-closed-end
 part-put-closed-end c = search needs
 
--- src/dimacs.rt:91:10
 put-closed-requires : tie.Need-put-closed-requires
-put-closed-requires c κs = ?
+put-closed-requires c κs =
+    let s = c .before .before .before .before .before .before in
+    let e = ap (λ (z : ℤ). length (kindText z)) (word-is (s .args .kind) (s .fits .kind)) in
+    let l = length-append (kindText (s .args .kind)) (literalsText (s .args .literals .now) ++ closing) in
+    let m = length-append (literalsText (s .args .literals .now)) closing in
+    search needs
 
--- src/dimacs.rt:91:5
 add-result : tie.Need-add-result
-add-result c = ?
+add-result c =
+    let s = c .before .before .before .before .before .before .before .before .before in
+    let e = ap (λ (z : ℤ). length (kindText z)) (word-is (s .args .kind) (s .fits .kind)) in
+    let l = length-append (kindText (s .args .kind)) (literalsText (s .args .literals .now) ++ closing) in
+    let m = length-append (literalsText (s .args .literals .now)) closing in
+    search needs
 
--- src/dimacs.rt:86:1
 same-length : tie.Need-same-length
 same-length c = search needs
 
--- src/dimacs.rt:86:1
 returns : tie.Need-returns
-returns c = ?
+returns c =
+    let s = c .before .before .before .before .before .before .before .before .before in
+    let z = s .args .kind in
+    let l = length-append (kindText z) (literalsText (s .args .literals .now) ++ closing) in
+    two-put (s .args .out .now) _ _ (kindText z) (put-as _ _ _ _ _ (ap kindText (word-is z (s .fits .kind))) (c .before .before .before .before .before .before .put-kind .ensures)) (c .before .before .before .before .before .before .put-kind .kept .0) _ _ _ (omega arith) (c .before .before .put-closed .ensures) (c .before .before .put-closed .kept .0)
 
 pub put-clause-spec : {M : Type 1} → statement M
 put-clause-spec =

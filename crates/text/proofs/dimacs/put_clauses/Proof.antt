@@ -1,103 +1,111 @@
+-- `text::dimacs::put_clauses` meets its contract. The loop's invariant: the clauses that were passed stand at the buffer's start. Assumes nothing.
+use mathlib.Core.Path.{_≡_, refl, ap, _∙_}
+use Prim.Native.Nat.{_-_, _<_}
+use native.Mathlib.Omega.{arith}
+use lib.ListN.{length}
+use borrow.Author.Needs.{needs, sfits-of}
+use Rattle.checking.specs.Satisfaction.{size}
+use Rattle.files.proofs.file.put.Laws.{rest-length}
+use Rattle.text.proofs.dimacs.Signed.{word-is}
+use Rattle.text.proofs.dimacs.Loops.{Listing, count, listing-start, listing-at, listing-inside, listing-count, listing-room, listing-on, listing-done}
 use Rattle.text.proofs.dimacs.put_clauses.Statement.{statement}
 use Rattle.text.proofs.dimacs.put_clauses.Tie as tie
-use Rattle.text.proofs.dimacs.put_clauses.Reads as reads
-use Rattle.text.proofs.dimacs.put_clauses.Lts as lts
-use Rattle.text.proofs.dimacs.magnitude.Reads as magnitude-reads
-use Rattle.text.proofs.dimacs.put_clause.Reads as put-clause-reads
 
 abbrev Inv-loop : tie.InvT-loop
-Inv-loop out₀ words at₀ i₀ out at i = ?
+Inv-loop out₀ words at₀ i₀ out at i = Listing words out₀ out at i
 
 abbrev μ-loop : tie.MeasureT-loop
-μ-loop out₀ words at₀ i₀ out at i = ?
+μ-loop out₀ words at₀ i₀ out at i = length words - i
 
--- src/dimacs.rt:102:5
+-- a clause is left
+more : (c : tie.In-loop Inv-loop μ-loop) → c .before .loop .i < length (c .before .before .before .args .words .now)
+more c = omega arith
+
+-- the literals of the next clause are counted
+counted : (c : tie.After-magnitude Inv-loop μ-loop) → c .magnitude .result ≡ count _ _ _ _ _ (c .before .before .before .loop .inv) (more (c .before .before))
+counted c =
+    c .magnitude .ensures
+    ∙ ap size (word-is _ (sfits-of (c .before .magnitude-arg .given)) ∙ listing-count _ _ _ _ _ (c .before .before .before .loop .inv) (more (c .before .before)))
+
 loop-holds : tie.Need-loop-holds Inv-loop μ-loop
-loop-holds c = ?
+loop-holds c = listing-start _ _ (c .before .pre .0) (c .before .pre .1)
 
--- src/dimacs.rt:103:20
 add-from : tie.Need-add-from Inv-loop μ-loop
-add-from c = ?
+add-from c = let l = listing-inside _ _ _ _ _ (c .before .loop .inv) (more c) in search needs
 
--- src/dimacs.rt:104:41
 add-magnitude : tie.Need-add-magnitude Inv-loop μ-loop
-add-magnitude c = ?
+add-magnitude c = let l = listing-inside _ _ _ _ _ (c .before .loop .inv) (more c) in search needs
 
--- src/dimacs.rt:104:35
 mul-magnitude : tie.Need-mul-magnitude Inv-loop μ-loop
-mul-magnitude c = ?
+mul-magnitude c = let l = listing-inside _ _ _ _ _ (c .before .loop .inv) (more c) in search needs
 
--- src/dimacs.rt:104:35
 shared-slice-copy-out-magnitude : tie.Need-shared-slice-copy-out-magnitude Inv-loop μ-loop
-shared-slice-copy-out-magnitude c = ?
+shared-slice-copy-out-magnitude c = let l = listing-inside _ _ _ _ _ (c .before .loop .inv) (more c) in search needs
 
--- src/dimacs.rt:104:25
 magnitude-requires : tie.Need-magnitude-requires Inv-loop μ-loop
-magnitude-requires c κs = ?
+magnitude-requires c κs = search needs
 
--- src/dimacs.rt:104:18
 add-to : tie.Need-add-to Inv-loop μ-loop
-add-to c = ?
+add-to c = let e = counted c in let l = listing-inside _ _ _ _ _ (c .before .before .before .loop .inv) (more (c .before .before)) in search needs
 
--- src/dimacs.rt:105:26
 sub-put-clause : tie.Need-sub-put-clause Inv-loop μ-loop
-sub-put-clause c = ?
+sub-put-clause c = listing-at _ _ _ _ _ (c .before .before .before .loop .inv)
 
--- src/dimacs.rt:105:26
 part-put-clause-start : tie.Need-part-put-clause-start Inv-loop μ-loop
-part-put-clause-start c = ?
+part-put-clause-start c = let h = listing-at _ _ _ _ _ (c .before .before .before .loop .inv) in search needs
 
--- src/dimacs.rt:105:26
 part-put-clause-end : tie.Need-part-put-clause-end Inv-loop μ-loop
-part-put-clause-end c = ?
+part-put-clause-end c = search needs
 
--- src/dimacs.rt:105:42
 mul-put-clause : tie.Need-mul-put-clause Inv-loop μ-loop
-mul-put-clause c = ?
+mul-put-clause c = search needs
 
--- src/dimacs.rt:105:42
 shared-slice-copy-out-put-clause : tie.Need-shared-slice-copy-out-put-clause Inv-loop μ-loop
-shared-slice-copy-out-put-clause c = ?
+shared-slice-copy-out-put-clause c = search needs
 
--- src/dimacs.rt:105:52
 mul-put-clause-2 : tie.Need-mul-put-clause-2 Inv-loop μ-loop
-mul-put-clause-2 c = ?
+mul-put-clause-2 c = let l = listing-inside _ _ _ _ _ (c .before .before .before .before .before .loop .inv) (more (c .before .before .before .before)) in search needs
 
--- src/dimacs.rt:105:52
 sub-put-clause-2 : tie.Need-sub-put-clause-2 Inv-loop μ-loop
-sub-put-clause-2 c = ?
+sub-put-clause-2 c = let e = counted (c .before .before) in let l = listing-inside _ _ _ _ _ (c .before .before .before .before .before .loop .inv) (more (c .before .before .before .before)) in search needs
 
--- src/dimacs.rt:105:52
 part-put-clause-start-2 : tie.Need-part-put-clause-start-2 Inv-loop μ-loop
-part-put-clause-start-2 c = ?
+part-put-clause-start-2 c = let e = counted (c .before .before) in let l = listing-inside _ _ _ _ _ (c .before .before .before .before .before .loop .inv) (more (c .before .before .before .before)) in search needs
 
--- src/dimacs.rt:105:52
 part-put-clause-end-2 : tie.Need-part-put-clause-end-2 Inv-loop μ-loop
-part-put-clause-end-2 c = ?
+part-put-clause-end-2 c = let e = counted (c .before .before) in let l = listing-inside _ _ _ _ _ (c .before .before .before .before .before .loop .inv) (more (c .before .before .before .before)) in search needs
 
--- src/dimacs.rt:105:15
 put-clause-requires : tie.Need-put-clause-requires Inv-loop μ-loop
-put-clause-requires c κs = ?
+put-clause-requires c κs =
+    let m = c .before .before .before in
+    let l = m .before .before .before in
+    let h = listing-at _ _ _ _ _ (l .loop .inv) in
+    omega (arith, listing-room _ _ _ _ _ (l .loop .inv) (more (m .before .before)) _ (counted m) _ _ (word-is _ (sfits-of (c .before .put-clause-arg2 .given))) refl, rest-length (l .loop .out) (l .loop .at) h)
 
--- src/dimacs.rt:105:9
 add-at : tie.Need-add-at Inv-loop μ-loop
-add-at c = ?
+add-at c =
+    let p = c .before .before in
+    let m = p .before .before .before .before in
+    let l = m .before .before .before in
+    omega (arith, listing-room _ _ _ _ _ (l .loop .inv) (more (m .before .before)) _ (counted m) _ _ (word-is _ (sfits-of (p .before .before .put-clause-arg2 .given))) refl, p .put-clause .ensures .count)
 
--- src/dimacs.rt:102:5
 loop-less : tie.Need-loop-less Inv-loop μ-loop
-loop-less c = ?
+loop-less c =
+    let m = c .before .before .before .before .before .before in
+    omega (arith, more (m .before .before))
 
--- src/dimacs.rt:102:5
 loop-again : tie.Need-loop-again Inv-loop μ-loop
-loop-again c = ?
+loop-again c =
+    let p = c .before .before in
+    let m = p .before .before .before .before in
+    let l = m .before .before .before in
+    listing-on _ _ _ _ _ (l .loop .inv) (more (m .before .before)) _ (counted m) _ _ (word-is _ (sfits-of (p .before .before .put-clause-arg2 .given))) refl _ _ (p .put-clause .ensures) (p .put-clause .kept .0)
 
--- src/dimacs.rt:95:1
 same-length : tie.Need-same-length Inv-loop μ-loop
-same-length c = ?
+same-length c = c .before .loop .inv .filled .same
 
--- src/dimacs.rt:95:1
 returns : tie.Need-returns Inv-loop μ-loop
-returns c = ?
+returns c = listing-done _ _ _ _ _ (c .before .loop .inv) (omega arith)
 
 pub put-clauses-spec : {M : Type 1} → statement M
 put-clauses-spec =

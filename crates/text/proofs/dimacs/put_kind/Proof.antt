@@ -1,29 +1,34 @@
+-- `text::dimacs::put_kind` meets its contract. Assumes nothing.
+use mathlib.Core.Path.{sym, ap}
+use native.Mathlib.Omega.{arith}
+use lib.ListN.{length}
+use Rattle.files.proofs.file.put.Laws.{put-as}
+use Rattle.text.proofs.put.Laws.{put-none}
+use Rattle.text.proofs.dimacs.Signed.{kind-xor, kind-other}
 use borrow.Author.Needs.{needs}
 use Rattle.text.proofs.dimacs.put_kind.Statement.{statement}
 use Rattle.text.proofs.dimacs.put_kind.Tie as tie
-use Rattle.text.proofs.dimacs.put_kind.Reads as reads
-use Rattle.text.proofs.dimacs.put_kind.Lts as lts
-use Rattle.text.proofs.put.put_word.Reads as put-word-reads
 
--- src/dimacs.rt:63:42
 slice-aggregate-put-word : tie.Need-slice-aggregate-put-word
 slice-aggregate-put-word c = search needs
 
--- src/dimacs.rt:63:9
 put-word-requires : tie.Need-put-word-requires
-put-word-requires c κs = ?
+put-word-requires c κs =
+    let s = c .before .before .before .before in
+    omega (arith, s .pre, ap length (kind-xor (s .args .kind) (s .fits .kind) (c .before .before .if1 .taken)))
 
--- src/dimacs.rt:63:9
 same-length : tie.Need-same-length
 same-length c = search needs
 
--- src/dimacs.rt:63:9
 returns : tie.Need-returns
-returns c = ?
+returns c =
+    let s = c .before .before .before .before .before .before .before in
+    put-as _ _ _ _ _ (sym (kind-xor (s .args .kind) (s .fits .kind) (c .before .before .before .before .before .if1 .taken))) (c .before .before .put-word .ensures)
 
--- src/dimacs.rt:58:1
 returns-2 : tie.Need-returns-2
-returns-2 c = ?
+returns-2 c =
+    let s = c .before .before in
+    put-as _ _ _ _ _ (sym (kind-other (s .args .kind) (c .if1 .left))) (put-none (s .args .out .now))
 
 pub put-kind-spec : {M : Type 1} → statement M
 put-kind-spec =
