@@ -275,6 +275,7 @@ abbrev headerLine : ℕ → ℕ → List ℕ
 headerLine v m = (problemWord ++ (blank ∷ cnfWord)) ++ (blank ∷ (decimal v ++ (blank ∷ decimal m)))
 
 header-closed : (v m : ℕ) (r : List ℕ) → headerText v m ++ r ≡ headerLine v m ++ (lineFeed ∷ r)
+unfolding headerText
 header-closed v m r =
     ap (λ (l : List ℕ). (problemWord ++ (blank ∷ cnfWord)) ++ (blank ∷ l))
     (append-assoc (decimal v) (blank ∷ (decimal m ++ (lineFeed ∷ []))) r

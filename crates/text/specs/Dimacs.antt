@@ -58,7 +58,7 @@ clausesText [] = []
 clausesText (c ∷ cs) = clauseText c ++ clausesText cs
 
 -- `p cnf`, variables, clauses, parted by blanks
-abbrev pub headerText : ℕ → ℕ → List ℕ
+unfoldable pub headerText : ℕ → ℕ → List ℕ
 headerText variables clauses =
     (problemWord ++ (blank ∷ cnfWord)) ++ (blank ∷ (decimal variables ++ (blank ∷ (decimal clauses ++ (lineFeed ∷ [])))))
 

@@ -1,3 +1,4 @@
 pub mod Dimacs
 pub mod Words
 pub mod Tomiter
+pub mod Answers

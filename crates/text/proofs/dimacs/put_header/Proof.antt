@@ -17,6 +17,7 @@ abbrev start : List ℕ
 start = problemWord ++ (blank ∷ (cnfWord ++ (blank ∷ [])))
 
 parts : (v m : ℕ) → (start ++ decimal v) ++ (((blank ∷ []) ++ decimal m) ++ (lineFeed ∷ [])) ≡ headerText v m
+unfolding headerText
 parts v m = append-assoc start (decimal v) (((blank ∷ []) ++ decimal m) ++ (lineFeed ∷ []))
 
 parts-length : (v m : ℕ) → length (headerText v m) ≡ length (start ++ decimal v) + (length (decimal m) + 2)

@@ -1,54 +1,64 @@
+-- `text::dimacs::put_list` meets its contract. Assumes nothing.
+use native.Mathlib.Omega.{arith}
+use lib.ListN.{length-append}
+use Rattle.text.specs.Dimacs.{headerText}
+use Rattle.text.specs.Words.{wordsText}
+use Rattle.text.proofs.put.Laws.{two-put}
 use borrow.Author.Needs.{needs}
 use Rattle.text.proofs.dimacs.put_list.Statement.{statement}
 use Rattle.text.proofs.dimacs.put_list.Tie as tie
-use Rattle.text.proofs.dimacs.put_list.Reads as reads
-use Rattle.text.proofs.dimacs.put_list.Lts as lts
-use Rattle.text.proofs.dimacs.put_clauses.Reads as put-clauses-reads
-use Rattle.text.proofs.dimacs.put_header.Reads as put-header-reads
 
--- src/dimacs.rt:126:25
 sub-put-header : tie.Need-sub-put-header
 sub-put-header c = search needs
 
--- src/dimacs.rt:126:25
 part-put-header-start : tie.Need-part-put-header-start
 part-put-header-start c = search needs
 
--- src/dimacs.rt:126:25
 part-put-header-end : tie.Need-part-put-header-end
 part-put-header-end c = search needs
 
--- src/dimacs.rt:126:9
 put-header-requires : tie.Need-put-header-requires
-put-header-requires c κs = ?
+put-header-requires c κs =
+    let a = c .before .before .args in
+    let e = length-append (headerText (a .variables) (a .clauses)) (wordsText (a .words .now)) in
+    search needs
 
--- src/dimacs.rt:127:22
 sub-put-clauses : tie.Need-sub-put-clauses
-sub-put-clauses c = ?
+sub-put-clauses c =
+    let a = c .before .before .before .before .before .args in
+    let e = length-append (headerText (a .variables) (a .clauses)) (wordsText (a .words .now)) in
+    search needs
 
--- src/dimacs.rt:127:22
 part-put-clauses-start : tie.Need-part-put-clauses-start
-part-put-clauses-start c = ?
+part-put-clauses-start c =
+    let a = c .before .before .before .before .before .args in
+    let e = length-append (headerText (a .variables) (a .clauses)) (wordsText (a .words .now)) in
+    search needs
 
--- src/dimacs.rt:127:22
 part-put-clauses-end : tie.Need-part-put-clauses-end
 part-put-clauses-end c = search needs
 
--- src/dimacs.rt:127:10
 put-clauses-requires : tie.Need-put-clauses-requires
-put-clauses-requires c κs = ?
+put-clauses-requires c κs =
+    let s = c .before .before .before .before .before .before in
+    let a = s .args in
+    let e = length-append (headerText (a .variables) (a .clauses)) (wordsText (a .words .now)) in
+    (s .pre .0, search needs)
 
--- src/dimacs.rt:127:5
 add-result : tie.Need-add-result
-add-result c = ?
+add-result c =
+    let a = c .before .before .before .before .before .before .before .before .before .args in
+    let e = length-append (headerText (a .variables) (a .clauses)) (wordsText (a .words .now)) in
+    search needs
 
--- src/dimacs.rt:121:1
 same-length : tie.Need-same-length
 same-length c = search needs
 
--- src/dimacs.rt:121:1
 returns : tie.Need-returns
-returns c = ?
+returns c =
+    let a = c .before .before .before .before .before .before .before .before .before .args in
+    let e = length-append (headerText (a .variables) (a .clauses)) (wordsText (a .words .now)) in
+    two-put (a .out .now) _ _ _ (c .before .before .before .before .before .before .put-header .ensures) (c .before .before .before .before .before .before .put-header .kept .0) _ _ _ (omega arith) (c .before .before .put-clauses .ensures) (c .before .before .put-clauses .kept .0)
 
 pub put-list-spec : {M : Type 1} → statement M
 put-list-spec =
