@@ -21,6 +21,10 @@ maxInput = 65536
 abbrev pub maxWords : ℕ
 maxWords = 16384
 
+-- no text has more bytes: six for each word of the clause buffer, and seventeen for the header
+abbrev pub maxText : ℕ
+maxText = 98321
+
 -- clauses over so many variables; or a refusal's number, file (1, 2, or 0 for both) and place
 pub data Verdict : Type 0 where
   listed : ℕ → List Clause → Verdict
@@ -61,7 +65,7 @@ abbrev pub refusedWord : List ℕ
 refusedWord = 114 ∷ 101 ∷ 102 ∷ 117 ∷ 115 ∷ 101 ∷ 100 ∷ []
 
 -- `refused`, number, file, place, tab-parted, and an LF
-abbrev pub refusalText : ℕ → ℕ → ℕ → List ℕ
+unfoldable pub refusalText : ℕ → ℕ → ℕ → List ℕ
 refusalText number file place =
     refusedWord ++ (tab ∷ (decimal number ++ (tab ∷ (decimal file ++ (tab ∷ (decimal place ++ (lineFeed ∷ [])))))))
 

@@ -20,7 +20,9 @@ pub enum ListAnswer {
 
 // The words of a file's cascade and of a miter, and the bytes of an input, at most.
 const FILE_WORDS: usize = 3072;
+
 const MITER_WORDS: usize = 6144;
+
 const MAX_INPUT: usize = 65536;
 
 // The clause list of two cascades; else 8 or 10.

@@ -121,7 +121,7 @@ put-number-slice-write-out-2 : (t : ℕ) → put-number-lts.Need-slice-write-out
   put-number-below t,
   put-number.Post,
 ) (put-number-at t) put-number.Post
-put-number-slice-write-out-2 t c = 
+put-number-slice-write-out-2 t c =
     let q = c .before .before .before in
     let a = q .before .before .before .before in
     omega (arith, a .pre .1, long-length (a .args .k) (q .before .before .if1 .left), q .put-number .ensures .count, q .put-number .kept .0)
@@ -133,7 +133,7 @@ put-number-add-result : (t : ℕ) → put-number-lts.Need-add-result (
   put-number-below t,
   put-number.Post,
 ) (put-number-at t) put-number.Post
-put-number-add-result t c = 
+put-number-add-result t c =
     let q = c .before .before .before in
     let a = q .before .before .before .before in
     omega (arith, a .pre .1, long-length (a .args .k) (q .before .before .if1 .left), q .put-number .ensures .count, a .good .0 .0)
@@ -145,7 +145,7 @@ put-number-same-length-2 : (t : ℕ) → put-number-lts.Need-same-length-2 (
   put-number-below t,
   put-number.Post,
 ) (put-number-at t) put-number.Post
-put-number-same-length-2 t c = 
+put-number-same-length-2 t c =
     let q = c .before .before .before in
     length-set (q .put-number .last .0) (q .put-number .result) (c .digit2 .result) ∙ q .put-number .kept .0
 
@@ -156,7 +156,7 @@ put-number-returns-2 : (t : ℕ) → put-number-lts.Need-returns-2 (
   put-number-below t,
   put-number.Post,
 ) (put-number-at t) put-number.Post
-put-number-returns-2 t c = 
+put-number-returns-2 t c =
     let q = c .before .before .before in
     let a = q .before .before .before .before in
     long-put (a .args .k) (a .args .out .now) (q .put-number .last .0) (q .put-number .result) (c .digit2 .result) (q .before .before .if1 .left) (c .digit2 .ensures) (q .put-number .ensures) (a .pre .1)
