@@ -3,3 +3,5 @@ pub mod Decimal
 pub mod Reading
 pub mod Pairs
 pub mod Sizes
+pub mod Telling
+pub mod StandIns

@@ -2,3 +2,4 @@ pub mod Dimacs
 pub mod Words
 pub mod Tomiter
 pub mod Answers
+pub mod TextLaws

@@ -5,6 +5,7 @@ ghost use lib.ListN.{length};
 ghost use Rattle.circuit.specs.Outcome.{Yields};
 ghost use Rattle.text.specs.Tomiter.{tomiterOutcome, tomiterBuffer};
 ghost use Rattle.text.specs.Answers.{ofText};
+ghost use Rattle.text.specs.TextLaws.{TextLaws};
 
 mod dimacs;
 mod list;
@@ -32,3 +33,8 @@ pub fn tomiter(input: &[u8], out: &mut [u8]) -> TextAnswer
     crate::put::put_word(out, &text[..size]);
     TextAnswer::Bytes(size)
 }
+
+// Has no effect: its contract is the record of this crate's laws.
+pub fn laws()
+    ensures { λ _. ⌜ TextLaws ⌝ }
+{}
