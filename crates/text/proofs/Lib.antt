@@ -1,7 +1,9 @@
--- The laws of `specs/Dimacs.antt` and `specs/Tomiter.antt`: `Decimal` on numbers, `Reading` on reading a text back.
+-- The laws of `specs/`: `Decimal` on numbers, `Reading` on a text that is read back, `Pairs` on the miter of two files, `Sizes` on how long a text is,
+-- `Telling` on what the program's text tells, `StandIns` on other programs, `Rows` on the table of rows.
 pub mod Decimal
 pub mod Reading
 pub mod Pairs
 pub mod Sizes
 pub mod Telling
 pub mod StandIns
+pub mod Rows

@@ -2,4 +2,5 @@ pub mod Dimacs
 pub mod Words
 pub mod Tomiter
 pub mod Answers
+pub mod Rows
 pub mod TextLaws

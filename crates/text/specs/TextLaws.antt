@@ -14,6 +14,7 @@ use Rattle.checking.specs.Clauses.{Clause, OR, clausesOf}
 use Rattle.checking.specs.Stored.{stored}
 use Rattle.checking.specs.Satisfaction.{ClausesWithin, Tells}
 use Rattle.text.specs.Dimacs.{problemWord, blank, cnfWord, Dimacs, dimacsOf, dimacsRead}
+use Rattle.text.specs.Rows.{RowsHold, textRows}
 use Rattle.text.specs.Tomiter.{maxInput, maxWords, maxText, Verdict, listed, refusedAt, verdict, refusalText, tomiterText, tomiterOutcome}
 
 -- the text starts `p cnf`, so that it is no refusal
@@ -70,3 +71,4 @@ pub record TextLaws : Type 0 where
   -- every text fits a buffer of 98,321 bytes
   pub text-fits : (input : List ℕ) → length (tomiterText input) ≤ maxText
   pub room-enough : (input : List ℕ) (room : ℕ) → maxText ≤ room → tomiterOutcome input room ≡ served (length (tomiterText input))
+  pub rows : RowsHold textRows
