@@ -99,7 +99,7 @@ after-calls n start (c ∷ calls) ws g = after-calls n start calls (after c ws) 
 -- ---- what the clauses tell
 
 -- two functions that agree exactly where two others do
-pub tells-same : (n variables : ℕ) (cs : List Clause) (f g p q : ℕ → ℕ) → ((x : ℕ) → (f x ≡ g x) ↔ (p x ≡ q x)) → Tells n variables cs f g → Tells n variables cs p q
+tells-same : (n variables : ℕ) (cs : List Clause) (f g p q : ℕ → ℕ) → ((x : ℕ) → (f x ≡ g x) ↔ (p x ≡ q x)) → Tells n variables cs f g → Tells n variables cs p q
 tells-same n variables cs f g p q e t =
     record {
       equal = ((λ h. t .equal .0 (λ x l. e x .1 (h x l))), (λ h x l. e x .0 (t .equal .1 h x l)));

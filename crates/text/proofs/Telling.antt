@@ -27,7 +27,7 @@ use Rattle.checking.specs.Stored.{stored}
 use Rattle.checking.specs.ClauseLaws.{ClauseLaws}
 use Rattle.checking.proofs.miter.Laws.{miter-laws}
 use Rattle.checking.proofs.clauses.Laws.{clause-laws}
-use Rattle.checking.proofs.Equality.{tells-same}
+use Rattle.checking.proofs.clauses.Meaning.{tells-same}
 use Rattle.text.specs.Dimacs.{headerText, dimacsOf, dimacsRead}
 use Rattle.text.specs.Tomiter.{maxInput, maxWords, Verdict, listed, refusedAt, unless, ofFile, listVerdict, pairVerdict, secondVerdict, verdict, refusalText, verdictText, tomiterText}
 use Rattle.text.specs.TextLaws.{StartsProblem, Fitting, TextTells, ProgramLaws, contradictionText, contradiction}
@@ -67,7 +67,7 @@ module _ (input : List ℕ) (n : ℕ) (a b : List Gate) (f : Fitting input n a b
   pub fitting-tells : Tells n (variablesOf n gs) (clausesOf n gs) (run a) (run b)
   fitting-tells =
       let g = listable n a b (f .first) (f .second) in
-      tells-same n (variablesOf n gs) (clausesOf n gs) (run gs) (λ x. x) (run a) (run b) (miter-laws .identity a b)
+      tells-same n (variablesOf n gs) (clausesOf n gs) (run gs) (λ x. x) (run a) (run b) (λ x h. miter-laws .identity a b x)
       (clause-laws .lists-tell n gs (g .lines) (g .valid))
 
 -- ---- a text that starts `p cnf`
