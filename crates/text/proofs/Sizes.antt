@@ -3,6 +3,7 @@ use mathlib.Core.Path.{_≡_, refl, sym, ap, subst, _∙_}
 use mathlib.Core.Bool.{Bool, true, false}
 use mathlib.Core.List.{List, [], _∷_, _++_}
 use Prim.Native.Nat.{ℕ, zero, suc, _+_, _*_, _^_, _/_, _≤_, _<_}
+use native.Mathlib.Nat.{le-trans}
 use native.Mathlib.Omega.{arith}
 use lib.Dec.{eqb, leb, ltb}
 use lib.IntN.{ℤ, pos, negsuc}
@@ -25,9 +26,10 @@ use Rattle.checking.specs.Stored.{storedClause, stored}
 use Rattle.checking.specs.ClauseLaws.{ClauseLaws}
 use Rattle.checking.proofs.clauses.Laws.{clause-laws}
 use Rattle.text.specs.Dimacs.{blank, problemWord, cnfWord, decimal, literalText, literalsText, closing, clauseText, clausesText, headerText, dimacsOf}
-use Rattle.text.specs.Tomiter.{maxInput, maxWords, maxText, Verdict, listed, refusedAt, ofFile, listVerdict, pairVerdict, secondVerdict, verdict, refusedWord, refusalText, verdictText, tomiterText}
+use Rattle.text.specs.Tomiter.{maxInput, maxWords, maxText, Verdict, listed, refusedAt, ofFile, listVerdict, pairVerdict, secondVerdict, verdict, refusedWord, refusalText, verdictText, tomiterText, tomiterOutcome}
 use Rattle.text.proofs.Decimal.{decimal-short, decimal-long}
 use Rattle.text.proofs.Pairs.{Listable, listable}
+use Rattle.text.proofs.program.Laws.{fits}
 
 -- ---- digits
 
@@ -163,3 +165,7 @@ verdict-small input =
 pub text-fits : (input : List ℕ) → length (tomiterText input) ≤ maxText
 unfolding tomiterText
 text-fits input = small-text (verdict input) (verdict-small input)
+
+-- so a buffer of that length always suffices
+pub room-enough : (input : List ℕ) (room : ℕ) → maxText ≤ room → tomiterOutcome input room ≡ served (length (tomiterText input))
+room-enough input room h = fits input room (le-trans (text-fits input) h)
