@@ -20,11 +20,11 @@ use Rattle.text.proofs.Decimal.{within-short, within-long}
 
 -- ---- parts
 
-part-more : (s b : ℕ) (r : List ℕ) → eqb b s ≡ false → partedBy s (b ∷ r) ≡ longer b (partedBy s r)
+pub part-more : (s b : ℕ) (r : List ℕ) → eqb b s ≡ false → partedBy s (b ∷ r) ≡ longer b (partedBy s r)
 unfolding partedBy
 part-more s b r e = cond-false (eqb b s) _ _ e
 
-part-over : (s b : ℕ) (r : List ℕ) → eqb b s ≡ true → partedBy s (b ∷ r) ≡ [] ∷ partedBy s r
+pub part-over : (s b : ℕ) (r : List ℕ) → eqb b s ≡ true → partedBy s (b ∷ r) ≡ [] ∷ partedBy s r
 unfolding partedBy
 part-over s b r e = cond-true (eqb b s) _ _ e
 
@@ -43,11 +43,11 @@ parts-one s (b ∷ f) p =
     let (x, y) = and-parts (not (eqb b s)) (free s f) p in
     part-more s b f (not-true (eqb b s) x) ∙ ap (longer b) (parts-one s f y)
 
-longer-some : (b : ℕ) (fs : List (List ℕ)) → longer b fs ≡ [] → ⊥
+pub longer-some : (b : ℕ) (fs : List (List ℕ)) → longer b fs ≡ [] → ⊥
 longer-some b [] e = mathlib.Core.List.cons≢nil e
 longer-some b (f ∷ fs) e = mathlib.Core.List.cons≢nil e
 
-parts-some : (s : ℕ) (bs : List ℕ) → partedBy s bs ≡ [] → ⊥
+pub parts-some : (s : ℕ) (bs : List ℕ) → partedBy s bs ≡ [] → ⊥
 unfolding partedBy
 parts-some s [] e = mathlib.Core.List.cons≢nil e
 parts-some s (b ∷ bs) e =
@@ -204,10 +204,10 @@ literals-more f [] h = absurd (h refl)
 literals-more f (g ∷ fs) h = refl
 
 -- a clause's line without its LF and its `x`
-abbrev bodyText : List ℤ → List ℕ
+abbrev pub bodyText : List ℤ → List ℕ
 bodyText ls = literalsText ls ++ (48 ∷ [])
 
-body-next : (l : ℤ) (ls : List ℤ) → bodyText (l ∷ ls) ≡ literalText l ++ (blank ∷ bodyText ls)
+pub body-next : (l : ℤ) (ls : List ℤ) → bodyText (l ∷ ls) ≡ literalText l ++ (blank ∷ bodyText ls)
 unfolding literalsText
 body-next l ls =
     append-assoc (literalText l ++ (blank ∷ [])) (literalsText ls) (48 ∷ []) ∙ append-assoc (literalText l) (blank ∷ []) (literalsText ls ++ (48 ∷ []))
@@ -234,11 +234,11 @@ or-read [] p = refl
 or-read (b ∷ bs) p = let (x, y) = and-parts (not (eqb b xorSign)) (free xorSign bs) p in cond-false (eqb b xorSign) _ _ (not-true (eqb b xorSign) x)
 
 -- a clause's line without its LF
-abbrev lineText : Clause → List ℕ
+abbrev pub lineText : Clause → List ℕ
 lineText (OR ls) = bodyText ls
 lineText (XOR ls) = xorSign ∷ bodyText ls
 
-line-closed : (c : Clause) (r : List ℕ) → clauseText c ++ r ≡ lineText c ++ (lineFeed ∷ r)
+pub line-closed : (c : Clause) (r : List ℕ) → clauseText c ++ r ≡ lineText c ++ (lineFeed ∷ r)
 line-closed (OR ls) r = append-assoc (literalsText ls) (48 ∷ lineFeed ∷ []) r ∙ sym (append-assoc (literalsText ls) (48 ∷ []) (lineFeed ∷ r))
 line-closed (XOR ls) r = ap (λ (l : List ℕ). xorSign ∷ l) (append-assoc (literalsText ls) (48 ∷ lineFeed ∷ []) r ∙ sym (append-assoc (literalsText ls) (48 ∷ []) (lineFeed ∷ r)))
 
@@ -271,10 +271,10 @@ clauses-back v (c ∷ cs) w =
 -- ---- the header
 
 -- without its LF
-abbrev headerLine : ℕ → ℕ → List ℕ
+abbrev pub headerLine : ℕ → ℕ → List ℕ
 headerLine v m = (problemWord ++ (blank ∷ cnfWord)) ++ (blank ∷ (decimal v ++ (blank ∷ decimal m)))
 
-header-closed : (v m : ℕ) (r : List ℕ) → headerText v m ++ r ≡ headerLine v m ++ (lineFeed ∷ r)
+pub header-closed : (v m : ℕ) (r : List ℕ) → headerText v m ++ r ≡ headerLine v m ++ (lineFeed ∷ r)
 unfolding headerText
 header-closed v m r =
     ap (λ (l : List ℕ). (problemWord ++ (blank ∷ cnfWord)) ++ (blank ∷ l))

@@ -13,7 +13,7 @@ use Rattle.checking.specs.Miter.{miterGates}
 use Rattle.checking.specs.Clauses.{Clause, OR, clausesOf}
 use Rattle.checking.specs.Stored.{stored}
 use Rattle.checking.specs.Satisfaction.{ClausesWithin, Tells}
-use Rattle.text.specs.Dimacs.{problemWord, blank, cnfWord, Dimacs, dimacsOf, dimacsRead}
+use Rattle.text.specs.Dimacs.{problemWord, blank, cnfWord, clausesText, headerText, Dimacs, dimacsOf, dimacsRead}
 use Rattle.text.specs.Rows.{RowsHold, textRows}
 use Rattle.text.specs.Tomiter.{maxInput, maxWords, maxText, Verdict, listed, refusedAt, verdict, refusalText, tomiterText, tomiterOutcome}
 
@@ -63,6 +63,8 @@ pub record TextLaws : Type 0 where
   -- the text of clauses is read back: the header's counts, and the clauses
   pub read-back : (variables : ℕ) (cs : List Clause) → ClausesWithin variables cs
       → dimacsRead (dimacsOf variables cs) ≡ some (record { variables = variables; count = length cs; clauses = cs })
+  -- and only such a text is read
+  pub read-text : (text : List ℕ) (d : Dimacs) → dimacsRead text ≡ some d → text ≡ headerText (d .variables) (d .count) ++ clausesText (d .clauses)
   pub program : ProgramLaws tomiterText
   -- the stand-ins do not have these laws, and neither has a program that refuses all
   pub contradiction-fails : ProgramLaws contradiction → ⊥

@@ -1,5 +1,6 @@
 -- `text::laws` meets its contract: the record of the laws. Assumes nothing.
 use Rattle.text.proofs.Reading.{text-back}
+use Rattle.text.proofs.Strict.{text-was}
 use Rattle.text.proofs.Sizes.{text-fits, room-enough}
 use Rattle.text.proofs.Telling.{program-laws}
 use Rattle.text.proofs.StandIns.{contradiction-fails, without-first-fails, refuses-all}
@@ -11,6 +12,7 @@ returns : tie.Need-returns
 returns c =
     record {
       read-back = text-back;
+      read-text = text-was;
       program = program-laws;
       contradiction-fails = contradiction-fails;
       without-first-fails = without-first-fails;
