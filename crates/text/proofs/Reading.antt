@@ -1,21 +1,21 @@
 -- The text of a clause list is read back. Assumes nothing.
 use mathlib.Core.Path.{_≡_, refl, sym, ap, ap₂, _∙_}
-use mathlib.Core.Bool.{Bool, true, false, not, _&&_, cond}
-use mathlib.Core.List.{List, [], _∷_, _++_, append-nil, append-assoc}
-use mathlib.Core.Option.{Option, none, some}
+use mathlib.Core.Bool.{Bool, true, false, not, _&&_}
+use mathlib.Core.List.{List, [], _∷_, _++_, append-assoc}
+use mathlib.Core.Option.{none, some}
 use Prim.Native.Nat.{ℕ, zero, suc, _+_, _*_, _-_, _/_, _%_, _≤_, _<_}
 use native.Mathlib.Omega.{arith}
-use lib.Dec.{eqb, leb, ltb}
+use lib.Dec.{eqb, ltb}
 use lib.IntN.{ℤ, pos, negsuc}
 use lib.ListN.{length}
-use borrow.Author.Tests.{eqb-true, ne-eqb, not-true, le-leb, ltb-true, ltb-false}
+use borrow.Author.Tests.{ne-eqb, not-true, le-leb, ltb-true, ltb-false}
 use Rattle.bits.proofs.Bools.{either, and-parts, both, cond-true, cond-false, refuted}
 use Rattle.files.specs.Text.{lineFeed, minus, digit}
 use Rattle.files.specs.File.{longer, isDigit, same}
 use Rattle.files.proofs.file.Lines.{free, free-append}
 use Rattle.checking.specs.Clauses.{Clause, OR, XOR}
 use Rattle.checking.specs.Satisfaction.{size, LiteralsWithin, ClausesWithin}
-use Rattle.text.specs.Dimacs.{blank, xorSign, problemWord, cnfWord, decimalWithin, decimal, literalText, literalsText, clauseText, clausesText, headerText, dimacsOf, partedBy, bothRead, thenRead, digitsRead, numberRead, signedRead, literalRead, literalsRead, clauseRead, linesRead, Dimacs, Header, header, headerRead, headed, readLines, dimacsRead}
+use Rattle.text.specs.Dimacs.{blank, xorSign, problemWord, cnfWord, decimalWithin, decimal, literalText, literalsText, clauseText, clausesText, headerText, dimacsOf, partedBy, bothRead, thenRead, digitsRead, numberRead, signedRead, literalRead, literalsRead, clauseRead, linesRead, header, headerRead, headed, readLines, dimacsRead}
 use Rattle.text.proofs.Decimal.{within-short, within-long}
 
 -- ---- parts

@@ -1,6 +1,5 @@
 -- The fact about the table of rows. Assumes nothing.
 use mathlib.Core.Path.{refl}
-use lib.IntN.{negℤ}
 use Rattle.bits.specs.Digits.{bit}
 use Rattle.circuit.specs.Gate.{controlsBelow}
 use Rattle.files.specs.File.{linesOf, fieldsOf, same, numberOf, lineOf, controlOf, controlsFrom, among, risingFrom, maskOf, closedGate, gateFields, headerFields, readFrom, reading}

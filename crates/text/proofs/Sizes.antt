@@ -1,8 +1,7 @@
 -- No text is longer than `maxText`. Assumes nothing.
-use mathlib.Core.Path.{_≡_, refl, sym, ap, subst, _∙_}
-use mathlib.Core.Bool.{Bool, true, false}
+use mathlib.Core.Path.{_≡_, refl, sym, ap, subst}
 use mathlib.Core.List.{List, [], _∷_, _++_}
-use Prim.Native.Nat.{ℕ, zero, suc, _+_, _*_, _^_, _/_, _≤_, _<_}
+use Prim.Native.Nat.{ℕ, zero, suc, _*_, _^_, _/_, _≤_, _<_}
 use native.Mathlib.Nat.{le-trans}
 use native.Mathlib.Omega.{arith}
 use lib.Dec.{eqb, leb, ltb}
@@ -11,22 +10,19 @@ use lib.ListN.{length, drop, length-append}
 use borrow.Author.Tests.{eqb-true, leb-true, ltb-true, ltb-false}
 use Rattle.bits.proofs.Bools.{either, cond-true, cond-false}
 use Rattle.circuit.specs.declared.gate.Gate.{Gate}
-use Rattle.circuit.specs.Gate.{maxLines, maxGates, maxMiterGates}
 use Rattle.circuit.specs.Outcome.{Outcome, served, refused}
-use Rattle.circuit.specs.Words.{allValid}
 use Rattle.files.specs.Text.{tab, lineFeed, digit}
 use Rattle.files.specs.File.{Line, Reading, reading}
-use Rattle.files.specs.FileLaws.{FileCascade, HeaderOffence, no-lines, no-number, outside, ControlsOffence, form, value, later, LineOffence, no-gate, many, target-form, target-value, controls, controlled, not-rising, FileFault, header-line, later-line, ReaderLaws}
+use Rattle.files.specs.FileLaws.{FileCascade, HeaderOffence, no-lines, no-number, outside, ControlsOffence, form, value, later, LineOffence, no-gate, many, target-form, target-value, controls, controlled, not-rising, FileFault, header-line, later-line}
 use Rattle.files.specs.FileLaws as laws
 use Rattle.files.proofs.file.Laws.{reader}
 use Rattle.checking.specs.Miter.{miterGates}
-use Rattle.checking.specs.Clauses.{Clause, OR, XOR, clausesOf, variablesOf}
-use Rattle.checking.specs.Satisfaction.{size, LiteralsWithin, clauseLiterals, ClausesWithin, Tells}
+use Rattle.checking.specs.Clauses.{Clause, OR, XOR, clausesOf}
+use Rattle.checking.specs.Satisfaction.{size, LiteralsWithin, clauseLiterals, ClausesWithin}
 use Rattle.checking.specs.Stored.{storedClause, stored}
-use Rattle.checking.specs.ClauseLaws.{ClauseLaws}
 use Rattle.checking.proofs.clauses.Laws.{clause-laws}
-use Rattle.text.specs.Dimacs.{blank, problemWord, cnfWord, decimal, literalText, literalsText, closing, clauseText, clausesText, headerText, dimacsOf}
-use Rattle.text.specs.Tomiter.{maxInput, maxWords, maxText, Verdict, listed, refusedAt, ofFile, listVerdict, pairVerdict, secondVerdict, verdict, refusedWord, refusalText, verdictText, tomiterText, tomiterOutcome}
+use Rattle.text.specs.Dimacs.{blank, decimal, literalText, literalsText, closing, clauseText, clausesText, headerText, dimacsOf}
+use Rattle.text.specs.Tomiter.{maxInput, maxWords, maxText, Verdict, listed, refusedAt, ofFile, listVerdict, pairVerdict, secondVerdict, verdict, refusalText, verdictText, tomiterText, tomiterOutcome}
 use Rattle.text.proofs.Decimal.{decimal-short, decimal-long}
 use Rattle.text.proofs.Pairs.{Listable, listable}
 use Rattle.text.proofs.program.Laws.{fits}

@@ -2,7 +2,7 @@
 use mathlib.Core.Path.{_≡_, refl, sym, ap, subst, _∙_}
 use mathlib.Core.Bool.{Bool, true, false, false≢true}
 use mathlib.Core.List.{List, [], _∷_, _++_}
-use mathlib.Core.Option.{Option, some}
+use mathlib.Core.Option.{some}
 use Prim.Native.Nat.{ℕ, _≤_}
 use native.Mathlib.Omega.{arith}
 use lib.ListN.{length, drop}
@@ -20,8 +20,8 @@ use Rattle.checking.specs.Clauses.{Clause, OR, upFrom, moved, gatesClauses, use
 use Rattle.checking.specs.Satisfaction.{ClausesWithin, holds, satisfies, Satisfying, Tells}
 use Rattle.checking.specs.Stored.{stored}
 use Rattle.text.specs.Dimacs.{Dimacs, dimacsOf, dimacsRead}
-use Rattle.text.specs.Tomiter.{maxInput, maxWords, Verdict, listed, refusalText, verdict}
-use Rattle.text.specs.TextLaws.{StartsProblem, Fitting, TextTells, ProgramLaws, contradictionText, contradiction, withoutFirstText, withoutFirst}
+use Rattle.text.specs.Tomiter.{maxInput, maxWords, refusalText}
+use Rattle.text.specs.TextLaws.{Fitting, TextTells, ProgramLaws, contradictionText, contradiction, withoutFirstText, withoutFirst}
 use Rattle.text.proofs.Reading.{text-back}
 use Rattle.text.proofs.Telling.{fitting-verdict, fitting-tells, refusal-starts}
 

@@ -1,9 +1,9 @@
 -- Only the text of clauses is read. Assumes nothing.
-use mathlib.Core.Path.{_≡_, refl, sym, ap, ap₂, subst, _∙_}
+use mathlib.Core.Path.{_≡_, refl, sym, ap, ap₂, _∙_}
 use mathlib.Core.Bool.{Bool, true, false}
 use mathlib.Core.List.{List, [], _∷_, _++_, append-nil, append-assoc}
 use mathlib.Core.Option.{Option, none, some}
-use Prim.Native.Nat.{ℕ, zero, suc, _+_, _*_, _-_, _/_, _%_, _≤_, _<_}
+use Prim.Native.Nat.{ℕ, zero, suc, _+_, _*_, _-_, _/_, _%_, _≤_}
 use native.Mathlib.Omega.{arith}
 use lib.Dec.{eqb, leb}
 use lib.IntN.{ℤ, pos, negsuc}
@@ -15,7 +15,7 @@ use Rattle.files.proofs.file.Lines.{same-true}
 use Rattle.checking.specs.Clauses.{Clause, OR, XOR}
 use Rattle.text.specs.Dimacs.{blank, xorSign, problemWord, cnfWord, decimal, literalText, literalsText, clausesText, headerText, partedBy, bothRead, thenRead, digitsRead, numberRead, signedRead, literalRead, literalsRead, clauseRead, linesRead, Dimacs, Header, header, headerRead, headed, readLines, dimacsRead}
 use Rattle.text.proofs.Decimal.{decimal-short, decimal-long}
-use Rattle.text.proofs.Reading.{part-more, part-over, parts-some, longer-some, bodyText, body-next, lineText, line-closed, headerLine, header-closed}
+use Rattle.text.proofs.Reading.{part-more, part-over, parts-some, bodyText, body-next, lineText, line-closed, headerLine, header-closed}
 
 -- nothing was read
 nothing : {A : Type 0} {a : A} → none ≡ some a → ⊥

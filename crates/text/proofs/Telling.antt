@@ -1,37 +1,32 @@
 -- The program's text tells on which states the cascades of two files differ. Assumes nothing.
 use mathlib.Core.Path.{_≡_, refl, sym, ap, ap₂, subst, _∙_}
-use mathlib.Core.Logic.{_↔_}
-use mathlib.Core.Bool.{Bool, true, false, cond}
-use mathlib.Core.List.{List, [], _∷_, _++_, append-nil}
-use mathlib.Core.Option.{Option, some}
-use Prim.Native.Nat.{ℕ, _≤_, _<_}
+use mathlib.Core.Bool.{Bool, true, false}
+use mathlib.Core.List.{List, [], _++_, append-nil}
+use Prim.Native.Nat.{ℕ}
 use native.Mathlib.Omega.{arith}
 use lib.Dec.{eqb, leb}
-use lib.ListN.{length, take, drop, take-append-drop}
+use lib.ListN.{length, drop, take-append-drop}
 use lib.Seq.{take-all, drop-append-seam}
 use borrow.Author.Tests.{eq-eqb, eqb-true, le-leb, leb-true}
-use Rattle.bits.proofs.Bools.{either, cond-true, cond-false}
+use Rattle.bits.proofs.Bools.{cond-true}
 use Rattle.circuit.specs.declared.gate.Gate.{Gate}
-use Rattle.circuit.specs.Gate.{notGate}
 use Rattle.circuit.specs.Outcome.{Outcome, served, refused}
 use Rattle.circuit.specs.Run.{run}
 use Rattle.files.specs.Text.{textOf}
 use Rattle.files.specs.File.{Reading, reading}
-use Rattle.files.specs.FileLaws.{FileCascade, ReaderLaws}
+use Rattle.files.specs.FileLaws.{FileCascade}
 use Rattle.files.proofs.file.Laws.{reader}
 use Rattle.checking.specs.Miter.{miterGates}
-use Rattle.checking.specs.MiterLaws.{MiterLaws}
-use Rattle.checking.specs.Clauses.{Clause, OR, clausesOf, variablesOf}
+use Rattle.checking.specs.Clauses.{Clause, clausesOf, variablesOf}
 use Rattle.checking.specs.Satisfaction.{Tells}
 use Rattle.checking.specs.Stored.{stored}
-use Rattle.checking.specs.ClauseLaws.{ClauseLaws}
 use Rattle.checking.proofs.miter.Laws.{miter-laws}
 use Rattle.checking.proofs.clauses.Laws.{clause-laws}
 use Rattle.checking.proofs.clauses.Meaning.{tells-same}
 use Rattle.text.specs.Dimacs.{headerText, dimacsOf, dimacsRead}
 use Rattle.text.specs.Tomiter.{maxInput, maxWords, Verdict, listed, refusedAt, unless, ofFile, listVerdict, pairVerdict, secondVerdict, verdict, refusalText, verdictText, tomiterText}
-use Rattle.text.specs.TextLaws.{StartsProblem, Fitting, TextTells, ProgramLaws, contradictionText, contradiction}
-use Rattle.text.proofs.Pairs.{Listable, listable}
+use Rattle.text.specs.TextLaws.{StartsProblem, Fitting, ProgramLaws}
+use Rattle.text.proofs.Pairs.{listable}
 use Rattle.text.proofs.Reading.{text-back}
 use Rattle.text.proofs.list.Laws.{first-good, second-pair}
 

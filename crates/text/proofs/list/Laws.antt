@@ -1,14 +1,14 @@
 -- What the functions from an input to its clause list owe, case by case. Assumes nothing.
 use mathlib.Core.Path.{_≡_, refl, sym, ap, ap₂, subst, _∙_}
-use mathlib.Core.Bool.{Bool, true, false, cond}
-use mathlib.Core.List.{List, _++_}
+use mathlib.Core.Bool.{true, false}
+use mathlib.Core.List.{List}
 use Prim.Native.Nat.{ℕ, _+_, _*_, _≤_, _<_}
 use native.Mathlib.Omega.{arith}
 use lib.Dec.{eqb, leb}
 use lib.IntN.{ℤ}
 use lib.ListN.{length, take, drop, length-append}
-use lib.Seq.{take-append-seam, take-at, drop-at}
-use borrow.Author.Tests.{eqb-true, eqb-false, eq-eqb, ne-eqb, le-leb, lt-leb, leb-true, leb-false}
+use lib.Seq.{take-append-seam, take-at}
+use borrow.Author.Tests.{eqb-true, eqb-false, eq-eqb, ne-eqb, le-leb, lt-leb, leb-true}
 use Rattle.bits.specs.Lists.{over}
 use Rattle.bits.proofs.Bools.{either, cond-true, cond-false}
 use Rattle.bits.proofs.Lists.{over-length}
@@ -17,27 +17,25 @@ use Rattle.circuit.specs.declared.refusal.Refusal.{Refusal}
 use Rattle.circuit.specs.Gate.{maxGates, maxMiterGates}
 use Rattle.circuit.specs.Outcome.{Outcome, served, refused, demand, andThen, written}
 use Rattle.circuit.specs.Refusal.{wrongForm, lineCountsDiffer, noRoom}
-use Rattle.circuit.specs.Words.{gatesOf, wordsOf, Cascade, PairFault, differ}
+use Rattle.circuit.specs.Words.{gatesOf, wordsOf, Cascade, differ}
 use Rattle.circuit.proofs.Outcome.{never, demand-met, demand-failed, then-served}
 use Rattle.circuit.proofs.words.Laws.{gates-words, words-length, served-check, refused-pair}
 use Rattle.files.specs.Text.{textOf}
 use Rattle.files.specs.File.{Reading, reading, ReadCounts, gatesRead, readOutcome, readBuffer}
-use Rattle.files.specs.FileLaws.{FileCascade, ReaderLaws, Readable, ReadFault, wrong, short}
+use Rattle.files.specs.FileLaws.{ReadFault, wrong, short}
 use Rattle.files.proofs.file.Laws.{reader, read-served, read-refused}
 use Rattle.checking.specs.declared.clauses.Totals.{Totals}
 use Rattle.checking.specs.Miter.{miterGates, miterOutcome, miterBuffer}
-use Rattle.checking.specs.MiterLaws.{MiterServed, MiterStands, MiterLaws}
 use Rattle.checking.specs.Clauses.{Clause, clausesOf, variablesOf}
 use Rattle.checking.specs.Stored.{stored}
 use Rattle.checking.specs.Sizes.{totals, sizesOf, sizesOutcome}
-use Rattle.checking.specs.ClauseLaws.{ClauseLaws}
 use Rattle.checking.specs.Emit.{emitOutcome, emitBuffer}
 use Rattle.checking.proofs.miter.Laws.{miter-laws, miter-refused}
 use Rattle.checking.proofs.clauses.Laws.{clause-laws}
 use Rattle.text.specs.declared.list.ListAnswer.{ListAnswer}
 use Rattle.text.specs.declared.list.ListAnswer.the-variants as list
 use Rattle.text.specs.Tomiter.{maxInput, maxWords, Verdict, listed, refusedAt, ofFile, listVerdict, pairVerdict, secondVerdict, verdict}
-use Rattle.text.specs.Answers.{FileWords, Stands, Says}
+use Rattle.text.specs.Answers.{FileWords, Says}
 
 -- the same verdict, said in another way
 pub says-as : (r : ListAnswer) (buffer : List ℤ) (v w : Verdict) → v ≡ w → Says r buffer w → Says r buffer v

@@ -1,5 +1,5 @@
 -- An answer and the clause buffer give the text of the verdict that they say. Assumes nothing.
-use mathlib.Core.Path.{_≡_, refl, sym, ap, ap₂, _∙_}
+use mathlib.Core.Path.{_≡_, sym, ap, ap₂, _∙_}
 use mathlib.Core.List.{List, _++_}
 use Prim.Native.Nat.{ℕ, _≤_, _<_}
 use lib.IntN.{ℤ}
@@ -16,7 +16,7 @@ use Rattle.text.specs.declared.list.ListAnswer.the-variants as list
 use Rattle.text.specs.Dimacs.{headerText, dimacsOf}
 use Rattle.text.specs.Words.{wordsText, Stores}
 use Rattle.text.specs.Tomiter.{Verdict, listed, refusedAt, refusalText, verdictText, tomiterText, tomiterOutcome, tomiterBuffer}
-use Rattle.text.specs.Answers.{Stands, Says}
+use Rattle.text.specs.Answers.{Says}
 use Rattle.text.proofs.dimacs.Loops.{words-text}
 
 pub refusal-text : (why : Refusal) (file : ℕ) (buffer : List ℤ) (v : Verdict) → Says (list.Refused why file) buffer v

@@ -3,8 +3,7 @@ use mathlib.Core.Path.{_≡_, sym, ap, _∙_}
 use mathlib.Core.List.{List}
 use Prim.Native.Nat.{ℕ, _≤_}
 use lib.ListN.{length}
-use native.Mathlib.Nat.{le-trans}
-use Rattle.circuit.specs.Outcome.{Outcome, served, refused, written, Yields}
+use Rattle.circuit.specs.Outcome.{Outcome, served, written}
 use Rattle.circuit.proofs.Outcome.{never}
 use Rattle.files.specs.Put.{Put}
 use Rattle.text.specs.Tomiter.{maxText, tomiterText, tomiterOutcome, tomiterBuffer}

@@ -1,6 +1,6 @@
 -- `text::dimacs::put_signed` meets its contract. Assumes nothing.
 use mathlib.Core.Path.{_≡_, refl, sym, ap, _∙_}
-use mathlib.Core.List.{List, _++_}
+use mathlib.Core.List.{_++_}
 use Prim.Native.Nat.{ℕ, _+_}
 use native.Mathlib.Omega.{arith}
 use lib.IntN.{ℤ, pos, negsuc}

@@ -1,8 +1,7 @@
 -- `text::list::list_pair` meets its contract. Assumes nothing.
-use mathlib.Core.Path.{_≡_, refl, sym, ap, subst, _∙_}
-use Prim.Native.Nat.{ℕ, _*_}
+use mathlib.Core.Path.{refl, sym, ap, _∙_}
 use native.Mathlib.Omega.{arith}
-use lib.ListN.{length, length-replicate}
+use lib.ListN.{length}
 use lib.Seq.{length-take-le}
 use Rattle.circuit.specs.Words.{ofCount}
 use Rattle.checking.specs.Sizes.{ofSizes}

@@ -1,16 +1,14 @@
 -- `text::list::list_second` meets its contract. Assumes nothing.
-use mathlib.Core.Path.{_≡_, refl, sym, ap, subst, _∙_}
+use mathlib.Core.Path.{refl, sym, ap, _∙_}
 use mathlib.Core.List.{List}
-use Prim.Native.Nat.{ℕ, _+_, _*_}
+use Prim.Native.Nat.{ℕ, _+_}
 use native.Mathlib.Omega.{arith}
-use lib.ListN.{length}
 use lib.Seq.{length-take-le}
 use Rattle.circuit.specs.declared.gate.Gate.{Gate}
 use Rattle.circuit.proofs.Outcome.{why}
 use Rattle.circuit.specs.Refusal.{wrongForm}
 use Rattle.circuit.specs.Words.{gatesOf}
 use Rattle.files.specs.File.{ofRead}
-use Rattle.text.specs.declared.list.ListAnswer.the-variants as list
 use Rattle.text.specs.Tomiter.{refusedAt, pairVerdict}
 use Rattle.text.proofs.list.Laws.{says-as, says-refusal, FileRead, file-bad, file-read, second-bad, second-more, second-pair}
 use borrow.Author.Needs.{needs}

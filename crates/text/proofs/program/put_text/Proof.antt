@@ -1,13 +1,11 @@
 -- `text::program::put_text` meets its contract. Assumes nothing.
-use mathlib.Core.Path.{_≡_, sym, ap, subst, _∙_}
-use mathlib.Core.List.{List}
-use Prim.Native.Nat.{ℕ, _≤_}
+use mathlib.Core.Path.{_≡_, sym, ap, subst}
 use native.Mathlib.Omega.{arith}
 use lib.ListN.{length}
 use lib.Seq.{length-take-le}
 use Rattle.files.proofs.file.put.Laws.{put-as}
 use Rattle.text.specs.declared.list.ListAnswer.{ListAnswer}
-use Rattle.text.specs.Tomiter.{Verdict, refusalText, verdict, verdictText, tomiterText}
+use Rattle.text.specs.Tomiter.{refusalText, verdict, tomiterText}
 use Rattle.text.specs.Answers.{Says}
 use Rattle.text.proofs.Sizes.{text-fits}
 use Rattle.text.proofs.program.Laws.{Written, refusal-text, list-text}

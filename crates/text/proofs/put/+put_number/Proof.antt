@@ -6,7 +6,7 @@ use native.Mathlib.Omega.{arith}
 use lib.ListN.{length, set, length-set, length-append}
 use lib.Seq.{sets-eq}
 use Rattle.bits.specs.Lists.{over}
-use Rattle.bits.proofs.Lists.{over-push, over-length}
+use Rattle.bits.proofs.Lists.{over-push}
 use Rattle.files.specs.Put.{Put}
 use Rattle.files.specs.Text.{digit}
 use Rattle.text.specs.Dimacs.{decimal}
