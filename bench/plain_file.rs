@@ -39,27 +39,25 @@ fn number(text: &[u8], at: usize) -> Option<(u64, usize)> {
     Some((10 * first as u64 + second as u64, at + 2))
 }
 
-/// The gate whose target stands at a position, and the position after its line; else a number.
+/// The position after the gate line whose target stands at a position; else a number.
 #[inline(always)]
-fn gate(text: &[u8], at: usize, n: u64) -> Result<([u64; 3], usize), u64> {
+fn gate(text: &[u8], at: usize, n: u64) -> Result<usize, u64> {
     let (target, mut at) = number(text, at).ok_or(1u64)?;
     if target >= n {
         return Err(3);
     }
-    let mut masks = [0u64; 2];
+    let mut lines = 0u64;
     let mut low = 0;
     let mut rising = true;
     while text.get(at) == Some(&b'\t') {
-        let negative = match text.get(at + 1) {
-            Some(b'+') => 0,
-            Some(b'-') => 1,
-            _ => return Err(1),
-        };
+        if !matches!(text.get(at + 1), Some(b'+' | b'-')) {
+            return Err(1);
+        }
         let (line, next) = number(text, at + 2).ok_or(1u64)?;
         if line >= n {
             return Err(3);
         }
-        masks[negative] |= 1 << line;
+        lines |= 1 << line;
         rising &= low <= line;
         low = line + 1;
         at = next;
@@ -67,15 +65,44 @@ fn gate(text: &[u8], at: usize, n: u64) -> Result<([u64; 3], usize), u64> {
     if at >= text.len() {
         return Err(1);
     }
-    if (masks[0] | masks[1]) >> target & 1 != 0 {
+    if lines >> target & 1 != 0 {
         return Err(4);
     }
     if !rising {
         return Err(5);
     }
-    Ok(([masks[0], masks[1], target], at + 1))
+    Ok(at + 1)
 }
 
+/// The number at a position of a text that was judged good, and the position after it.
+#[inline(always)]
+fn good_number(text: &[u8], at: usize) -> (u64, usize) {
+    let first = (text[at] - b'0') as u64;
+    let second = text[at + 1].wrapping_sub(b'0') as u64;
+    if second > 9 {
+        (first, at + 1)
+    } else {
+        (10 * first + second, at + 2)
+    }
+}
+
+/// The gates of a text that was judged good, from a position on, tested no more.
+fn fill(text: &[u8], mut at: usize, out: &mut [u64]) {
+    for gate in out.as_chunks_mut::<3>().0 {
+        let (target, mut next) = good_number(text, at + 2);
+        let mut masks = [0u64; 2];
+        while text[next] == b'\t' {
+            let negative = (text[next + 1] == b'-') as usize;
+            let (line, after) = good_number(text, next + 2);
+            masks[negative] |= 1 << (line & 63);
+            next = after;
+        }
+        *gate = [masks[0], masks[1], target];
+        at = next + 1;
+    }
+}
+
+/// One pass judges and one fills, with no scratch, as in the library.
 pub fn read(text: &[u8], out: &mut [u64]) -> ReadAnswer {
     if !text.starts_with(b"lines\t") {
         return read_refusal(1, 0);
@@ -89,8 +116,8 @@ pub fn read(text: &[u8], out: &mut [u64]) -> ReadAnswer {
     if text.get(at) != Some(&b'\n') {
         return read_refusal(1, 0);
     }
-    let mut at = at + 1;
-    let mut words = [0u64; 3 * LIMIT];
+    let start = at + 1;
+    let mut at = start;
     let mut gates = 0;
     while !text[at..].starts_with(b"end\n") {
         let place = gates as u64 + 1;
@@ -102,8 +129,7 @@ pub fn read(text: &[u8], out: &mut [u64]) -> ReadAnswer {
         }
         match gate(text, at + 2, n) {
             Err(number) => return read_refusal(number, place),
-            Ok((gate, next)) => {
-                words[3 * gates..3 * gates + 3].copy_from_slice(&gate);
+            Ok(next) => {
                 at = next;
                 gates += 1;
             }
@@ -112,7 +138,7 @@ pub fn read(text: &[u8], out: &mut [u64]) -> ReadAnswer {
     if out.len() < 3 * gates {
         return read_refusal(10, 0);
     }
-    out[..3 * gates].copy_from_slice(&words[..3 * gates]);
+    fill(text, start, &mut out[..3 * gates]);
     ReadAnswer {
         number: 0,
         place: 0,

@@ -1,5 +1,7 @@
 //! Runs the built program on two files, good, damaged and too long, and compares every byte that it
-//! writes with the rules. The argument is the seed, where another than the fixed one is wanted.
+//! writes with the rules; and hands what it writes to CryptoMiniSat, where it is there, and compares
+//! the spelled inputs with a simulation. The argument is the seed, where another than the fixed one
+//! is wanted.
 
 #[allow(dead_code)]
 mod files;
@@ -20,6 +22,8 @@ const SEED: u64 = 20_240_601;
 const PROGRAM: &str = "target/bin/tomiter";
 const MOST_BYTES: usize = 65_536;
 const MOST_WORDS: usize = 16_384;
+/// Pairs that the solver gets.
+const SOLVED: usize = 200;
 
 // ---- the rules
 
@@ -184,6 +188,61 @@ fn check_all(random: &mut Random, seen: &mut Seen) {
     }
 }
 
+// ---- the solver
+
+/// The inputs that the satisfying assignments spell, one after the other until there is none.
+fn solve(lines: u64, text: &[u8]) -> Vec<u64> {
+    let most = (1u64 << lines) + 1;
+    let mut solver = Command::new("cryptominisat5")
+        .args(["--verb", "0", "--maxsol", &most.to_string()])
+        .stdin(Stdio::piped())
+        .stdout(Stdio::piped())
+        .spawn()
+        .expect("cryptominisat5 starts");
+    let mut pipe = solver.stdin.take().expect("a pipe");
+    pipe.write_all(text).expect("it reads");
+    drop(pipe);
+    let output = solver.wait_with_output().expect("it ends");
+    let answer = String::from_utf8(output.stdout).expect("it writes text");
+    assert!(answer.contains("s UNSATISFIABLE"), "the solver did not come to an end:\n{answer}");
+    let literals = answer.lines().filter_map(|line| line.strip_prefix("v "));
+    let literals: Vec<i64> = literals
+        .flat_map(str::split_whitespace)
+        .map(|word| word.parse().expect("a literal"))
+        .collect();
+    let models = literals.split(|literal| *literal == 0).filter(|model| !model.is_empty());
+    let spell = |model: &[i64]| (0..lines).filter(|line| model.contains(&(*line as i64 + 1))).map(|line| 1 << line).sum();
+    let mut spelled: Vec<u64> = models.map(spell).collect();
+    spelled.sort();
+    spelled
+}
+
+/// Pairs on few lines, of which the second is often the first, or has its gates in another order.
+fn check_solved(random: &mut Random) {
+    let (mut equal, mut differ) = (0, 0);
+    for _ in 0..SOLVED {
+        let lines = 1 + random.below(3);
+        let gates = random.index(4);
+        let first = inputs::good_cascade(random, lines, gates).words;
+        let mut second = first.clone();
+        match random.below(4) {
+            0 => {}
+            1 if gates > 0 => second.rotate_left(3),
+            _ => second = inputs::good_cascade(random, lines, gates).words,
+        }
+        let text = |words: &[u64]| reference::text_of(lines, &reference::gates_of(words));
+        let written = run(&[text(&first), text(&second)].concat());
+        let output = |words: &[u64], state| reference::run(lines, words, state).expect("a cascade");
+        let states = 0..1 << lines;
+        let right: Vec<u64> = states.filter(|state| output(&first, *state) != output(&second, *state)).collect();
+        let spelled = solve(lines, &written);
+        assert_eq!(spelled, right, "lines {lines}, A {first:?}, B {second:?}");
+        *(if right.is_empty() { &mut equal } else { &mut differ }) += 1;
+    }
+    assert!(equal > 0 && differ > 0, "{equal} equal pairs, {differ} that differ");
+    println!("program: {equal} equal pairs and {differ} that differ, by the solver");
+}
+
 fn main() {
     let seed = match std::env::args().nth(1) {
         Some(word) => word.parse().expect("the seed is a number below 2^64"),
@@ -206,6 +265,14 @@ fn main() {
             println!("program: {outcome} did not occur");
             std::process::exit(1);
         }
+    }
+    let version = Command::new("cryptominisat5").arg("--version").stdout(Stdio::null()).status();
+    if version.is_ok_and(|status| status.success()) {
+        check_solved(&mut Random::new(seed));
+    } else {
+        println!("****************************************************************");
+        println!("program: NO cryptominisat5: the solver was not asked");
+        println!("****************************************************************");
     }
     println!("program: {} inputs, 0 mismatches", seen.cases);
 }

@@ -2,9 +2,8 @@
 use mathlib.Core.Path.{_≡_, refl, sym, ap, ap₂, _∙_, subst}
 use mathlib.Core.Bool.{Bool, true, false, _&&_, _||_, xor, cond}
 use Prim.Native.Nat.{ℕ, zero, suc, _+_, _-_, _*_, _/_, _%_, _^_, _≤_, _<_, min, max, suc-le-suc}
-use native.Mathlib.Nat.{div-eq-of-lt, mod-lt, div-add-mod', pow-suc, lt-of-lt-of-le, zero-lt-suc, div-lt-iff-lt-mul, le-max-left, le-max-right}
-use native.Mathlib.Numerals.{one-add, add-one}
-use native.Mathlib.Decide.{le-ind}
+use native.Mathlib.Nat.{div-eq-of-lt, mod-lt, pow-suc, lt-of-lt-of-le, zero-lt-suc, div-lt-iff-lt-mul, le-max-left, le-max-right}
+use native.Mathlib.Numerals.{one-add}
 use native.Mathlib.Omega.{arith}
 use lib.Dec.{eqb, eqb·zero-suc, eqb·suc-zero, eqb·suc-suc}
 use borrow.Author.Tests.{eqb-true, eq-eqb}
@@ -12,7 +11,7 @@ use lib.Arith.{bin-ind, digits-div, digits-mod, lt-one}
 use lib.Pow.{pow-mono, pow-pos, shr-shr, split, field, mod-mod-pow}
 use lib.Count.{ones, ones-step, ones-cat, ones-ones}
 use lib.ListN.{length, length-append}
-use mathlib.Core.List.{List, [], _∷_, _++_, append-nil}
+use mathlib.Core.List.{List, [], _∷_, _++_}
 use lib.Bits.{bitAnd, bitOr, bitXor, differ, and-step, or-step, xor-step, and-zero-l, or-zero-l, or-disjoint}
 use Rattle.bits.specs.Digits.{bit, linesIn}
 
@@ -213,19 +212,3 @@ ones-or-and =
 -- two masks that share no line have as many as both together
 pub ones-both : (a b : ℕ) → bitAnd a b ≡ 0 → ones (bitOr a b) ≡ ones a + ones b
 ones-both a b e = let h = ones-or-and a b in let z : ones (bitAnd a b) ≡ 0 = ap ones e ∙ ones-none in omega arith
-
--- one line more
-pub lines-set : (x n : ℕ) → bit x n ≡ true → linesIn x (n + 1) ≡ linesIn x n ++ (n ∷ [])
-unfolding linesIn
-lines-set x n e = ap (linesIn x) (add-one n) ∙ ap (λ (b : Bool). linesIn x n ++ cond b (n ∷ []) []) e
-
-pub lines-clear : (x n : ℕ) → bit x n ≡ false → linesIn x (n + 1) ≡ linesIn x n
-unfolding linesIn
-lines-clear x n e = ap (linesIn x) (add-one n) ∙ ap (λ (b : Bool). linesIn x n ++ cond b (n ∷ []) []) e ∙ append-nil (linesIn x n)
-
--- fewer lines, no more of them set
-pub lines-mono : (x m n : ℕ) → m ≤ n → length (linesIn x m) ≤ length (linesIn x n)
-unfolding linesIn
-lines-mono x m n h =
-    le-ind (λ (k : ℕ). length (linesIn x m) ≤ length (linesIn x k)) (native.Mathlib.Nat.le-refl _)
-    (λ k l e. let g = length-append (linesIn x k) (cond (bit x k) (k ∷ []) []) in omega arith) n h

@@ -7,6 +7,7 @@ use native.Mathlib.Omega.{arith}
 use lib.Dec.{eqb}
 use lib.Bits.{bitAnd}
 use lib.Count.{trailingZeros, under}
+use lib.Seq.{append-snoc}
 use Rattle.bits.specs.Digits.{bit, linesIn}
 use Rattle.bits.proofs.Digits.{bit-suc, bit-first, bit-none, half-lt}
 use Rattle.bits.proofs.Single.{odd-lower, even-lower}
@@ -70,3 +71,18 @@ unfolding trailingZeros
 lowest-below m zero x l s h = absurd (omega arith)
 lowest-below zero (suc n) x l s h = absurd (omega arith)
 lowest-below (suc m) (suc n) x l s h = below-step m n x (x % 2) s refl (λ t. lowest-below m n (x / 2) (omega arith) t (half-lt n x h))
+
+-- ---- the lines of a mask, passed from the lowest on; `left` has those that are left
+
+module _ (m n lines left : ℕ) (passed : List ℕ) (all : linesIn lines n ≡ passed ++ linesIn left n) where
+  -- one line more
+  pub lines-on : n ≤ m → 0 < left → left < 2 ^ n → (line : ℕ) → line ≡ trailingZeros m left
+      → linesIn lines n ≡ (passed ++ (line ∷ [])) ++ linesIn (bitAnd left (left - 1)) n
+  lines-on l some below line is =
+      all
+      ∙ ap (λ (x : List ℕ). passed ++ x) (lines-lowest m n left l some below ∙ ap (λ (t : ℕ). t ∷ linesIn (bitAnd left (left - 1)) n) (sym is))
+      ∙ sym (append-snoc passed line (linesIn (bitAnd left (left - 1)) n))
+
+  -- and no line is left
+  pub lines-done : left ≡ 0 → linesIn lines n ≡ passed
+  lines-done e = all ∙ ap (λ (x : List ℕ). passed ++ x) (ap (λ (y : ℕ). linesIn y n) e ∙ lines-none n) ∙ append-nil passed

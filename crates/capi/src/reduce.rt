@@ -1,9 +1,9 @@
 // cascade_reduce.
 
-use checking::reduce::ReduceAnswer;
+use reduction::reduce::ReduceAnswer;
 ghost use mathlib.Core.Path.{_≡_};
 ghost use Rattle.circuit.specs.Outcome.{Yields};
-ghost use Rattle.checking.specs.Reduce.{reduceOutcome, reduceBuffer};
+ghost use Rattle.reduction.specs.Reduce.{reduceOutcome, reduceBuffer};
 ghost use Rattle.capi.specs.Reduce.{reduceAnswer};
 
 #[repr(C)]
@@ -19,7 +19,7 @@ pub struct CascadeReduceAnswer {
 pub extern "C" fn cascade_reduce(lines: u64, words: &mut [u64]) -> CascadeReduceAnswer
     ensures { λ r. ⌜ Yields r (now (words .exit)) (reduceAnswer (reduceOutcome lines (now (words .entry)))) (reduceBuffer lines (now (words .entry))) ⌝ }
 {
-    match checking::reduce::reduce(lines, words) {
+    match reduction::reduce::reduce(lines, words) {
         ReduceAnswer::Reduced {
             gates,
             pairs,

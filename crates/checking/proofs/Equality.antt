@@ -1,39 +1,35 @@
 -- Demand 3: the calls keep what stands, and the emitted clauses tell on which states the two cascades differ. Assumes nothing.
-use mathlib.Core.Path.{_≡_, refl, sym, ap, ap₂, subst, _∙_}
+use mathlib.Core.Path.{_≡_, refl, sym, ap, subst, _∙_}
 use mathlib.Core.Logic.{_↔_}
-use mathlib.Core.Bool.{Bool, true, false}
-use mathlib.Core.List.{List, [], _∷_, _++_}
-use Prim.Native.Nat.{ℕ, _+_, _*_, _^_, _<_, _≤_}
+use mathlib.Core.Bool.{true}
+use mathlib.Core.List.{List, [], _∷_}
+use Prim.Native.Nat.{ℕ, _+_, _*_, _≤_}
 use native.Mathlib.Omega.{arith}
 use lib.IntN.{ℤ}
 use lib.ListN.{length, take, drop}
 use borrow.Author.Tests.{le-leb}
 use Rattle.bits.specs.Lists.{over}
 use Rattle.circuit.specs.declared.gate.Gate.{Gate}
-use Rattle.circuit.specs.Gate.{maxLines, maxGates, maxMiterGates}
+use Rattle.circuit.specs.Gate.{maxLines, maxMiterGates}
 use Rattle.circuit.specs.Outcome.{Outcome, served, refused, written}
 use Rattle.circuit.specs.Words.{gatesOf, allValid, checkOutcome, Cascade}
 use Rattle.circuit.specs.Run.{run}
 use Rattle.circuit.proofs.Outcome.{demand-met, then-served, then-refused}
-use Rattle.circuit.proofs.words.Laws.{check-served, served-check, valid-all-more, gates-length}
-use Rattle.checking.specs.declared.step.Kind.{Kind}
+use Rattle.circuit.proofs.words.Laws.{check-served, served-check, valid-all-more}
 use Rattle.checking.specs.declared.clauses.Totals.{Totals}
-use Rattle.checking.specs.Miter.{miterGates, miterOutcome, miterBuffer}
-use Rattle.checking.specs.MiterLaws.{MiterLaws}
-use Rattle.checking.specs.Step.{Step, found, none, stepGates, counted, stepOutcome, stepBuffer}
-use Rattle.checking.specs.StepLaws.{Keeps, Stands, Steps, StepLaws}
-use Rattle.checking.specs.Reduce.{Reduced, reduceGates, reduceOutcome, reduceBuffer}
-use Rattle.checking.specs.ReduceLaws.{Reduces, ReduceLaws}
+use Rattle.reduction.specs.Miter.{miterGates, miterOutcome, miterBuffer}
+use Rattle.reduction.specs.Step.{Step, found, none, stepGates, counted, stepOutcome, stepBuffer}
+use Rattle.reduction.specs.StepLaws.{Keeps, Stands}
+use Rattle.reduction.specs.Reduce.{Reduced, reduceGates, reduceOutcome, reduceBuffer}
 use Rattle.checking.specs.Clauses.{Clause, clausesOf, variablesOf}
-use Rattle.checking.specs.Stored.{stored, clausesIn, clausesRead}
-use Rattle.checking.specs.Satisfaction.{Satisfying, spelled, Tells}
+use Rattle.checking.specs.Stored.{stored, clausesIn}
+use Rattle.checking.specs.Satisfaction.{spelled, Tells}
 use Rattle.checking.specs.Sizes.{totals, sizesOf, sizesOutcome}
-use Rattle.checking.specs.ClauseLaws.{ClauseLaws}
 use Rattle.checking.specs.Emit.{emitOutcome, emitBuffer}
 use Rattle.checking.specs.Equality.{Call, stepOn, reduceOn, stepLeaves, reduceLeaves, after, afterAll, Emitted, EqualityOf, Equality}
-use Rattle.checking.proofs.miter.Laws.{miter-laws}
-use Rattle.checking.proofs.step.Laws.{step-laws}
-use Rattle.checking.proofs.reduce.Relation.{reduce-laws}
+use Rattle.reduction.proofs.miter.Laws.{miter-laws}
+use Rattle.reduction.proofs.step.Laws.{step-laws}
+use Rattle.reduction.proofs.reduce.Relation.{reduce-laws}
 use Rattle.checking.proofs.clauses.Laws.{clause-laws}
 
 -- ---- what stands

@@ -1,8 +1,8 @@
 -- Demand 3 of an emitter of any clause list, for a cascade against the empty one; so the stand-ins have it not. Assumes nothing.
-use mathlib.Core.Path.{_≡_, refl, sym, ap, ap₂, subst, _∙_}
+use mathlib.Core.Path.{_≡_, refl, sym, ap, subst, _∙_}
 use mathlib.Core.Bool.{Bool, true, false}
-use mathlib.Core.List.{List, [], _∷_, _++_, append-nil}
-use Prim.Native.Nat.{ℕ, _+_, _*_, _≤_}
+use mathlib.Core.List.{List, [], _∷_, append-nil}
+use Prim.Native.Nat.{ℕ, _+_, _≤_}
 use native.Mathlib.Omega.{arith}
 use lib.IntN.{ℤ, pos}
 use lib.ListN.{length, take, drop, replicate, length-replicate}
@@ -19,11 +19,11 @@ use Rattle.checking.specs.Clauses.{Clause, clausesOf, variablesOf}
 use Rattle.checking.specs.Stored.{stored, clausesIn, clausesRead}
 use Rattle.checking.specs.Satisfaction.{satisfies, Tells}
 use Rattle.checking.specs.Sizes.{totals}
-use Rattle.checking.specs.Miter.{miterGates}
+use Rattle.reduction.specs.Miter.{miterGates}
 use Rattle.checking.specs.ClauseLaws.{withoutLater, ofFirst, ofFirstVariables}
 use Rattle.checking.specs.Equality.{afterAll}
 use Rattle.checking.specs.EqualityLaws.{listOutcome, listBuffer, EqualityOfList, EqualityLaws}
-use Rattle.checking.proofs.miter.Laws.{miter-laws}
+use Rattle.reduction.proofs.miter.Laws.{miter-laws}
 use Rattle.checking.proofs.clauses.Laws.{clause-laws}
 use Rattle.checking.proofs.clauses.StandIns.{once, twice, once-valid, twice-valid, once-told, twice-told, free, free-satisfies, first-satisfied}
 use Rattle.checking.proofs.Equality.{equality, claimed}

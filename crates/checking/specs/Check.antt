@@ -1,6 +1,5 @@
 -- The whole way from two cascades to clauses: the miter, a list of calls on it, and the emission.
 use mathlib.Core.Path.{_≡_}
-use mathlib.Core.Bool.{cond}
 use mathlib.Core.List.{List, [], _∷_}
 use Prim.Native.Nat.{ℕ, zero, suc, _+_, _*_, _≤_}
 use lib.IntN.{ℤ}
@@ -10,9 +9,9 @@ use Rattle.circuit.specs.Gate.{maxGates}
 use Rattle.circuit.specs.Outcome.{Outcome, served, refused, andThen}
 use Rattle.circuit.specs.Words.{Cascade}
 use Rattle.checking.specs.declared.clauses.Totals.{Totals}
-use Rattle.checking.specs.Miter.{miterOutcome, miterBuffer}
-use Rattle.checking.specs.Step.{Step, found, none, stepOutcome, stepBuffer}
-use Rattle.checking.specs.Reduce.{Reduced, reduceOutcome, reduceBuffer}
+use Rattle.reduction.specs.Miter.{miterOutcome, miterBuffer}
+use Rattle.reduction.specs.Step.{Step, found, none, stepOutcome, stepBuffer}
+use Rattle.reduction.specs.Reduce.{Reduced, reduceOutcome, reduceBuffer}
 use Rattle.checking.specs.Emit.{emitOutcome, emitBuffer}
 use Rattle.checking.specs.Equality.{Call, stepOn, reduceOn, Claim}
 

@@ -9,9 +9,9 @@ use Rattle.circuit.specs.Outcome.{Outcome, served, refused}
 use Rattle.circuit.specs.Words.{gatesOf, Cascade}
 use Rattle.circuit.specs.Run.{run}
 use Rattle.checking.specs.declared.clauses.Totals.{Totals}
-use Rattle.checking.specs.Miter.{miterOutcome, miterBuffer}
-use Rattle.checking.specs.Step.{Step, found, none, stepOutcome, stepBuffer}
-use Rattle.checking.specs.Reduce.{Reduced, reduceOutcome, reduceBuffer}
+use Rattle.reduction.specs.Miter.{miterOutcome, miterBuffer}
+use Rattle.reduction.specs.Step.{Step, found, none, stepOutcome, stepBuffer}
+use Rattle.reduction.specs.Reduce.{Reduced, reduceOutcome, reduceBuffer}
 use Rattle.checking.specs.Clauses.{Clause, clausesOf}
 use Rattle.checking.specs.Stored.{stored, clausesIn, clausesRead}
 use Rattle.checking.specs.Satisfaction.{Tells}

@@ -1,8 +1,3 @@
-pub mod Miter
-pub mod Step
-pub mod Reduce
-pub mod MiterLaws
-pub mod StepLaws
 pub mod Clauses
 pub mod Satisfaction
 pub mod Stored
@@ -15,7 +10,5 @@ pub mod Equality
 pub mod Check
 pub mod ClauseLaws
 pub mod EqualityLaws
-pub mod ReduceLaws
-pub mod StandIns
 pub mod Rows
 pub mod Laws

@@ -10,10 +10,10 @@ use Rattle.circuit.specs.Outcome.{Outcome, served, refused, andThen}
 use Rattle.circuit.specs.Words.{wordsOf}
 use Rattle.circuit.specs.Run.{runOutcome}
 use Rattle.checking.specs.declared.clauses.Totals.{Totals}
-use Rattle.checking.specs.Miter.{miterOutcome, miterBuffer}
+use Rattle.reduction.specs.Miter.{miterOutcome, miterBuffer}
 use Rattle.checking.specs.Sizes.{sizesOutcome}
 use Rattle.diagnosis.specs.Faults.{faultOutcome, faultBuffer}
-use Rattle.checking.specs.Step.{Step, found, none, filled, stepOutcome, stepBuffer}
+use Rattle.reduction.specs.Step.{Step, found, none, filled, stepOutcome, stepBuffer}
 
 -- what a row says of a call on n lines
 pub data Row : Type 0 where

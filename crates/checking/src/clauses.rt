@@ -70,7 +70,7 @@ pub(crate) fn list_sizes(n: u64, words: &[u64]) -> SizesAnswer
             return SizesAnswer::Refused(Refusal::no_gate(i as u64));
         }
         let target = g.target;
-        let t = gate_sizes(circuit::gate::count(g.positive | g.negative));
+        let t = gate_sizes(g.control_count());
         variables += t.variables;
         clauses += t.clauses;
         total += t.words;

@@ -4,7 +4,6 @@ use circuit::gate::Gate;
 ghost use mathlib.Core.Path.{_≡_};
 ghost use mathlib.Core.List.{[], _∷_};
 ghost use Prim.Native.Nat.{_+_, _*_, _≤_, _<_};
-ghost use lib.Count.{trailingZeros};
 ghost use lib.IntN.{pos};
 ghost use lib.ListN.{length};
 ghost use Rattle.bits.specs.Digits.{bit};
@@ -42,13 +41,6 @@ fn has(mask: u64, k: u64) -> bool
     (mask >> k) % 2 == 1
 }
 
-// The lowest line of the mask; 64 where it has none.
-fn lowest(mask: u64) -> u64
-    ensures { λ r. ⌜ r ≡ trailingZeros maxLines mask ⌝ }
-{
-    u64::trailing_zeros(mask) as u64
-}
-
 // Three words at the buffer's start.
 pub(crate) fn put_3(out: &mut [i16], a: i16, b: i16, c: i16)
     requires { ⌜ 3 ≤ length (now out) ⌝ }
@@ -82,7 +74,7 @@ pub(crate) fn put_5(out: &mut [i16], a: i16, b: i16, c: i16, d: i16, e: i16)
     out[4] = e;
 }
 
-// From the buffer's start, for each of k lines by rising line: its -c, in k words; then its OR (-p, c).
+// Of the controls on k lines, by rising line, every -c and then every OR (-p, c), at the buffer's start.
 fn put_controls(
     positive: u64,
     lines: u64,
@@ -102,7 +94,7 @@ fn put_controls(
     let mut left = lines;
     let mut i = 0;
     while left != 0 {
-        let line = lowest(left);
+        let line = circuit::gate::lowest(left);
         let v = current[line as usize];
         let sign = has(positive, line);
         out[i] = literal(v, !sign);
@@ -161,7 +153,7 @@ pub(crate) fn put_gate(g: Gate, n: u64, current: &[u64], used: u64, out: &mut [i
         return 4;
     }
     if k == 1 {
-        let line = lowest(lines);
+        let line = circuit::gate::lowest(lines);
         put_5(
             out,
             1,

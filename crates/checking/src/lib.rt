@@ -1,4 +1,4 @@
-// Checks of cascades: miter, reduction and clause list.
+// The clause list of a cascade, its emission, and demand 3.
 
 ghost use Rattle.checking.specs.Laws.{CheckingLaws};
 
@@ -6,9 +6,6 @@ pub mod check;
 pub mod clauses;
 mod emission;
 mod emitter;
-pub mod miter;
-pub mod reduce;
-pub mod step;
 
 // Has no effect: its contract is the record of this crate's laws.
 pub fn laws()

@@ -5,7 +5,7 @@ ghost use mathlib.Core.Bool.{true};
 ghost use Prim.Native.Nat.{_-_, _^_, _<_, _≤_};
 ghost use lib.Dec.{eqb, ltb};
 ghost use lib.Bits.{bitAnd};
-ghost use lib.Count.{ones};
+ghost use lib.Count.{ones, trailingZeros};
 ghost use Rattle.circuit.specs.Gate.{maxLines, notGate, fires, inverted, apply, valid, controlCount};
 
 #[repr(C)]
@@ -55,6 +55,13 @@ pub fn count(mask: u64) -> u64
     ensures { λ r. ⌜ (r ≡ ones mask) × (r ≤ maxLines) ⌝ }
 {
     u64::count_ones(mask) as u64
+}
+
+// The lowest line of the mask; 64 where it has none.
+pub fn lowest(mask: u64) -> u64
+    ensures { λ r. ⌜ r ≡ trailingZeros maxLines mask ⌝ }
+{
+    u64::trailing_zeros(mask) as u64
 }
 
 impl Gate {

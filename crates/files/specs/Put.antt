@@ -1,25 +1,22 @@
 -- For the contracts of the functions that write at the start of a buffer.
 use mathlib.Core.Path.{_≡_}
-use mathlib.Core.Bool.{true, false}
 use mathlib.Core.List.{List}
-use Prim.Native.Nat.{ℕ, _<_, _≤_}
-use lib.ListN.{length}
-use Rattle.bits.specs.Digits.{bit}
+use Prim.Native.Nat.{ℕ, _+_, _*_, _/_, _%_, _<_, _≤_}
+use lib.ListN.{length, getD}
 use Rattle.bits.specs.Lists.{over}
 use Rattle.circuit.specs.declared.gate.Gate.{Gate}
-use Rattle.circuit.specs.Gate.{maxLines}
+use Rattle.files.specs.Text.{digit}
 
 -- these bytes stand at the start of the buffer, and their number was told
 pub record Put (told : ℕ) (last bytes first : List ℕ) : Type 0 where
   pub count : told ≡ length bytes
   pub buffer : last ≡ over bytes first
 
--- the lowest line of a mask from line k on; 64 where there is none
-pub record NextLine (mask k r : ℕ) : Type 0 where
-  pub from : k ≤ r
-  pub within : r ≤ maxLines
-  pub clear : (j : ℕ) → k ≤ j → j < r → bit mask j ≡ false
-  pub set : r < maxLines → bit mask r ≡ true
+-- the texts 00 to 99, one after the other
+pub record TwoDigits (table : List ℕ) : Type 0 where
+  pub long : 200 ≤ length table
+  pub tens : (k : ℕ) → k < 100 → getD table (2 * k) 0 ≡ digit (k / 10)
+  pub ones : (k : ℕ) → k < 100 → getD table (2 * k + 1) 0 ≡ digit (k % 10)
 
 -- a gate with these masks
 abbrev pub maskGate : ℕ → ℕ → Gate

@@ -15,7 +15,7 @@ ghost use Rattle.circuit.specs.Gate.{maxLines, maxGates};
 ghost use Rattle.circuit.specs.Outcome.{Yields, served, andThen};
 ghost use Rattle.circuit.specs.Words.{gatesOf, wordsOf, allValid};
 ghost use Rattle.files.specs.Text.{gateLines, endLine, textOf};
-ghost use Rattle.files.specs.Put.{Put};
+ghost use Rattle.files.specs.Put.{Put, TwoDigits};
 ghost use Rattle.files.specs.File.{linesOf, readFrom, countsOf, gatesRead, readOutcome, readBuffer, ofRead, writeOutcome, writeBuffer, ofWrite};
 
 pub mod put;
@@ -132,27 +132,31 @@ fn text_size(n: u64, words: &[u64]) -> usize
 }
 
 // Writes the gate lines of a cascade and `end`, and tells how many bytes they are.
-fn put_lines(words: &[u64], out: &mut [u8]) -> usize
-    requires { ⌜ (allValid maxLines (gatesOf (now words)) ≡ true) × (length (gateLines (gatesOf (now words)) ++ endLine) ≤ length (now out)) ⌝ }
+fn put_lines(words: &[u64], out: &mut [u8], table: &[u8]) -> usize
+    requires { ⌜ (TwoDigits (now table)) × (allValid maxLines (gatesOf (now words)) ≡ true) × (length (gateLines (gatesOf (now words)) ++ endLine) ≤ length (now out)) ⌝ }
     ensures { λ r. ⌜ Put r (now (out .exit)) (gateLines (gatesOf (now (words .entry))) ++ endLine) (now (out .entry)) ⌝ }
 {
     let gates = words.len() / Gate::WORDS;
     let mut at = 0;
     let mut i = 0;
     while i < gates {
-        at += crate::file::put::put_gate_line(&mut out[at..], circuit::words::gate_at(words, i));
+        at += crate::file::put::put_gate_line(
+            &mut out[at..],
+            circuit::words::gate_at(words, i),
+            table,
+        );
         i += 1;
     }
     at + crate::file::put::put_end(&mut out[at..])
 }
 
 // Writes the text of a cascade, and tells how many bytes it is.
-fn put_text(n: u64, words: &[u64], out: &mut [u8]) -> usize
-    requires { ⌜ (n < 100) × (allValid maxLines (gatesOf (now words)) ≡ true) × (length (textOf n (gatesOf (now words))) ≤ length (now out)) ⌝ }
+fn put_text(n: u64, words: &[u64], out: &mut [u8], table: &[u8]) -> usize
+    requires { ⌜ (TwoDigits (now table)) × (n < 100) × (allValid maxLines (gatesOf (now words)) ≡ true) × (length (textOf n (gatesOf (now words))) ≤ length (now out)) ⌝ }
     ensures { λ r. ⌜ Put r (now (out .exit)) (textOf n (gatesOf (now (words .entry)))) (now (out .entry)) ⌝ }
 {
-    let at = crate::file::put::put_header(&mut out[0..], n);
-    at + put_lines(words, &mut out[at..])
+    let at = crate::file::put::put_header(&mut out[0..], n, table);
+    at + put_lines(words, &mut out[at..], table)
 }
 
 // The number of bytes of a cascade's text, which stands at the buffer's start; else 2, 11, 6, 7 or 10.
@@ -166,7 +170,7 @@ pub fn write(n: u64, words: &[u64], out: &mut [u8]) -> WriteAnswer
             if out.len() < size {
                 return WriteAnswer::Refused(Refusal::no_room());
             }
-            WriteAnswer::Bytes(put_text(n, words, out))
+            WriteAnswer::Bytes(put_text(n, words, out, &crate::file::put::DIGITS))
         }
     }
 }

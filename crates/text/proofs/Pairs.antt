@@ -12,7 +12,7 @@ use Rattle.circuit.specs.Inverse.{inverse}
 use Rattle.circuit.proofs.words.Laws.{valid-append}
 use Rattle.circuit.proofs.inverse.Laws.{inverse-valid}
 use Rattle.files.specs.FileLaws.{FileCascade}
-use Rattle.checking.specs.Miter.{miterGates}
+use Rattle.reduction.specs.Miter.{miterGates}
 
 -- gates that a clause list is made of
 pub record Listable (n : ℕ) (gs : List Gate) : Type 0 where

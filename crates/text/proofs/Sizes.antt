@@ -16,7 +16,7 @@ use Rattle.files.specs.File.{Line, Reading, reading}
 use Rattle.files.specs.FileLaws.{FileCascade, HeaderOffence, no-lines, no-number, outside, ControlsOffence, form, value, later, LineOffence, no-gate, many, target-form, target-value, controls, controlled, not-rising, FileFault, header-line, later-line}
 use Rattle.files.specs.FileLaws as laws
 use Rattle.files.proofs.file.Laws.{reader}
-use Rattle.checking.specs.Miter.{miterGates}
+use Rattle.reduction.specs.Miter.{miterGates}
 use Rattle.checking.specs.Clauses.{Clause, OR, XOR, clausesOf}
 use Rattle.checking.specs.Satisfaction.{size, LiteralsWithin, clauseLiterals, ClausesWithin}
 use Rattle.checking.specs.Stored.{storedClause, stored}

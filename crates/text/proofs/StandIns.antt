@@ -15,7 +15,7 @@ use Rattle.circuit.specs.Words.{allValid}
 use Rattle.circuit.specs.Run.{run}
 use Rattle.files.specs.Text.{numberText, controlsText, gateLines, textOf}
 use Rattle.files.specs.FileLaws.{FileCascade}
-use Rattle.checking.specs.Miter.{miterGates}
+use Rattle.reduction.specs.Miter.{miterGates}
 use Rattle.checking.specs.Clauses.{Clause, OR, upFrom, moved, gatesClauses, usedAfter, currentAfter, targeted, differenceClauses, clausesOf, variablesOf}
 use Rattle.checking.specs.Satisfaction.{ClausesWithin, holds, satisfies, Satisfying, Tells}
 use Rattle.checking.specs.Stored.{stored}

@@ -16,11 +16,11 @@ use Rattle.files.specs.Text.{textOf}
 use Rattle.files.specs.File.{Reading, reading}
 use Rattle.files.specs.FileLaws.{FileCascade}
 use Rattle.files.proofs.file.Laws.{reader}
-use Rattle.checking.specs.Miter.{miterGates}
+use Rattle.reduction.specs.Miter.{miterGates}
 use Rattle.checking.specs.Clauses.{Clause, clausesOf, variablesOf}
 use Rattle.checking.specs.Satisfaction.{Tells}
 use Rattle.checking.specs.Stored.{stored}
-use Rattle.checking.proofs.miter.Laws.{miter-laws}
+use Rattle.reduction.proofs.miter.Laws.{miter-laws}
 use Rattle.checking.proofs.clauses.Laws.{clause-laws}
 use Rattle.checking.proofs.clauses.Meaning.{tells-same}
 use Rattle.text.specs.Dimacs.{headerText, dimacsOf, dimacsRead}

@@ -9,7 +9,7 @@ use Rattle.circuit.specs.Outcome.{served}
 use Rattle.circuit.specs.Run.{run}
 use Rattle.files.specs.Text.{textOf}
 use Rattle.files.specs.FileLaws.{FileCascade}
-use Rattle.checking.specs.Miter.{miterGates}
+use Rattle.reduction.specs.Miter.{miterGates}
 use Rattle.checking.specs.Clauses.{Clause, OR, clausesOf}
 use Rattle.checking.specs.Stored.{stored}
 use Rattle.checking.specs.Satisfaction.{ClausesWithin, Tells}

@@ -9,7 +9,7 @@ use Rattle.circuit.specs.Outcome.{Outcome, served, refused, demand, written}
 use Rattle.circuit.specs.Refusal.{wrongForm, lineCountsDiffer, noRoom}
 use Rattle.files.specs.Text.{tab, lineFeed}
 use Rattle.files.specs.File.{Reading, reading}
-use Rattle.checking.specs.Miter.{miterGates}
+use Rattle.reduction.specs.Miter.{miterGates}
 use Rattle.checking.specs.Clauses.{Clause, clausesOf, variablesOf}
 use Rattle.checking.specs.Stored.{stored}
 use Rattle.text.specs.Dimacs.{decimal, dimacsOf}

@@ -18,7 +18,9 @@ pub enum TextAnswer {
     Refused(Refusal),
 }
 
-// The bytes of the longest text.
+// The bytes of the longest input and of the longest text.
+pub const MAX_INPUT: usize = 65536;
+
 pub const MAX_TEXT: usize = 98321;
 
 // What the program writes for an input of two cascade files, at the buffer's start; else 10.

@@ -18,12 +18,10 @@ pub enum ListAnswer {
     Refused { why: Refusal, file: u64 },
 }
 
-// The words of a file's cascade and of a miter, and the bytes of an input, at most.
+// The words of a file's cascade and of a miter, at most.
 const FILE_WORDS: usize = 3072;
 
 const MITER_WORDS: usize = 6144;
-
-const MAX_INPUT: usize = 65536;
 
 // The clause list of two cascades; else 8 or 10.
 fn list_pair(na: u64, a: &[u64], nb: u64, b: &[u64], clauses: &mut [i16]) -> ListAnswer
@@ -33,7 +31,7 @@ fn list_pair(na: u64, a: &[u64], nb: u64, b: &[u64], clauses: &mut [i16]) -> Lis
     ensures { λ r. ⌜ Says r (now (clauses .exit)) (pairVerdict na (gatesOf (now (a .entry))) nb (gatesOf (now (b .entry)))) ⌝ }
 {
     let mut room = [0u64; MITER_WORDS];
-    match checking::miter::miter(na, a, nb, b, &mut room) {
+    match reduction::miter::miter(na, a, nb, b, &mut room) {
         CountAnswer::Refused(why) => ListAnswer::Refused { why, file: 0 },
         CountAnswer::Gates(gates) => {
             let end = Gate::WORDS * gates;
@@ -74,7 +72,7 @@ pub(crate) fn list(input: &[u8], clauses: &mut [i16]) -> ListAnswer
     requires { ⌜ length (now clauses) ≡ maxWords ⌝ }
     ensures { λ r. ⌜ Says r (now (clauses .exit)) (verdict (now (input .entry))) ⌝ }
 {
-    if MAX_INPUT < input.len() {
+    if crate::MAX_INPUT < input.len() {
         return ListAnswer::Refused {
             why: Refusal::no_room(),
             file: 0,

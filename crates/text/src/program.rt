@@ -9,6 +9,9 @@ ghost use Rattle.files.specs.Put.{Put};
 ghost use Rattle.text.specs.Dimacs.{decimal};
 ghost use Rattle.text.specs.Tomiter.{maxText, refusalText, tomiterText};
 
+// The words of the clause buffer.
+const CLAUSE_WORDS: usize = 16384;
+
 // Writes a refusal's file and place, each after a tab, and an LF.
 fn put_place(out: &mut [u8], file: u64, place: u64) -> usize
     requires { ⌜ length (decimal file) + length (decimal place) + 3 ≤ length (now out) ⌝ }
@@ -32,7 +35,7 @@ pub(crate) fn put_text(out: &mut [u8], input: &[u8]) -> usize
     requires { ⌜ maxText ≤ length (now out) ⌝ }
     ensures { λ r. ⌜ Put r (now (out .exit)) (tomiterText (now (input .entry))) (now (out .entry)) ⌝ }
 {
-    let mut clauses = [0i16; 16384];
+    let mut clauses = [0i16; CLAUSE_WORDS];
     match crate::list::list(input, &mut clauses) {
         ListAnswer::Refused { why, file } => put_refusal(out, why.number, file, why.place),
         ListAnswer::Listed(totals) => {

@@ -9,7 +9,7 @@ ghost use Rattle.files.specs.Put.{Put};
 ghost use Rattle.text.specs.Tomiter.{maxText, tomiterText};
 
 // One byte more than an input may have.
-const INPUT: usize = 65537;
+const INPUT: usize = text::MAX_INPUT + 1;
 
 // Writes what the program answers to an input, which always fits, and tells how many bytes it is.
 fn answer(out: &mut [u8], input: &[u8]) -> usize

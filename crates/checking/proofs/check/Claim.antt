@@ -1,5 +1,5 @@
 -- Demand 3 of what the code answers and leaves. Assumes nothing.
-use mathlib.Core.Path.{_≡_, refl, sym, ap, ap₂, subst, subst₂, _∙_}
+use mathlib.Core.Path.{_≡_, sym, ap, ap₂, subst, subst₂, _∙_}
 use mathlib.Core.List.{List}
 use Prim.Native.Nat.{ℕ, _+_, _*_, _≤_}
 use native.Mathlib.Omega.{arith}
@@ -10,12 +10,11 @@ use Rattle.circuit.specs.Outcome.{Outcome, served, refused, written, Yields}
 use Rattle.circuit.specs.Words.{gatesOf, wordsOf, Cascade}
 use Rattle.circuit.proofs.Outcome.{then-served, then-refused}
 use Rattle.checking.specs.declared.clauses.Totals.{Totals}
-use Rattle.checking.specs.Miter.{miterGates, miterOutcome, miterBuffer}
-use Rattle.checking.specs.MiterLaws.{MiterLaws}
+use Rattle.reduction.specs.Miter.{miterGates, miterOutcome, miterBuffer}
 use Rattle.checking.specs.Emit.{emitOutcome, emitBuffer}
 use Rattle.checking.specs.Equality.{Call, afterAll, Emitted, Claim}
-use Rattle.checking.specs.Check.{Held, standing, held, calledAll, checkedOutcome, roomLeft, clausesLeft, Checks}
-use Rattle.checking.proofs.miter.Laws.{miter-laws}
+use Rattle.checking.specs.Check.{standing, held, checkedOutcome, roomLeft, clausesLeft, Checks}
+use Rattle.reduction.proofs.miter.Laws.{miter-laws}
 use Rattle.checking.proofs.Equality.{equality}
 use Rattle.checking.proofs.check.Laws.{calls-leave}
 

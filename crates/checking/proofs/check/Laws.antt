@@ -1,10 +1,9 @@
 -- What a call and a list of calls leave in the miter's buffer, and demand 3 of what the code answers. Assumes nothing.
 use mathlib.Core.Path.{_≡_, refl, sym, ap, ap₂, subst, _∙_}
 use mathlib.Core.List.{List, [], _∷_, _++_}
-use Prim.Native.Nat.{ℕ, zero, suc, _+_, _*_, _-_, _/_, _<_, _≤_}
+use Prim.Native.Nat.{ℕ, suc, _+_, _*_, _-_, _/_, _<_, _≤_}
 use native.Mathlib.Nat.{le-refl}
 use native.Mathlib.Omega.{arith}
-use lib.IntN.{ℤ}
 use lib.ListN.{length, take, drop, getD, length-drop}
 use lib.Seq.{length-take-le, take-append-le, take-at}
 use Rattle.bits.specs.Lists.{over}
@@ -14,16 +13,15 @@ use Rattle.circuit.specs.Gate.{maxLines, maxMiterGates}
 use Rattle.circuit.specs.Outcome.{Outcome, served, refused, Yields}
 use Rattle.circuit.specs.Words.{gatesOf, checkOutcome, Cascade}
 use Rattle.circuit.proofs.words.Laws.{check-served, valid-all-more, gates-length}
-use Rattle.checking.specs.Step.{Step, found, none, stepGates, counted, stepOutcome, stepBuffer}
-use Rattle.checking.specs.StepLaws.{Stands, StepLaws}
-use Rattle.checking.specs.Reduce.{Reduced, reduceGates, reduceOutcome, reduceBuffer}
-use Rattle.checking.specs.ReduceLaws.{ReduceLaws}
+use Rattle.reduction.specs.Step.{Step, found, none, stepGates, counted, stepOutcome, stepBuffer}
+use Rattle.reduction.specs.StepLaws.{Stands}
+use Rattle.reduction.specs.Reduce.{Reduced, reduceGates, reduceOutcome, reduceBuffer}
 use Rattle.checking.specs.Equality.{Call, stepOn, reduceOn, stepLeaves, reduceLeaves, after, afterAll}
 use Rattle.checking.specs.Check.{callOf, callsOf, Held, standing, stepGatesLeft, reduceGatesLeft, called, calledAll}
-use Rattle.checking.proofs.step.Calls.{step-refused}
-use Rattle.checking.proofs.step.Laws.{step-laws}
-use Rattle.checking.proofs.reduce.Laws.{step-shrinks, reduce-refused}
-use Rattle.checking.proofs.reduce.Relation.{reduce-laws}
+use Rattle.reduction.proofs.step.Calls.{step-refused}
+use Rattle.reduction.proofs.step.Laws.{step-laws}
+use Rattle.reduction.proofs.reduce.Laws.{step-shrinks, reduce-refused}
+use Rattle.reduction.proofs.reduce.Relation.{reduce-laws}
 use Rattle.bits.proofs.Lists.{two}
 
 -- ---- one call

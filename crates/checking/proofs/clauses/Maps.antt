@@ -1,20 +1,16 @@
--- The clauses of gates on n lines depend on the current variables of lines below n only, and gates in a row add up; for a map that is kept as one word a line. Assumes nothing.
+-- The clauses of gates on n lines depend on the current variables of lines below n only, and gates in a row add up. Assumes nothing.
 use mathlib.Core.Path.{_≡_, refl, sym, ap, ap₂, _∙_}
-use mathlib.Core.Bool.{Bool, true, false, cond}
+use mathlib.Core.Bool.{Bool, true, cond}
 use mathlib.Core.List.{List, [], _∷_, _++_, map, append-assoc}
 use Prim.Native.Nat.{ℕ, suc, _≤_, _<_}
 use lib.Dec.{eqb}
 use lib.IntN.{ℤ}
-use lib.ListN.{length, set}
-use lib.Seq.{getD-set-same, getD-set-other}
-use borrow.Author.Tests.{eqb-true, eqb-false}
-use Rattle.bits.proofs.Bools.{and-parts, either, cond-true, cond-false}
+use Rattle.bits.proofs.Bools.{and-parts}
 use Rattle.circuit.specs.declared.gate.Gate.{Gate}
 use Rattle.circuit.specs.Gate.{maxLines, valid, Control, controlsOf}
 use Rattle.circuit.specs.Words.{allValid}
-use Rattle.circuit.proofs.gate.Laws.{Valid, valid-facts}
+use Rattle.circuit.proofs.gate.Laws.{valid-facts}
 use Rattle.checking.specs.Clauses.{Clause, plus, minus, literalOf, gateClauses, usedBy, moved, clausesOfGate, gatesClauses, usedAfter, currentAfter, differenceClause, differenceClauses}
-use Rattle.checking.specs.Emitter.{byLine}
 use Rattle.checking.proofs.clauses.Gates.{Within, controls-within}
 use Rattle.checking.proofs.clauses.Forced.{Inside}
 
@@ -49,18 +45,6 @@ unfolding differenceClauses
 differences-local n hit left a b used [] w h = refl
 differences-local n hit left a b used (k ∷ ks) w h =
     ap₂ (λ (c : Clause) (cs : List Clause). c ∷ cs) (ap (differenceClause (hit k) (suc used) (left k)) (h k (w .0))) (differences-local n hit left a b (suc used) ks (w .1) h)
-
--- a word a line: storing w at the target moves the map
-pub moved-stored : (used : ℕ) (current : List ℕ) (g : Gate) → g .target < length current
-    → (k : ℕ) → byLine (set current (g .target) (usedBy used g)) k ≡ moved used (byLine current) g k
-unfolding moved
-moved-stored used current g h k =
-    either (eqb k (g .target))
-    (λ e.
-    ap (byLine (set current (g .target) (usedBy used g))) (eqb-true k (g .target) e)
-    ∙ getD-set-same current (g .target) (usedBy used g) 0 h
-    ∙ sym (cond-true (eqb k (g .target)) _ _ e))
-    (λ e. getD-set-other current (g .target) k (usedBy used g) 0 (eqb-false k (g .target) e) ∙ sym (cond-false (eqb k (g .target)) _ _ e))
 
 -- gates in a row
 pub used-append : (used : ℕ) (xs ys : List Gate) → usedAfter used (xs ++ ys) ≡ usedAfter (usedAfter used xs) ys

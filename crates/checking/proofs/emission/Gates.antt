@@ -21,7 +21,7 @@ use Rattle.circuit.proofs.gate.Controls.{controls-count}
 use Rattle.circuit.proofs.words.Laws.{gates-next, gates-end, valid-next, valid-later}
 use Rattle.checking.specs.declared.clauses.Totals.{Totals}
 use Rattle.checking.specs.Clauses.{Clause, plus, minus, inputOf, literalOf, gateClauses, newVariable, usedBy, moved, clausesOfGate, gatesClauses, usedAfter, currentAfter}
-use Rattle.checking.specs.Stored.{stored, wordLimit}
+use Rattle.checking.specs.Stored.{stored}
 use Rattle.checking.specs.Sizes.{gateSizes}
 use Rattle.checking.specs.Emitter.{byLine, gateStored, Ready}
 use Rattle.checking.specs.Emission.{Holds, GatesReady, GatesPut}

@@ -3,7 +3,6 @@ use mathlib.Core.Path.{_≡_, refl, sym, ap, ap₂, _∙_}
 use mathlib.Core.Bool.{Bool}
 use mathlib.Core.List.{List, [], _∷_, _++_, map, map-append, append-assoc, append-nil}
 use Prim.Native.Nat.{ℕ, zero, suc, _+_, _-_, _≤_, _<_}
-use native.Mathlib.Numerals.{add-one}
 use native.Mathlib.Omega.{arith}
 use lib.Dec.{eqb, ltb}
 use lib.IntN.{ℤ, pos}
@@ -14,8 +13,8 @@ use borrow.Rule.Slice.PartMut.{putMid}
 use Rattle.bits.specs.Lists.{over}
 use Rattle.bits.proofs.Bools.{either}
 use Rattle.bits.proofs.Lists.{over-length, over-push, lent-over}
-use Rattle.checking.specs.Clauses.{OR, plus, inputOf, upFrom, differenceClauses}
-use Rattle.checking.specs.Stored.{stored, wordLimit}
+use Rattle.checking.specs.Clauses.{plus, inputOf, upFrom, differenceClauses}
+use Rattle.checking.specs.Stored.{stored}
 use Rattle.checking.specs.Emitter.{byLine}
 use Rattle.checking.specs.Emission.{lineStored, linesStored, lastStored, LineReady, LinesReady}
 use Rattle.checking.proofs.clauses.Forced.{length-upFrom}

@@ -2,7 +2,7 @@
 use mathlib.Core.Path.{_≡_, refl, sym, ap, ap₂, _∙_}
 use mathlib.Core.Bool.{Bool, true, false, cond, _||_}
 use mathlib.Core.List.{List, [], _∷_, _++_, map, append-assoc}
-use Prim.Native.Nat.{ℕ, suc, _+_, _*_, _-_, _≤_, _<_}
+use Prim.Native.Nat.{ℕ, suc, _+_, _-_, _≤_, _<_}
 use native.Mathlib.Omega.{arith}
 use lib.Dec.{eqb, ltb}
 use lib.IntN.{ℤ}
@@ -10,10 +10,9 @@ use lib.ListN.{length, take, drop, length-append}
 use borrow.Author.Tests.{lt-ltb, le-ltb}
 use borrow.Rule.Slice.PartMut.{putMid}
 use Rattle.bits.specs.Lists.{over}
-use Rattle.bits.proofs.Bools.{either, cond-true, cond-false}
 use Rattle.bits.proofs.Lists.{over-length, lent-over}
 use Rattle.circuit.specs.declared.gate.Gate.{Gate}
-use Rattle.circuit.specs.Gate.{maxLines, maxMiterGates, controlsOf}
+use Rattle.circuit.specs.Gate.{controlsOf}
 use Rattle.circuit.specs.Words.{gatesOf}
 use Rattle.circuit.proofs.words.Laws.{gates-length}
 use Rattle.checking.specs.declared.clauses.Totals.{Totals}
@@ -22,7 +21,7 @@ use Rattle.checking.specs.Stored.{stored, wordLimit}
 use Rattle.checking.specs.Emitter.{byLine}
 use Rattle.checking.specs.Emission.{Holds, linesStored, lastStored, LinesReady, GatesReady, GatesPut, ListReady}
 use Rattle.checking.proofs.clauses.Gates.{new-named}
-use Rattle.checking.proofs.clauses.Bounds.{Named, after-named, inputs-named, used-bound}
+use Rattle.checking.proofs.clauses.Bounds.{after-named, inputs-named, used-bound}
 use Rattle.checking.proofs.clauses.Forced.{Inside, inside-upFrom, used-more}
 use Rattle.checking.proofs.clauses.Tests.{or-false}
 use Rattle.checking.proofs.clauses.Reading.{stored-append}

@@ -9,13 +9,13 @@ use lib.Bits.{bitAnd, and-le-l}
 use lib.Count.{trailingZeros, ones-le}
 use lib.IntN.{ℤ, pos, negℤ, negℤ-negℤ}
 use lib.ListN.{length, set, take, drop, length-append, length-map, length-set, length-drop, take-append-drop}
-use lib.Seq.{append-snoc, set-append-left, length-take-le, drop-length}
+use lib.Seq.{set-append-left, length-take-le, drop-length}
 use borrow.Rule.Slice.PartMut.{putMid}
 use Rattle.bits.specs.Digits.{bit, linesIn}
 use Rattle.bits.specs.Lists.{over}
 use Rattle.bits.proofs.Digits.{lines-ones}
 use Rattle.bits.proofs.Lists.{over-push, over-length, rest-lent, lent-over}
-use Rattle.bits.proofs.Lowest.{lines-none, lines-lowest, lowest-below}
+use Rattle.bits.proofs.Lowest.{lowest-below, lines-on, lines-done}
 use Rattle.circuit.specs.Gate.{maxLines}
 use Rattle.checking.specs.Clauses.{Clause, OR, XOR, plus, minus, implied, manyClauses}
 use Rattle.checking.specs.Stored.{stored}
@@ -133,7 +133,7 @@ module _ (current : List ℕ) (positive lines k n p : ℕ) (first out : List ℤ
     (w : Walk current positive lines k n p first out left i) where
   pub walk-done : left ≡ 0 → out ≡ over (controlsStored p (literalsIn current positive lines n)) first
   walk-done e =
-      let is : linesIn lines n ≡ w .passed = w .all ∙ ap (λ (l : List ℕ). w .passed ++ l) (ap (λ (x : ℕ). linesIn x n) e ∙ lines-none n) ∙ append-nil (w .passed) in
+      let is = lines-done maxLines n lines left (w .passed) (w .all) e in
       w .buffer
       ∙ filling-done k p first room (map (literalAt current positive) (w .passed)) (length-map (w .passed) (literalAt current positive) ∙ sym (h .count ∙ ap length is))
       ∙ ap (λ (l : List ℕ). over (controlsStored p (map (literalAt current positive) l)) first) (sym is)
@@ -143,11 +143,8 @@ module _ (current : List ℕ) (positive lines k n p : ℕ) (first out : List ℤ
     pub line-below : line < n
     line-below = omega (arith, is, lowest-below maxLines n left small some (w .below))
 
-    split : linesIn left n ≡ line ∷ linesIn (bitAnd left (left - 1)) n
-    split = lines-lowest maxLines n left small some (w .below) ∙ ap (λ (t : ℕ). t ∷ linesIn (bitAnd left (left - 1)) n) (sym is)
-
     more : linesIn lines n ≡ (w .passed ++ (line ∷ [])) ++ linesIn (bitAnd left (left - 1)) n
-    more = w .all ∙ ap (λ (l : List ℕ). w .passed ++ l) split ∙ sym (append-snoc (w .passed) line (linesIn (bitAnd left (left - 1)) n))
+    more = lines-on maxLines n lines left (w .passed) (w .all) small some (w .below) line is
 
     passed-long : length (w .passed ++ (line ∷ [])) ≡ i + 1
     passed-long = length-append (w .passed) (line ∷ []) ∙ ap (λ (m : ℕ). m + 1) (w .count)

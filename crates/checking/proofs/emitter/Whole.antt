@@ -2,7 +2,7 @@
 use mathlib.Core.Path.{_≡_, refl, sym, ap, ap₂, _∙_, subst}
 use mathlib.Core.Bool.{Bool, true, false, cond, _||_}
 use mathlib.Core.Logic.{⊎-elim}
-use mathlib.Core.List.{List, [], _∷_, _++_, map, map-append}
+use mathlib.Core.List.{List, [], _∷_, map, map-map}
 use Prim.Native.Nat.{ℕ, zero, suc, _+_, _*_, _-_, _^_, _≤_, _<_}
 use native.Mathlib.Nat.{eq-zero-or-pos}
 use native.Mathlib.Numerals.{add-one}
@@ -17,7 +17,7 @@ use Rattle.bits.proofs.Lowest.{lines-none, lines-lowest, lowest-below}
 use Rattle.circuit.specs.declared.gate.Gate.{Gate}
 use Rattle.circuit.specs.Gate.{maxLines, controlCount, Control, controlAt, controlsBelow, controlsOf}
 use Rattle.circuit.proofs.gate.Laws.{valid-facts, valid-more}
-use Rattle.circuit.proofs.gate.Controls.{controls-count, controls-below}
+use Rattle.circuit.proofs.gate.Controls.{controlOn, controls-count, controls-lines, controls-below}
 use Rattle.checking.specs.declared.clauses.Totals.{Totals}
 use Rattle.checking.specs.Clauses.{plus, minus, literalOf, gateClauses, manyClauses}
 use Rattle.checking.specs.Stored.{stored, wordLimit}
@@ -26,31 +26,9 @@ use Rattle.checking.specs.Emitter.{literalWord, byLine, literalAt, liter
 use Rattle.checking.proofs.clauses.Sums.{many-words}
 use Rattle.checking.proofs.clauses.Loop.{sizes-many}
 
--- the literal on a line that stands in one of the masks
-on-line : (current : List ℕ) (k : ℕ) (a b : Bool)
-    → map (literalOf (byLine current)) (cond a (record { line = k; positive = true } ∷ []) (cond b (record { line = k; positive = false } ∷ []) []))
-    ≡ cond (a || b) (literalWord a (byLine current k) ∷ []) []
-on-line current k true b = refl
-on-line current k false true = refl
-on-line current k false false = refl
-
-if-set : (f : ℕ → ℤ) (k : ℕ) (b : Bool) → map f (cond b (k ∷ []) []) ≡ cond b (f k ∷ []) []
-if-set f k true = refl
-if-set f k false = refl
-
 -- the literals of a gate's controls, by the lines of both masks
 by-lines : (current : List ℕ) (g : Gate) (n : ℕ) → map (literalOf (byLine current)) (controlsBelow n g) ≡ literalsIn current (g .positive) (bitOr (g .positive) (g .negative)) n
-unfolding controlsBelow linesIn
-by-lines current g zero = refl
-by-lines current g (suc n) =
-    let f = literalAt current (g .positive) in
-    let lines = bitOr (g .positive) (g .negative) in
-    map-append (literalOf (byLine current)) (controlsBelow n g) (controlAt g n)
-    ∙ ap₂ (λ (x y : List ℤ). x ++ y) (by-lines current g n)
-    (on-line current n (bit (g .positive) n) (bit (g .negative) n)
-    ∙ ap (λ (b : Bool). cond b (f n ∷ []) []) (sym (bit-or (g .positive) (g .negative) n))
-    ∙ sym (if-set f n (bit lines n)))
-    ∙ sym (map-append f (linesIn lines n) (cond (bit lines n) (n ∷ []) []))
+by-lines current g n = ap (map (literalOf (byLine current))) (controls-lines g n) ∙ map-map (literalOf (byLine current)) (controlOn (g .positive)) (linesIn (bitOr (g .positive) (g .negative)) n)
 
 -- a list of one line
 alone : (ls rest : List ℕ) (line : ℕ) → ls ≡ line ∷ rest → length ls ≡ 1 → ls ≡ line ∷ []

@@ -1,8 +1,4 @@
 -- `checking::laws` meets its contract: the record of the laws. Assumes nothing.
-use Rattle.checking.proofs.miter.Laws.{miter-laws}
-use Rattle.checking.proofs.step.Laws.{step-laws}
-use Rattle.checking.proofs.reduce.Relation.{reduce-laws}
-use Rattle.checking.proofs.StandIns.{stand-in-laws}
 use Rattle.checking.proofs.clauses.Laws.{clause-laws}
 use Rattle.checking.proofs.EqualityLaws.{equality-laws}
 use Rattle.checking.proofs.Rows.{row-laws}
@@ -12,10 +8,6 @@ use Rattle.checking.proofs.laws.Tie as tie
 returns : tie.Need-returns
 returns c =
     record {
-      miter = miter-laws;
-      steps = step-laws;
-      reductions = reduce-laws;
-      stand-ins = stand-in-laws;
       clauses = clause-laws;
       equality = equality-laws;
       rows = row-laws;

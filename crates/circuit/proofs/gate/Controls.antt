@@ -1,18 +1,19 @@
 -- The laws of the list of controls: it decides whether a gate fires, and has as many as the control count. Assumes nothing.
 use mathlib.Core.Path.{_≡_, refl, sym, ap, ap₂, _∙_}
-use mathlib.Core.Bool.{Bool, true, false, not, cond, _&&_, false≢true, true≢false}
+use mathlib.Core.Bool.{Bool, true, false, not, cond, _&&_, _||_, false≢true, true≢false}
 use mathlib.Core.Logic.{⊎-elim}
-use mathlib.Core.List.{List, [], _∷_, _++_, append-nil}
+use mathlib.Core.List.{List, [], _∷_, _++_, map, map-append, append-nil}
 use Prim.Native.Nat.{ℕ, zero, suc, _+_, _<_, _≤_}
 use native.Mathlib.Decide.{le-ind}
 use native.Mathlib.Omega.{arith}
+use lib.Bits.{bitOr}
 use lib.Count.{ones}
 use lib.Dec.{ltb}
 use lib.ListN.{length, length-append}
 use borrow.Author.Tests.{not-true, ltb-true, ltb-false}
 use Rattle.bits.specs.Digits.{bit, linesIn}
 use Rattle.bits.proofs.Bools.{and-parts, both, either, same-test}
-use Rattle.bits.proofs.Digits.{bit-above, lines-ones}
+use Rattle.bits.proofs.Digits.{bit-or, bit-above, lines-ones}
 use Rattle.circuit.specs.declared.gate.Gate.{Gate}
 use Rattle.circuit.specs.Gate.{maxLines, valid, fires, controlCount, Control, controlAt, controlsBelow, controlsOf, met, allMet}
 use Rattle.circuit.specs.Laws.{FiresByLines}
@@ -116,6 +117,26 @@ controls-count g e =
     let v = valid-facts maxLines g e in
     below-count g (valid-apart maxLines g v) maxLines
     ∙ ap₂ _+_ (lines-ones maxLines (g .positive) (v .positive-below)) (lines-ones maxLines (g .negative) (v .negative-below))
+
+-- the control on a line that stands in one of the masks
+abbrev pub controlOn : ℕ → ℕ → Control
+controlOn positive k = record { line = k; positive = bit positive k }
+
+-- the controls by the lines of both masks
+pub controls-lines : (g : Gate) (n : ℕ) → controlsBelow n g ≡ map (controlOn (g .positive)) (linesIn (bitOr (g .positive) (g .negative)) n)
+unfolding controlsBelow linesIn
+controls-lines g zero = refl
+controls-lines g (suc n) =
+    let f = controlOn (g .positive) in
+    let lines = bitOr (g .positive) (g .negative) in
+    ap₂ (λ (x y : List Control). x ++ y) (controls-lines g n)
+    (one f n (bit (g .positive) n) (bit (g .negative) n) refl ∙ ap (λ (b : Bool). map f (cond b (n ∷ []) [])) (sym (bit-or (g .positive) (g .negative) n)))
+    ∙ sym (map-append f (linesIn lines n) (cond (bit lines n) (n ∷ []) []))
+  where
+    one : (f : ℕ → Control) (k : ℕ) (p q : Bool) → f k ≡ record { line = k; positive = p } → onLine k p q ≡ map f (cond (p || q) (k ∷ []) [])
+    one f k true q e = ap (λ (c : Control). c ∷ []) (sym e)
+    one f k false true e = ap (λ (c : Control). c ∷ []) (sym e)
+    one f k false false e = refl
 
 -- a line at n or above has no control
 no-control : (n : ℕ) (g : Gate) (k : ℕ) → Valid n g → n ≤ k → controlsBelow (suc k) g ≡ controlsBelow k g

@@ -6,7 +6,6 @@ use native.Mathlib.Nat.{lt-of-lt-of-le, le-of-lt, mod-lt, div-eq-of-lt, zero-mul
 use native.Mathlib.Omega.{arith}
 use lib.Dec.{eqb, ltb, leb, lit<}
 use lib.Bits.{bitAnd, bitOr, bitXor, xor-lt, or-lt, and-high, and-zero-r, xor-zero-r, xor-self, or-zero-r, or-add-and, xor-add-and, and-le-l, and-le-r}
-use lib.Count.{ones}
 use lib.ListN.{length}
 use lib.Pow.{pow-lt, pow-mono, pow-pos, split, shl-exact, shr-mod}
 use mir.Val.{boolByte}
@@ -379,12 +378,9 @@ apply-not t s h = apply-gate (notGate t) s good ∙ inverted-fired (notGate t) s
           target-not-negative = bit-none t;
         })
 
--- as many controls as set bits of the two masks together, and as lines in either
-pub count-union : (n : ℕ) (g : Gate) → valid n g ≡ true → ones (bitOr (g .positive) (g .negative)) ≡ controlCount g
-unfolding controlCount
-count-union n g e = ones-both (g .positive) (g .negative) (valid-facts n g e .apart)
-
+-- as many controls as lines in either mask
 pub count-lines : (n : ℕ) (g : Gate) → valid n g ≡ true → controlCount g ≡ length (linesIn (bitOr (g .positive) (g .negative)) n)
+unfolding controlCount
 count-lines n g e =
     let v = valid-facts n g e in
-    sym (lines-ones n (bitOr (g .positive) (g .negative)) (or-lt n (g .positive) (g .negative) (v .positive-below) (v .negative-below)) ∙ count-union n g e)
+    sym (lines-ones n (bitOr (g .positive) (g .negative)) (or-lt n (g .positive) (g .negative) (v .positive-below) (v .negative-below)) ∙ ones-both (g .positive) (g .negative) (v .apart))

@@ -94,10 +94,7 @@ fn stop(b: u64) -> bool
 fn sign(b: u64) -> bool
     ensures { λ r. ⌜ r ≡ (eqb b plus || eqb b minus) ⌝ }
 {
-    if b == 43 {
-        return true;
-    }
-    b == 45
+    (b == 43) | (b == 45)
 }
 
 // How many digits a number below 100 has.

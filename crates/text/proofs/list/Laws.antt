@@ -25,12 +25,12 @@ use Rattle.files.specs.File.{Reading, reading, ReadCounts, gatesRead, readOutco
 use Rattle.files.specs.FileLaws.{ReadFault, wrong, short}
 use Rattle.files.proofs.file.Laws.{reader, read-served, read-refused}
 use Rattle.checking.specs.declared.clauses.Totals.{Totals}
-use Rattle.checking.specs.Miter.{miterGates, miterOutcome, miterBuffer}
+use Rattle.reduction.specs.Miter.{miterGates, miterOutcome, miterBuffer}
 use Rattle.checking.specs.Clauses.{Clause, clausesOf, variablesOf}
 use Rattle.checking.specs.Stored.{stored}
 use Rattle.checking.specs.Sizes.{totals, sizesOf, sizesOutcome}
 use Rattle.checking.specs.Emit.{emitOutcome, emitBuffer}
-use Rattle.checking.proofs.miter.Laws.{miter-laws, miter-refused}
+use Rattle.reduction.proofs.miter.Laws.{miter-laws, miter-refused}
 use Rattle.checking.proofs.clauses.Laws.{clause-laws}
 use Rattle.text.specs.declared.list.ListAnswer.{ListAnswer}
 use Rattle.text.specs.declared.list.ListAnswer.the-variants as list

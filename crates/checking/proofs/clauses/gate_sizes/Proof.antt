@@ -1,10 +1,8 @@
 -- `checking::clauses::gate_sizes` meets its contract. Assumes nothing.
-use mathlib.Core.Path.{_≡_, sym, ap, ap₂, _∙_}
+use mathlib.Core.Path.{sym}
 use mathlib.Core.Logic.{⊎-elim}
-use Prim.Native.Nat.{ℕ, _+_, _*_, _≤_}
 use native.Mathlib.Omega.{arith}
 use borrow.Author.Needs.{needs}
-use Rattle.checking.specs.Sizes.{totals, gateSizes}
 use Rattle.checking.proofs.clauses.Loop.{sizes-few, sizes-many}
 use Rattle.checking.proofs.clauses.gate_sizes.Statement.{statement}
 use Rattle.checking.proofs.clauses.gate_sizes.Tie as tie

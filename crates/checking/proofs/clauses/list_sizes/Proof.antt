@@ -8,10 +8,10 @@ use borrow.Author.Tests.{not-true, not-false}
 use Rattle.circuit.specs.Gate.{maxLines, valid}
 use Rattle.circuit.specs.Outcome.{served}
 use Rattle.circuit.proofs.Outcome.{why, then-refused}
-use Rattle.circuit.proofs.gate.Laws.{valid-facts, count-union}
+use Rattle.circuit.proofs.gate.Laws.{valid-facts}
 use Rattle.circuit.proofs.words.Laws.{next-bad}
 use Rattle.checking.specs.Sizes.{totals, gateSizes}
-use Rattle.checking.proofs.clauses.Loop.{Small, sizes-small, Summed, summed-start, summed-next, summed-all}
+use Rattle.checking.proofs.clauses.Loop.{Small, sizes-small, controls-few, Summed, summed-start, summed-next, summed-all}
 use Rattle.checking.proofs.clauses.list_sizes.Statement.{statement}
 use Rattle.checking.proofs.clauses.list_sizes.Tie as tie
 
@@ -53,18 +53,23 @@ returns c =
     ∙ sym (then-refused _ _ _ _
     (l .loop .inv .tested ∙ next-bad _ _ _ _ (omega arith) (v .before .gate-at .ensures) (sym (v .valid .ensures) ∙ not-true _ (c .before .if1 .taken))))
 
--- the gate of this turn is valid
+-- the gate of this turn is valid, and so has at most 64 controls
 good : (c : tie.Else1 Inv-loop μ-loop) → valid (c .before .before .before .before .before .before .args .n) (c .before .before .gate-at .result) ≡ true
 good c = sym (c .before .valid .ensures) ∙ not-false _ (c .if1 .left)
 
-adds : (c : tie.After-gate-sizes Inv-loop μ-loop) → Small (c .gate-sizes .result) 1
-adds c = sizes-small (c .before .count .result) (c .gate-sizes .result) (c .before .count .ensures .1) (c .gate-sizes .ensures)
+few : (c : tie.After-control-count Inv-loop μ-loop) → c .control-count .result ≤ maxLines
+few c =
+    let e = c .before in
+    subst (λ (k : ℕ). k ≤ maxLines) (sym (c .control-count .ensures)) (controls-few _ (e .before .before .gate-at .result) (e .before .before .before .before .before .before .pre .0) (good e))
 
-count-requires : tie.Need-count-requires Inv-loop μ-loop
-count-requires c κs = search needs
+adds : (c : tie.After-gate-sizes Inv-loop μ-loop) → Small (c .gate-sizes .result) 1
+adds c = sizes-small (c .before .control-count .result) (c .gate-sizes .result) (few (c .before)) (c .gate-sizes .ensures)
+
+control-count-requires : tie.Need-control-count-requires Inv-loop μ-loop
+control-count-requires c κs = search needs
 
 gate-sizes-requires : tie.Need-gate-sizes-requires Inv-loop μ-loop
-gate-sizes-requires c κs = c .count .ensures .1
+gate-sizes-requires c κs = few c
 
 add-variables-2 : tie.Need-add-variables-2 Inv-loop μ-loop
 add-variables-2 c = let t = adds (c .before) in omega (arith, t .few-variables)
@@ -77,7 +82,7 @@ add-total-2 c = let t = adds (c .before .before .before) in omega (arith, t .few
 
 with-line-requires : tie.Need-with-line-requires Inv-loop μ-loop
 with-line-requires c κs =
-    let e = c .before .before .before .before .before .before in
+    let e = c .before .before .before .before .before in
     let s = e .before .before .before .before .before .before in
     omega (arith, valid-facts (s .args .n) (e .before .before .gate-at .result) (good e) .target-below, s .pre .0)
 
@@ -91,29 +96,29 @@ loop-again : tie.Need-loop-again Inv-loop μ-loop
 loop-again c =
     let z = c .before .before .before .before in
     let k = z .before in
-    let e = k .before .before in
+    let e = k .before in
     let g = e .before .before in
     let l = g .before .before in
     let s = l .before .before in
     subst (λ (hit : ℕ). Summed (s .args .n) (s .args .words .now) (l .loop .variables + z .gate-sizes .result .variables) (l .loop .clauses + z .gate-sizes .result .clauses) (l .loop .total + z .gate-sizes .result .words) hit (l .loop .i + 1))
     (sym (c .with-line .ensures))
     (summed-next (s .args .n) (s .args .words .now) _ _ _ _ _ (g .gate-at .result) (s .pre .0) (l .loop .inv) (omega arith) (g .gate-at .ensures) (good e) (z .gate-sizes .result)
-    (z .gate-sizes .ensures ∙ ap gateSizes (k .count .ensures .0 ∙ count-union (s .args .n) (g .gate-at .result) (good e))))
+    (z .gate-sizes .ensures ∙ ap gateSizes (k .control-count .ensures)))
 
-count-requires-2 : tie.Need-count-requires-2 Inv-loop μ-loop
-count-requires-2 c κs = search needs
+count-requires : tie.Need-count-requires Inv-loop μ-loop
+count-requires c κs = search needs
 
-mul-t20 : tie.Need-mul-t20 Inv-loop μ-loop
-mul-t20 c = omega arith
+mul-t19 : tie.Need-mul-t19 Inv-loop μ-loop
+mul-t19 c = omega arith
 
-add-t21 : tie.Need-add-t21 Inv-loop μ-loop
-add-t21 c = omega (arith, c .count2 .ensures .1)
+add-t20 : tie.Need-add-t20 Inv-loop μ-loop
+add-t20 c = omega (arith, c .count .ensures .1)
 
 returns-2 : tie.Need-returns-2 Inv-loop μ-loop
 returns-2 c =
     let l = c .before .before in
     let s = l .before .before in
-    ap (λ (k : ℕ). served (totals (l .loop .variables) (l .loop .clauses) (l .loop .total + 2 * k))) (c .count2 .ensures .0)
+    ap (λ (k : ℕ). served (totals (l .loop .variables) (l .loop .clauses) (l .loop .total + 2 * k))) (c .count .ensures .0)
     ∙ summed-all (s .args .n) (s .args .words .now) _ _ _ (l .loop .hit) (l .loop .i) (omega arith) (l .loop .inv)
 
 pub list-sizes-spec : {M : Type 1} → statement M
@@ -131,7 +136,7 @@ list-sizes-spec =
     valid-requires
     no-gate-requires
     returns
-    count-requires
+    control-count-requires
     gate-sizes-requires
     add-variables-2
     add-clauses-2
@@ -140,7 +145,7 @@ list-sizes-spec =
     add-i
     loop-less
     loop-again
-    count-requires-2
-    mul-t20
-    add-t21
+    count-requires
+    mul-t19
+    add-t20
     returns-2)

@@ -1,11 +1,10 @@
 -- `checking::emission::put_differences` meets its contract. The loop's invariant: the clauses of lines below k stand at the buffer's start, and the others are left. Assumes nothing.
-use mathlib.Core.Path.{_≡_, sym, ap, _∙_}
+use mathlib.Core.Path.{sym, ap, _∙_}
 use mathlib.Core.List.{List}
-use Prim.Native.Nat.{ℕ, _+_, _-_, _≤_, _<_}
+use Prim.Native.Nat.{_-_, _≤_}
 use native.Mathlib.Omega.{arith}
 use lib.IntN.{ℤ}
 use lib.ListN.{length}
-use borrow.Author.Needs.{needs}
 use Rattle.bits.specs.Lists.{over}
 use Rattle.checking.proofs.emission.Lines.{Compared, compared-none, line-room, line-ready, compared-next, compared-all}
 use Rattle.checking.proofs.emission.put_differences.Statement.{statement}

@@ -1,6 +1,5 @@
 -- `checking::emission::put_gates` meets its contract. The loop's invariant: the clauses of gates below i stand at the buffer's start, and the others are left. Assumes nothing.
-use mathlib.Core.Path.{_≡_, sym, ap, _∙_}
-use Prim.Native.Nat.{ℕ, _+_, _*_, _-_, _≤_, _<_}
+use Prim.Native.Nat.{_-_, _≤_}
 use native.Mathlib.Omega.{arith}
 use lib.ListN.{length}
 use borrow.Author.Needs.{needs}

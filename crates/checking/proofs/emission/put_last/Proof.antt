@@ -1,11 +1,10 @@
 -- `checking::emission::put_last` meets its contract. The loop's invariant: kind, count and the first k literals stand at the buffer's start. Assumes nothing.
-use mathlib.Core.Path.{_≡_, sym, ap, _∙_}
+use mathlib.Core.Path.{_≡_, _∙_}
 use mathlib.Core.Bool.{true}
-use Prim.Native.Nat.{ℕ, _+_, _-_, _≤_, _<_}
+use Prim.Native.Nat.{_+_, _-_}
 use native.Mathlib.Omega.{arith}
 use lib.IntN.{pos}
-use lib.ListN.{length, length-set}
-use borrow.Author.Needs.{needs}
+use lib.ListN.{length-set}
 use mir.Syntax.{w16}
 use mir.Val.{toZ, ofZ}
 use Rattle.checking.proofs.emitter.Signed.{literal-kept}

@@ -1,11 +1,6 @@
 -- `checking::emission::set_inputs` meets its contract. The loop's invariant: lines below k have their inputs. Assumes nothing.
-use mathlib.Core.Path.{_≡_, ap, _∙_}
-use Prim.Native.Nat.{ℕ, _+_, _-_, _≤_, _<_}
+use Prim.Native.Nat.{_-_}
 use native.Mathlib.Omega.{arith}
-use lib.ListN.{length}
-use borrow.Author.Needs.{needs}
-use Rattle.checking.specs.Clauses.{inputOf}
-use Rattle.checking.specs.Emission.{Holds}
 use Rattle.checking.proofs.emission.Lines.{Inputs, inputs-none, inputs-next}
 use Rattle.checking.proofs.emission.set_inputs.Statement.{statement}
 use Rattle.checking.proofs.emission.set_inputs.Tie as tie

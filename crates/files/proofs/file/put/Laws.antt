@@ -1,25 +1,29 @@
 -- The laws of the writer: bytes put at the start of a buffer and after those, the lines of a mask, and the controls that it writes. Assumes nothing.
-use mathlib.Core.Path.{_≡_, refl, sym, ap, ap₂, _∙_}
-use mathlib.Core.Bool.{Bool, true, false, cond, _||_, false≢true}
-use mathlib.Core.List.{List, [], _∷_, _++_, append-nil, append-assoc}
-use Prim.Native.Nat.{ℕ, zero, suc, _+_, _-_, _*_, _/_, _%_, _^_, _≤_, _<_}
+use mathlib.Core.Path.{_≡_, refl, sym, ap, ap₂, subst, _∙_}
+use mathlib.Core.Bool.{Bool, true, false, cond}
+use mathlib.Core.List.{List, [], _∷_, _++_, map, map-append, append-nil, append-assoc}
+use Prim.Native.Nat.{ℕ, zero, suc, _+_, _-_, _*_, _/_, _^_, _≤_, _<_}
+use native.Mathlib.Nat.{div-lt-iff-lt-mul}
 use native.Mathlib.Omega.{arith}
-use lib.Bits.{bitOr}
-use lib.Count.{trailingZeros, under}
-use lib.Dec.{eqb}
-use lib.ListN.{length, take, drop, length-append, length-take, length-drop}
+use lib.Bits.{bitAnd, bitOr, or-lt, and-le-l}
+use lib.Count.{ones, trailingZeros}
+use lib.Dec.{leb}
+use lib.ListN.{length, set, take, drop, length-set, length-append, length-take, length-drop}
+use lib.Pow.{pow-pos}
+use lib.Seq.{sets-eq}
+use borrow.Author.Tests.{le-leb, lt-leb}
 use borrow.Rule.Slice.PartMut.{putMid, same-len-mid}
-use Rattle.bits.specs.Digits.{bit}
+use Rattle.bits.specs.Digits.{bit, linesIn}
 use Rattle.bits.specs.Lists.{over}
-use Rattle.bits.proofs.Digits.{bit-or, bit-suc, bit-first, bit-shifted}
+use Rattle.bits.proofs.Digits.{bit-shifted, lines-ones}
 use Rattle.bits.proofs.Lists.{lent-over}
+use Rattle.bits.proofs.Lowest.{lowest-below, lines-on, lines-done}
 use Rattle.circuit.specs.declared.gate.Gate.{Gate}
 use Rattle.circuit.specs.Gate.{maxLines, Control, controlAt, controlsBelow, controlsOf}
+use Rattle.circuit.proofs.gate.Controls.{controlOn, controls-lines}
 use Rattle.files.specs.Text.{tab, lineFeed, numberText, controlText, controlsText, gateText, gateLine, headerLine}
-use Rattle.files.specs.Put.{Put, NextLine, maskGate}
+use Rattle.files.specs.Put.{Put, maskGate}
 use Rattle.files.specs.Scan.{width}
-use Rattle.files.proofs.file.Controls.{below-stretch, stretch}
-use Rattle.files.proofs.file.scan.Laws.{width-two}
 use Rattle.files.proofs.file.scan.Rest.{number-width}
 
 -- ---- bytes after bytes
@@ -32,6 +36,9 @@ pub record Written (first out : List ℕ) (at : ℕ) (front : List ℕ) : Type 0
 
 pub written-none : (out : List ℕ) → Written out out 0 []
 written-none out = record { is = refl; long = refl; same = refl }
+
+pub written-two : (out : List ℕ) (a b : ℕ) → 2 ≤ length out → Written out (set (set out 0 a) 1 b) 2 (a ∷ b ∷ [])
+written-two out a b h = record { is = sets-eq (a ∷ b ∷ []) out 0 h; long = refl; same = length-set (set out 0 a) 1 b ∙ length-set out 0 a }
 
 -- the rest of the buffer was lent, and `new` put at its start
 pub written-more : (first out : List ℕ) (at : ℕ) (front : List ℕ) → Written first out at front → (r : ℕ) (last new : List ℕ) → at ≤ length out
@@ -58,131 +65,30 @@ written-put first out at front w = record { count = w .long; buffer = w .is }
 pub rest-length : (out : List ℕ) (at : ℕ) → at ≤ length out → length (take (length out - at) (drop at out)) ≡ length out - at
 rest-length out at h = omega (arith, length-take (length out - at) (drop at out), length-drop at out)
 
--- ---- the lowest digit of a mask
-
--- by the lowest digit: a clear one has the others' zeros below it, and a set one none
-clear-step : (k n d : ℕ) → n % 2 ≡ d → ((j : ℕ) → j < trailingZeros k (n / 2) → bit (n / 2) j ≡ false) → (j : ℕ) → j < under d (trailingZeros k (n / 2)) → bit n j ≡ false
-clear-step k n zero e rec zero h = bit-first n ∙ ap (λ (x : ℕ). eqb x 1) e
-clear-step k n zero e rec (suc j) h = bit-suc n j ∙ rec j (omega arith)
-clear-step k n (suc d) e rec j h = absurd (omega arith)
-
-trailing-clear : (k n j : ℕ) → j < trailingZeros k n → bit n j ≡ false
-unfolding trailingZeros
-trailing-clear zero n j h = absurd (omega arith)
-trailing-clear (suc k) n j h = clear-step k n (n % 2) refl (trailing-clear k (n / 2)) j h
-
-set-step : (k n d : ℕ) → n % 2 ≡ d → d < 2 → (trailingZeros k (n / 2) < k → bit (n / 2) (trailingZeros k (n / 2)) ≡ true)
-    → under d (trailingZeros k (n / 2)) < suc k → bit n (under d (trailingZeros k (n / 2))) ≡ true
-set-step k n zero e b rec h = bit-suc n (trailingZeros k (n / 2)) ∙ rec (omega arith)
-set-step k n (suc zero) e b rec h = bit-first n ∙ ap (λ (x : ℕ). eqb x 1) e
-set-step k n (suc (suc d)) e b rec h = absurd (omega arith)
-
-trailing-set : (k n : ℕ) → trailingZeros k n < k → bit n (trailingZeros k n) ≡ true
-unfolding trailingZeros
-trailing-set zero n h = absurd (omega arith)
-trailing-set (suc k) n h = set-step k n (n % 2) refl (omega arith) (trailing-set k (n / 2)) h
-
--- digit j, seen from digit k on
-shifted : (mask k j : ℕ) → k ≤ j → bit mask j ≡ bit (mask / 2 ^ k) (j - k)
-shifted mask k j a = let e : j ≡ k + (j - k) = omega arith in ap (bit mask) e ∙ sym (bit-shifted k mask (j - k))
-
-pub next-found : (mask k : ℕ) → k < maxLines → k + trailingZeros 64 (mask / 2 ^ k) < maxLines → NextLine mask k (k + trailingZeros 64 (mask / 2 ^ k))
-next-found mask k h l =
-    let z : ℕ = trailingZeros 64 (mask / 2 ^ k) in
-    record {
-      from = omega arith;
-      within = omega arith;
-      clear = λ j a b. shifted mask k j a ∙ trailing-clear 64 (mask / 2 ^ k) (j - k) (omega arith);
-      set = λ b. sym (bit-shifted k mask z) ∙ trailing-set 64 (mask / 2 ^ k) (omega arith);
-    }
-
-pub next-none : (mask k : ℕ) → k ≤ maxLines → maxLines ≤ k + trailingZeros 64 (mask / 2 ^ k) → NextLine mask k maxLines
-next-none mask k h l =
-    record {
-      from = h;
-      within = omega arith;
-      clear = λ j a b. shifted mask k j a ∙ trailing-clear 64 (mask / 2 ^ k) (j - k) (omega arith);
-      set = λ b. absurd (omega arith);
-    }
-
-pub next-past : (mask : ℕ) (k : ℕ) → maxLines ≤ k → k ≤ maxLines → NextLine mask k maxLines
-next-past mask k l h = record { from = h; within = omega arith; clear = λ j a b. absurd (omega arith); set = λ b. absurd (omega arith) }
-
--- ---- the controls up to a line
-
-both-clear : (p q : Bool) → (p || q) ≡ false → (p ≡ false) × (q ≡ false)
-both-clear true q e = absurd (false≢true (sym e))
-both-clear false q e = (refl, e)
-
--- lines that stand in no mask add no control
-skip : (g : Gate) (k d : ℕ) → ((j : ℕ) → k ≤ j → j < k + d → bit (bitOr (g .positive) (g .negative)) j ≡ false) → controlsBelow (k + d) g ≡ controlsBelow k g
-unfolding controlsBelow
-skip g k zero h = let e : k + zero ≡ k = omega arith in ap (λ (m : ℕ). controlsBelow m g) e
-skip g k (suc d) h =
-    let e : k + suc d ≡ suc (k + d) = omega arith in
-    let (p, q) = both-clear (bit (g .positive) (k + d)) (bit (g .negative) (k + d)) (sym (bit-or (g .positive) (g .negative) (k + d)) ∙ h (k + d) (omega arith) (omega arith)) in
-    ap (λ (m : ℕ). controlsBelow m g) e
-    ∙ ap₂ _++_ (skip g k d (λ j a b. h j a (omega arith)))
-    (ap₂ (λ (x y : Bool). cond x (record { line = k + d; positive = true } ∷ []) (cond y (record { line = k + d; positive = false } ∷ []) [])) p q)
-    ∙ append-nil (controlsBelow k g)
-
-pub skipped : (g : Gate) (k r : ℕ) → NextLine (bitOr (g .positive) (g .negative)) k r → controlsBelow r g ≡ controlsBelow k g
-skipped g k r n =
-    let f = n .from in
-    let e : k + (r - k) ≡ r = omega arith in
-    ap (λ (m : ℕ). controlsBelow m g) (sym e) ∙ skip g k (r - k) (λ j a b. n .clear j a (omega arith))
-
--- the control on a line that stands in one of the masks
-abbrev onLine : ℕ → Bool → Bool → List Control
-onLine k p q = cond p (record { line = k; positive = true } ∷ []) (cond q (record { line = k; positive = false } ∷ []) [])
-
-one : (k : ℕ) (p q : Bool) → (p || q) ≡ true → onLine k p q ≡ record { line = k; positive = p } ∷ []
-one k true q e = refl
-one k false true e = refl
-one k false false e = absurd (false≢true e)
+-- ---- the controls on the lines of a mask
 
 pub text-append : (xs ys : List Control) → controlsText (xs ++ ys) ≡ controlsText xs ++ controlsText ys
 unfolding controlsText
 text-append [] ys = refl
 text-append (c ∷ xs) ys = ap (λ (l : List ℕ). (tab ∷ controlText c) ++ l) (text-append xs ys) ∙ sym (append-assoc (tab ∷ controlText c) (controlsText xs) (controlsText ys))
 
-abbrev pub controlOn : Gate → ℕ → Control
-controlOn g k = record { line = k; positive = bit (g .positive) k }
+-- the text of the controls on these lines, by the mask of the positive ones
+abbrev pub linesText : ℕ → List ℕ → List ℕ
+linesText positive ls = controlsText (map (controlOn positive) ls)
 
-pub one-more : (g : Gate) (k : ℕ) → bit (bitOr (g .positive) (g .negative)) k ≡ true
-    → controlsText (controlsBelow (k + 1) g) ≡ controlsText (controlsBelow k g) ++ (tab ∷ controlText (controlOn g k))
-unfolding controlsBelow controlsText
-one-more g k e =
-    let u : k + 1 ≡ suc k = omega arith in
-    ap (λ (m : ℕ). controlsText (controlsBelow m g)) u
-    ∙ text-append (controlsBelow k g) (controlAt g k)
-    ∙ ap (λ (l : List Control). controlsText (controlsBelow k g) ++ controlsText l) (one k (bit (g .positive) k) (bit (g .negative) k) (sym (bit-or (g .positive) (g .negative) k) ∙ e))
-    ∙ ap (λ (l : List ℕ). controlsText (controlsBelow k g) ++ l) (append-nil (tab ∷ controlText (controlOn g k)))
+pub lines-append : (p : ℕ) (a b : List ℕ) → linesText p (a ++ b) ≡ linesText p a ++ linesText p b
+lines-append p a b = ap controlsText (map-append (controlOn p) a b) ∙ text-append (map (controlOn p) a) (map (controlOn p) b)
+
+-- one line more
+lines-more : (p : ℕ) (a : List ℕ) (k : ℕ) → linesText p (a ++ (k ∷ [])) ≡ linesText p a ++ (tab ∷ controlText (controlOn p k))
+unfolding controlsText
+lines-more p a k = lines-append p a (k ∷ []) ∙ ap (λ (l : List ℕ). linesText p a ++ l) (append-nil (tab ∷ controlText (controlOn p k)))
+
+pub mask-text : (p q : ℕ) → controlsText (controlsOf (maskGate p q)) ≡ linesText p (linesIn (bitOr p q) maxLines)
+mask-text p q = ap controlsText (controls-lines (maskGate p q) maxLines)
 
 pub control-length : (c : Control) → length (controlText c) ≡ 1 + width (c .line)
 control-length c = omega (arith, number-width (c .line))
-
--- what was written up to a line is no longer than all
-pub below-length : (g : Gate) (k : ℕ) → k ≤ maxLines → length (controlsText (controlsBelow k g)) ≤ length (controlsText (controlsOf g))
-below-length g k h =
-    let e : k + (maxLines - k) ≡ maxLines = omega arith in
-    let x : controlsText (controlsOf g) ≡ controlsText (controlsBelow k g) ++ controlsText (stretch k (maxLines - k) g) =
-    ap (λ (m : ℕ). controlsText (controlsBelow m g)) (sym e) ∙ ap controlsText (below-stretch g (maxLines - k) k) ∙ text-append (controlsBelow k g) (stretch k (maxLines - k) g) in
-    omega (arith, ap length x, length-append (controlsText (controlsBelow k g)) (controlsText (stretch k (maxLines - k) g)))
-
--- one control more, from line k to the next line r
-pub turn-text : (g : Gate) (k r : ℕ) → bit (bitOr (g .positive) (g .negative)) k ≡ true → NextLine (bitOr (g .positive) (g .negative)) (k + 1) r
-    → controlsText (controlsBelow r g) ≡ controlsText (controlsBelow k g) ++ (tab ∷ controlText (controlOn g k))
-turn-text g k r e n = ap controlsText (skipped g (k + 1) r n) ∙ one-more g k e
-
-pub none-text : (g : Gate) (r : ℕ) → NextLine (bitOr (g .positive) (g .negative)) 0 r → controlsText (controlsBelow r g) ≡ []
-unfolding controlsBelow controlsText
-none-text g r n = ap controlsText (skipped g 0 r n)
-
-pub turn-room : (g : Gate) (k : ℕ) → k < maxLines → bit (bitOr (g .positive) (g .negative)) k ≡ true
-    → length (controlsText (controlsBelow k g)) + (1 + length (controlText (controlOn g k))) ≤ length (controlsText (controlsOf g))
-turn-room g k h e =
-    omega (arith, below-length g (k + 1) (omega arith), ap length (one-more g k e), length-append (controlsText (controlsBelow k g)) (tab ∷ controlText (controlOn g k)))
 
 -- the target does not matter to the controls
 same-below : (g : Gate) (m : ℕ) → controlsBelow m (maskGate (g .positive) (g .negative)) ≡ controlsBelow m g
@@ -193,46 +99,62 @@ same-below g (suc m) = ap (λ (l : List Control). l ++ controlAt g m) (same-belo
 pub same-controls : (g : Gate) → controlsText (controlsOf (maskGate (g .positive) (g .negative))) ≡ controlsText (controlsOf g)
 same-controls g = ap controlsText (same-below g maxLines)
 
--- what the loop over lines keeps: the controls below line k
-pub record Turning (positive negative lines size k : ℕ) : Type 0 where
-  pub all : lines ≡ bitOr positive negative
-  pub within : k ≤ maxLines
-  pub set : k < maxLines → bit (bitOr positive negative) k ≡ true
-  pub sum : size ≡ length (controlsText (controlsBelow k (maskGate positive negative)))
-  pub small : size ≤ 4 * k
+-- ---- how long the controls are
 
-next-of : (p q lines k r : ℕ) → lines ≡ bitOr p q → NextLine lines k r → NextLine (bitOr p q) k r
-next-of p q lines k r e n = mathlib.Core.Path.subst (λ (x : ℕ). NextLine x k r) e n
+-- how many of the lines have two digits
+unfoldable wide : List ℕ → ℕ
+wide [] = 0
+wide (k ∷ ls) = cond (leb 10 k) 1 0 + wide ls
 
-pub turning-start : (p q lines r : ℕ) → lines ≡ bitOr p q → NextLine lines 0 r → Turning p q lines 0 r
-turning-start p q lines r e n =
-    let m = next-of p q lines 0 r e n in
-    record { all = e; within = n .within; set = m .set; sum = sym (ap length (none-text (maskGate p q) r m)); small = omega arith }
+wide-append : (a b : List ℕ) → wide (a ++ b) ≡ wide a + wide b
+unfolding wide
+wide-append [] b = omega arith
+wide-append (k ∷ a) b = omega (arith, wide-append a b)
 
-pub turning-on : (p q lines size k r : ℕ) → Turning p q lines size k → k < maxLines → NextLine lines (k + 1) r → (d : ℕ) → d ≡ 2 + width k → Turning p q lines (size + d) r
-turning-on p q lines size k r t h n d e =
-    let g : Gate = maskGate p q in
-    let m = next-of p q lines (k + 1) r (t .all) n in
-    let x = t .small in
-    let y = t .sum in
-    let w = width-two k in
-    let f = n .from in
-    let z : length (controlsText (controlsBelow r g)) ≡ length (controlsText (controlsBelow k g)) + length (tab ∷ controlText (controlOn g k)) =
-    ap length (turn-text g k r (t .set h) m) ∙ length-append (controlsText (controlsBelow k g)) (tab ∷ controlText (controlOn g k)) in
-    record {
-      all = t .all;
-      within = n .within;
-      set = m .set;
-      sum = omega (arith, control-length (controlOn g k));
-      small = omega arith;
-    }
+text-size : (p : ℕ) (ls : List ℕ) → length (linesText p ls) ≡ 3 * length ls + wide ls
+unfolding wide controlsText
+text-size p [] = refl
+text-size p (k ∷ ls) =
+    omega (arith, length-append (tab ∷ controlText (controlOn p k)) (linesText p ls), control-length (controlOn p k), digits-of (leb 10 k), text-size p ls)
+  where
+    digits-of : (b : Bool) → cond b 2 1 ≡ 1 + cond b 1 0
+    digits-of true = refl
+    digits-of false = refl
 
-pub turning-done : (p q lines size k : ℕ) → Turning p q lines size k → maxLines ≤ k → (size ≡ length (controlsText (controlsOf (maskGate p q)))) × (size ≤ 256)
-turning-done p q lines size k t h =
-    let w = t .within in
-    let s = t .small in
-    let e : k ≡ maxLines = omega arith in
-    (t .sum ∙ ap (λ (m : ℕ). length (controlsText (controlsBelow m (maskGate p q)))) e, omega arith)
+wide-low : (x m : ℕ) → m ≤ 10 → wide (linesIn x m) ≡ 0
+unfolding wide linesIn
+wide-low x zero h = refl
+wide-low x (suc m) h = omega (arith, wide-append (linesIn x m) (cond (bit x m) (m ∷ []) []), wide-low x m (omega arith), none (bit x m))
+  where
+    none : (b : Bool) → wide (cond b (m ∷ []) []) ≡ 0
+    none true = unfold wide in ap (λ (t : Bool). cond t 1 0 + 0) (lt-leb 10 m (omega arith))
+    none false = unfold wide in refl
+
+wide-high : (x n : ℕ) → wide (linesIn x (10 + n)) ≡ length (linesIn (x / 2 ^ 10) n)
+unfolding linesIn
+wide-high x zero = wide-low x 10 (omega arith)
+wide-high x (suc n) =
+    let e : 10 + suc n ≡ suc (10 + n) = omega arith in
+    let b : Bool = bit x (10 + n) in
+    let c : Bool = bit (x / 2 ^ 10) n in
+    ap (λ (m : ℕ). wide (linesIn x m)) e
+    ∙ wide-append (linesIn x (10 + n)) (cond b ((10 + n) ∷ []) [])
+    ∙ ap₂ _+_ (wide-high x n) (one b ∙ ap (λ (t : Bool). length (cond t (n ∷ []) [])) (sym (bit-shifted 10 x n)))
+    ∙ sym (length-append (linesIn (x / 2 ^ 10) n) (cond c (n ∷ []) []))
+  where
+    one : (b : Bool) → wide (cond b ((10 + n) ∷ []) []) ≡ length (cond b (n ∷ []) [])
+    one true = unfold wide in ap (λ (t : Bool). cond t 1 0 + 0) (le-leb 10 (10 + n) (omega arith))
+    one false = unfold wide in refl
+
+-- three bytes a control, and a second digit from line 10 on
+pub controls-long : (p q : ℕ) → p < 2 ^ 64 → q < 2 ^ 64
+    → 3 * ones (bitOr p q) + ones (bitOr p q / 2 ^ 10) ≡ length (controlsText (controlsOf (maskGate p q)))
+controls-long p q hp hq =
+    let x : ℕ = bitOr p q in
+    let h : x < 2 ^ 64 = or-lt 64 p q hp hq in
+    sym (ap length (mask-text p q)
+    ∙ text-size p (linesIn x 64)
+    ∙ ap₂ (λ (a b : ℕ). 3 * a + b) (lines-ones 64 x h) (wide-high x 54 ∙ lines-ones 54 (x / 2 ^ 10) (div-lt-iff-lt-mul (pow-pos 10) .1 h)))
 
 pub gate-length : (g : Gate) → length (gateLine g) ≡ 3 + width (g .target) + length (controlsText (controlsOf g))
 gate-length g =
@@ -241,50 +163,54 @@ gate-length g =
 pub header-length : (n : ℕ) → length (headerLine n) ≡ 7 + width n
 header-length n = omega (arith, length-append (numberText n) (lineFeed ∷ []), number-width n)
 
--- the same, and those controls stand at the start of the buffer
-pub record Putting (positive negative lines : ℕ) (first out : List ℕ) (at k : ℕ) : Type 0 where
-  pub turning : Turning positive negative lines at k
-  pub written : Written first out at (controlsText (controlsBelow k (maskGate positive negative)))
+-- the same bytes, said in another way
+pub put-as : (r : ℕ) (last a b first : List ℕ) → a ≡ b → Put r last a first → Put r last b first
+put-as r last a b first e p = record { count = p .count ∙ ap length e; buffer = p .buffer ∙ ap (λ (l : List ℕ). over l first) e }
+
+-- what the loop over lines keeps: `left` has the lines that are left, and the controls on the others stand at the start of the buffer
+pub record Putting (positive negative : ℕ) (first out : List ℕ) (at left : ℕ) : Type 0 where
+  pub below : left < 2 ^ maxLines
+  pub passed : List ℕ
+  pub all : linesIn (bitOr positive negative) maxLines ≡ passed ++ linesIn left maxLines
+  pub written : Written first out at (linesText positive passed)
   pub room : length (controlsText (controlsOf (maskGate positive negative))) ≤ length first
 
-pub putting-start : (p q lines r : ℕ) (out : List ℕ) → lines ≡ bitOr p q → NextLine lines 0 r → length (controlsText (controlsOf (maskGate p q))) ≤ length out
-    → Putting p q lines out out 0 r
-putting-start p q lines r out e n h =
-    let t = turning-start p q lines r e n in
-    let z = none-text (maskGate p q) r (next-of p q lines 0 r e n) in
-    record { turning = t; written = record { is = ap (λ (l : List ℕ). over l out) (sym z); long = t .sum; same = refl }; room = h }
+pub putting-start : (p q : ℕ) (out : List ℕ) → bitOr p q < 2 ^ maxLines → length (controlsText (controlsOf (maskGate p q))) ≤ length out → Putting p q out out 0 (bitOr p q)
+unfolding controlsText
+putting-start p q out b h = record { below = b; passed = []; all = refl; written = written-none out; room = h }
 
-module _ (p q lines : ℕ) (first out : List ℕ) (at k : ℕ) (t : Putting p q lines first out at k) (h : k < maxLines) where
-  pub putting-room : at + length (tab ∷ controlText (controlOn (maskGate p q) k)) ≤ length out
-  putting-room =
-      let r = t .room in
-      let w = t .written .same in
-      let l = t .written .long in
-      omega (arith, turn-room (maskGate p q) k h (t .turning .set h))
+module _ (p q : ℕ) (first out : List ℕ) (at left : ℕ) (t : Putting p q first out at left) where
+  pub putting-done : left ≡ 0 → Put at out (controlsText (controlsOf (maskGate p q))) first
+  putting-done e =
+      put-as at out _ _ first (sym (mask-text p q ∙ ap (linesText p) (lines-done maxLines maxLines (bitOr p q) left (t .passed) (t .all) e)))
+      (written-put first out at _ (t .written))
 
-  pub putting-on : (b : Bool) → b ≡ bit p k → (r : ℕ) (last : List ℕ) → Put r last (tab ∷ controlText (record { line = k; positive = b })) (take (length out - at) (drop at out))
-      → length last ≡ length (take (length out - at) (drop at out)) → (next : ℕ) → NextLine lines (k + 1) next → Putting p q lines first (putMid at (length out - at) out last) (at + r) next
-  putting-on b e r last put kept next n =
-      let g : Gate = maskGate p q in
-      let m = next-of p q lines (k + 1) next (t .turning .all) n in
-      let x = control-length (record { line = k; positive = b }) in
-      let c = put .count in
-      let w = written-more first out at _ (t .written) r last _ (omega (arith, putting-room)) put kept in
-      let f : controlsText (controlsBelow k g) ++ (tab ∷ controlText (record { line = k; positive = b })) ≡ controlsText (controlsBelow next g) =
-      ap (λ (s : Bool). controlsText (controlsBelow k g) ++ (tab ∷ controlText (record { line = k; positive = s }))) e ∙ sym (turn-text g k next (t .turning .set h) m) in
-      record {
-        turning = turning-on p q lines at k next (t .turning) h n r (omega arith);
-        written = mathlib.Core.Path.subst (λ (l : List ℕ). Written first (putMid at (length out - at) out last) (at + r) l) f w;
-        room = t .room;
-      }
+  module _ (some : 0 < left) (k : ℕ) (is : k ≡ trailingZeros maxLines left) where
+    pub line-below : k < maxLines
+    line-below = omega (arith, is, lowest-below maxLines maxLines left (omega arith) some (t .below))
 
-pub putting-done : (p q lines : ℕ) (first out : List ℕ) (at k : ℕ) → Putting p q lines first out at k → maxLines ≤ k
-    → Put at out (controlsText (controlsOf (maskGate p q))) first
-putting-done p q lines first out at k t h =
-    let w = t .turning .within in
-    let e : k ≡ maxLines = omega arith in
-    written-put first out at _
-    (mathlib.Core.Path.subst (λ (m : ℕ). Written first out at (controlsText (controlsBelow m (maskGate p q)))) e (t .written))
+    more : linesIn (bitOr p q) maxLines ≡ (t .passed ++ (k ∷ [])) ++ linesIn (bitAnd left (left - 1)) maxLines
+    more = lines-on maxLines maxLines (bitOr p q) left (t .passed) (t .all) (omega arith) some (t .below) k is
+
+    pub putting-room : at + length (tab ∷ controlText (controlOn p k)) ≤ length out
+    putting-room =
+        let a = ap length (mask-text p q ∙ ap (linesText p) more ∙ lines-append p (t .passed ++ (k ∷ [])) (linesIn (bitAnd left (left - 1)) maxLines)) in
+        omega
+        (arith, a, length-append (linesText p (t .passed ++ (k ∷ []))) (linesText p (linesIn (bitAnd left (left - 1)) maxLines)), ap length (lines-more p (t .passed) k), length-append (linesText p (t .passed)) (tab ∷ controlText (controlOn p k)), t .written .long, t .written .same, t .room)
+
+    pub putting-on : (b : Bool) → b ≡ bit p k → (r : ℕ) (last : List ℕ) → Put r last (tab ∷ controlText (record { line = k; positive = b })) (take (length out - at) (drop at out))
+        → length last ≡ length (take (length out - at) (drop at out)) → Putting p q first (putMid at (length out - at) out last) (at + r) (bitAnd left (left - 1))
+    putting-on b e r last put kept =
+        let w = written-more first out at _ (t .written) r last _ (omega (arith, putting-room)) put kept in
+        let f : linesText p (t .passed) ++ (tab ∷ controlText (record { line = k; positive = b })) ≡ linesText p (t .passed ++ (k ∷ [])) =
+        ap (λ (s : Bool). linesText p (t .passed) ++ (tab ∷ controlText (record { line = k; positive = s }))) e ∙ sym (lines-more p (t .passed) k) in
+        record {
+          below = omega (arith, and-le-l left (left - 1), t .below);
+          passed = t .passed ++ (k ∷ []);
+          all = more;
+          written = subst (λ (l : List ℕ). Written first (putMid at (length out - at) out last) (at + r) l) f w;
+          room = t .room;
+        }
 
 -- the room that is left after the first bytes
 pub room-after : (out : List ℕ) (r : ℕ) (last new : List ℕ) → Put r last new (take (length out - 0) (drop 0 out)) → length last ≡ length (take (length out - 0) (drop 0 out))
@@ -307,7 +233,3 @@ pub rest-room : (out : List ℕ) (r : ℕ) (last new : List ℕ) → Put r last 
 rest-room out r last new p l m h =
     let k = room-after out r last new p l m h in
     omega (arith, rest-length (putMid 0 (length out - 0) out last) r (omega arith))
-
--- the same bytes, said in another way
-pub put-as : (r : ℕ) (last a b first : List ℕ) → a ≡ b → Put r last a first → Put r last b first
-put-as r last a b first e p = record { count = p .count ∙ ap length e; buffer = p .buffer ∙ ap (λ (l : List ℕ). over l first) e }

@@ -9,6 +9,7 @@ use lib.ListN.{length, getD}
 use borrow.Author.Tests.{eqb-true}
 use Rattle.bits.proofs.Bools.{and-parts}
 use Rattle.files.specs.Text.{digit}
+use Rattle.files.specs.Put.{TwoDigits}
 
 -- the texts 00 to 99
 unfoldable pub digits : List ℕ
@@ -42,12 +43,14 @@ from (a ∷ b ∷ l) j (suc k) e h =
     let v : 2 * suc k + 1 ≡ suc (suc (2 * k + 1)) = omega arith in
     (ap (λ (m : ℕ). getD (a ∷ b ∷ l) m 0) u ∙ p ∙ ap (λ (m : ℕ). digit (m / 10)) z, ap (λ (m : ℕ). getD (a ∷ b ∷ l) m 0) v ∙ q ∙ ap (λ (m : ℕ). digit (m % 10)) z)
 
--- the digits of k
-pub rule : (k : ℕ) → k < 100 → (getD digits (2 * k) 0 ≡ digit (k / 10)) × (getD digits (2 * k + 1) 0 ≡ digit (k % 10))
-rule k h =
-    let (p, q) = from digits 0 k right (omega (arith, size)) in
-    let z : 0 + k ≡ k = omega arith in
-    (p ∙ ap (λ (m : ℕ). digit (m / 10)) z, q ∙ ap (λ (m : ℕ). digit (m % 10)) z)
+pub two-digits : TwoDigits digits
+two-digits = record { long = omega (arith, size); tens = λ k h. entry k h .0; ones = λ k h. entry k h .1 }
   where
     size : length digits ≡ 200
     size = unfold digits in mathlib.Core.Path.refl
+
+    entry : (k : ℕ) → k < 100 → (getD digits (2 * k) 0 ≡ digit (k / 10)) × (getD digits (2 * k + 1) 0 ≡ digit (k % 10))
+    entry k h =
+        let (p, q) = from digits 0 k right (omega (arith, size)) in
+        let z : 0 + k ≡ k = omega arith in
+        (p ∙ ap (λ (m : ℕ). digit (m / 10)) z, q ∙ ap (λ (m : ℕ). digit (m % 10)) z)

@@ -11,13 +11,13 @@ use Rattle.files.proofs.file.put_lines.Statement.{statement}
 use Rattle.files.proofs.file.put_lines.Tie as tie
 
 abbrev Inv-loop : tie.InvT-loop
-Inv-loop words out₀ gates at₀ i₀ out at i = Typing words out₀ out at i
+Inv-loop words out₀ table gates at₀ i₀ out at i = Typing words out₀ out at i
 
 abbrev μ-loop : tie.MeasureT-loop
-μ-loop words out₀ gates at₀ i₀ out at i = gates - i
+μ-loop words out₀ table gates at₀ i₀ out at i = gates - i
 
 loop-holds : tie.Need-loop-holds Inv-loop μ-loop
-loop-holds c = let s = c .before .before in typing-start _ _ (s .pre .0) (s .pre .1)
+loop-holds c = let s = c .before .before .before in typing-start _ _ (s .pre .1) (s .pre .2)
 
 sub-put-gate-line : tie.Need-sub-put-gate-line Inv-loop μ-loop
 sub-put-gate-line c = let l = c .before in omega (arith, typing-at _ _ _ _ _ (l .loop .inv))
@@ -36,7 +36,7 @@ put-gate-line-requires c κs =
     let l = c .before .before .before in
     let t = l .loop .inv in
     let h = typing-at _ _ _ _ _ t in
-    (typing-target _ _ _ _ _ t (omega arith) _ (c .gate-at .ensures), omega (arith, typing-room _ _ _ _ _ t (omega arith) _ (c .gate-at .ensures), rest-length (l .loop .out) (l .loop .at) (omega arith)))
+    (l .before .before .before .before .pre .0, typing-target _ _ _ _ _ t (omega arith) _ (c .gate-at .ensures), omega (arith, typing-room _ _ _ _ _ t (omega arith) _ (c .gate-at .ensures), rest-length (l .loop .out) (l .loop .at) (omega arith)))
 
 add-at : tie.Need-add-at Inv-loop μ-loop
 add-at c =

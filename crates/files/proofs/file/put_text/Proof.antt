@@ -20,19 +20,19 @@ part-put-header-end : tie.Need-part-put-header-end
 part-put-header-end c = search needs
 
 put-header-requires : tie.Need-put-header-requires
-put-header-requires c κs = let a = c .before .before .before .args in (omega arith, omega (arith, text-parts (a .n) (a .words .now)))
+put-header-requires c κs = let s = c .before .before .before .before in (s .pre .0, omega arith, omega (arith, text-parts (s .args .n) (s .args .words .now)))
 
 sub-put-lines : tie.Need-sub-put-lines
 sub-put-lines c =
     let q = c .before .before in
-    let a = q .before .before .before .before .args in
+    let a = q .before .before .before .before .before .args in
     let h = room-after (a .out .now) _ _ (headerLine (a .n)) (q .put-header .ensures) (q .put-header .kept .0) (length (gateLines (gatesOf (a .words .now)) ++ endLine)) (omega (arith, text-parts (a .n) (a .words .now))) in
     omega arith
 
 part-put-lines-start : tie.Need-part-put-lines-start
 part-put-lines-start c =
     let q = c .before .before in
-    let a = q .before .before .before .before .args in
+    let a = q .before .before .before .before .before .args in
     let h = room-after (a .out .now) _ _ (headerLine (a .n)) (q .put-header .ensures) (q .put-header .kept .0) (length (gateLines (gatesOf (a .words .now)) ++ endLine)) (omega (arith, text-parts (a .n) (a .words .now))) in
     search needs
 
@@ -42,14 +42,15 @@ part-put-lines-end c = search needs
 put-lines-requires : tie.Need-put-lines-requires
 put-lines-requires c κs =
     let q = c .before .before .before in
-    let a = q .before .before .before .before .args in
-    (q .before .before .before .before .pre .1, rest-room (a .out .now) _ _ (headerLine (a .n)) (q .put-header .ensures) (q .put-header .kept .0) (length (gateLines (gatesOf (a .words .now)) ++ endLine)) (omega (arith, text-parts (a .n) (a .words .now))))
+    let s = q .before .before .before .before .before in
+    let a = s .args in
+    (s .pre .0, s .pre .2, rest-room (a .out .now) _ _ (headerLine (a .n)) (q .put-header .ensures) (q .put-header .kept .0) (length (gateLines (gatesOf (a .words .now)) ++ endLine)) (omega (arith, text-parts (a .n) (a .words .now))))
 
 add-result : tie.Need-add-result
 add-result c =
     let n = c .before .before in
     let q = n .before .before .before .before in
-    let a = q .before .before .before .before .args in
+    let a = q .before .before .before .before .before .args in
     let h = room-after (a .out .now) _ _ (headerLine (a .n)) (q .put-header .ensures) (q .put-header .kept .0) (length (gateLines (gatesOf (a .words .now)) ++ endLine)) (omega (arith, text-parts (a .n) (a .words .now))) in
     omega (arith, n .put-lines .ensures .count)
 
@@ -60,7 +61,7 @@ returns : tie.Need-returns
 returns c =
     let n = c .before .before in
     let q = n .before .before .before .before in
-    let a = q .before .before .before .before .args in
+    let a = q .before .before .before .before .before .args in
     let w = written-first (a .out .now) _ _ (headerLine (a .n)) (q .put-header .ensures) (q .put-header .kept .0) in
     let h = room-after (a .out .now) _ _ (headerLine (a .n)) (q .put-header .ensures) (q .put-header .kept .0) (length (gateLines (gatesOf (a .words .now)) ++ endLine)) (omega (arith, text-parts (a .n) (a .words .now))) in
     written-put _ _ _ _ (written-more _ _ _ _ w _ _ _ (omega arith) (n .put-lines .ensures) (n .put-lines .kept .1 .0))

@@ -11,6 +11,7 @@ use Rattle.files.specs.Text.{textOf}
 use Rattle.circuit.proofs.Outcome.{why}
 use Rattle.circuit.proofs.words.Laws.{check-served, valid-all-more}
 use Rattle.files.proofs.file.Writes.{write-refused, write-short, write-made, write-told}
+use Rattle.files.proofs.file.put.Table.{digits, two-digits}
 use Rattle.files.proofs.file.write.Statement.{statement}
 use Rattle.files.proofs.file.write.Tie as tie
 
@@ -45,12 +46,16 @@ returns c =
     write-told _ _ _ _ (refused noRoom 0) _ (why (c .no-room .ensures))
     (write-short (a .n) (a .words .now) (length (a .out .now)) _ (good (t .before)) (omega (arith, t .text-size .ensures, c .before .if1 .taken))) refl
 
+slice-aggregate-put-text : tie.Need-slice-aggregate-put-text
+slice-aggregate-put-text c = search needs
+
 put-text-requires : tie.Need-put-text-requires
+unfolding digits
 put-text-requires c κs =
-    let e = c .before in
+    let e = c .before .before in
     let t = e .before in
     let k = cascade (t .before) in
-    (omega (arith, k .lines-high), valid-all-more _ maxLines _ (k .lines-high) (k .gates), omega (arith, t .text-size .ensures, e .if1 .left))
+    (two-digits, omega (arith, k .lines-high), valid-all-more _ maxLines _ (k .lines-high) (k .gates), omega (arith, t .text-size .ensures, e .if1 .left))
 
 returns-2 : tie.Need-returns-2
 returns-2 c =
@@ -65,7 +70,7 @@ same-length c = search needs
 returns-3 : tie.Need-returns-3
 returns-3 c =
     let p = c .before .before in
-    let e = p .before .before in
+    let e = p .before .before .before in
     let t = e .before in
     let a = t .before .before .before .before .before .before .args in
     write-told _ _ _ _ (served (length (textOf (a .n) (gatesOf (a .words .now))))) _ (ap served (p .put-text .ensures .count))
@@ -81,6 +86,7 @@ write-spec =
     text-size-requires
     no-room-requires
     returns
+    slice-aggregate-put-text
     put-text-requires
     returns-2
     same-length

@@ -1,6 +1,6 @@
--- `files::file::put::ones` meets its contract, by the rule of the table. Assumes nothing.
+-- `files::file::put::ones` meets its contract, as the table is that of two-digit texts. Assumes nothing.
 use borrow.Author.Needs.{needs}
-use Rattle.files.proofs.file.put.Table.{digits, rule}
+use native.Mathlib.Omega.{arith}
 use Rattle.files.proofs.file.put.ones.Statement.{statement}
 use Rattle.files.proofs.file.put.ones.Tie as tie
 
@@ -10,12 +10,11 @@ mul-result c = search needs
 add-result : tie.Need-add-result
 add-result c = search needs
 
-array-read-result : tie.Need-array-read-result
-array-read-result c = search needs
+shared-slice-read-result : tie.Need-shared-slice-read-result
+shared-slice-read-result c = omega (arith, c .before .pre .0 .long)
 
 returns : tie.Need-returns
-unfolding digits
-returns c = rule (c .args .k) (c .pre) .1
+returns c = let s = c .before in s .pre .0 .ones (s .args .k) (s .pre .1)
 
 pub ones-spec : {M : Type 1} → statement M
-ones-spec = tie.close (tie.spec mul-result add-result array-read-result returns)
+ones-spec = tie.close (tie.spec mul-result add-result shared-slice-read-result returns)

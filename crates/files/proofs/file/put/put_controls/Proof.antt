@@ -1,70 +1,85 @@
--- `files::file::put::put_controls` meets its contract. The loop's invariant: the controls below line k stand at the buffer's start. Assumes nothing.
-use mathlib.Core.Path.{refl}
-use Prim.Native.Nat.{ℕ, _-_}
+-- `files::file::put::put_controls` meets its contract. The loop's invariant: the controls on the lines that are not left stand at the buffer's start. Assumes nothing.
+use mathlib.Core.Logic.{⊎-elim}
+use mathlib.Core.List.{_∷_}
+use Prim.Native.Nat.{_+_, _-_, _<_, _≤_}
+use native.Mathlib.Nat.{eq-zero-or-pos}
 use native.Mathlib.Omega.{arith}
+use lib.Bits.{or-lt, and-le-r}
+use lib.ListN.{length}
 use borrow.Author.Needs.{needs}
 use Rattle.circuit.specs.Gate.{maxLines}
-use Rattle.files.proofs.file.put.Laws.{Putting, putting-start, putting-room, putting-on, putting-done, control-length, rest-length}
+use Rattle.circuit.proofs.gate.Controls.{controlOn}
+use Rattle.files.specs.Text.{tab, controlText}
+use Rattle.files.proofs.file.put.Laws.{Putting, putting-start, putting-room, putting-on, putting-done, line-below, control-length, rest-length}
 use Rattle.files.proofs.file.put.put_controls.Statement.{statement}
 use Rattle.files.proofs.file.put.put_controls.Tie as tie
 
 abbrev Inv-loop : tie.InvT-loop
-Inv-loop out₀ positive negative lines at₀ k₀ out at k = Putting positive negative lines out₀ out at k
+Inv-loop out₀ positive negative table left₀ at₀ out left at = Putting positive negative out₀ out at left
 
 abbrev μ-loop : tie.MeasureT-loop
-μ-loop out₀ positive negative lines at₀ k₀ out at k = maxLines - k
+μ-loop out₀ positive negative table left₀ at₀ out left at = left
 
-next-line-requires : tie.Need-next-line-requires Inv-loop μ-loop
-next-line-requires c κs = omega arith
+-- a line is left
+some : (c : tie.In-loop Inv-loop μ-loop) → 0 < c .before .loop .left
+some c = ⊎-elim (λ z. absurd (c .loop-test .taken z)) (λ p. p) (eq-zero-or-pos (c .before .loop .left))
 
 loop-holds : tie.Need-loop-holds Inv-loop μ-loop
-loop-holds c = putting-start _ _ _ _ _ refl (c .next-line .ensures) (c .before .before .pre)
+loop-holds c =
+    let s = c .before .before in
+    putting-start (s .args .positive) (s .args .negative) _ (or-lt 64 _ _ (s .fits .positive .fits) (s .fits .negative .fits)) (s .pre .1)
+
+lowest-requires : tie.Need-lowest-requires Inv-loop μ-loop
+lowest-requires c κs = search needs
+
+-- it is below 64, and its control has room
+below : (c : tie.After-lowest Inv-loop μ-loop) → c .lowest .result < maxLines
+below c = line-below _ _ _ _ _ _ (c .before .before .loop .inv) (some (c .before)) (c .lowest .result) (c .lowest .ensures)
+
+room : (c : tie.After-lowest Inv-loop μ-loop)
+    → c .before .before .loop .at + length (tab ∷ controlText (controlOn (c .before .before .before .before .before .args .positive) (c .lowest .result))) ≤ length (c .before .before .loop .out)
+room c = putting-room _ _ _ _ _ _ (c .before .before .loop .inv) (some (c .before)) (c .lowest .result) (c .lowest .ensures)
 
 sub-put-control : tie.Need-sub-put-control Inv-loop μ-loop
-sub-put-control c = let l = c .before in omega (arith, putting-room _ _ _ _ _ _ _ (l .loop .inv) (omega arith))
+sub-put-control c = omega (arith, room c)
 
 part-put-control-start : tie.Need-part-put-control-start Inv-loop μ-loop
-part-put-control-start c = let l = c .before in let h = putting-room _ _ _ _ _ _ _ (l .loop .inv) (omega arith) in search needs
+part-put-control-start c = let h = sub-put-control c in search needs
 
 part-put-control-end : tie.Need-part-put-control-end Inv-loop μ-loop
 part-put-control-end c = search needs
 
 has-requires : tie.Need-has-requires Inv-loop μ-loop
-has-requires c κs = omega arith
+has-requires c κs = below (c .before)
 
 put-control-requires : tie.Need-put-control-requires Inv-loop μ-loop
 put-control-requires c κs =
-    let l = c .before .before .before in
-    let h = putting-room _ _ _ _ _ _ _ (l .loop .inv) (omega arith) in
-    (omega arith, omega (arith, rest-length (l .loop .out) (l .loop .at) (omega arith), control-length (record { line = l .loop .k; positive = c .has .result })))
+    let w = c .before .before in
+    let l = w .before .before in
+    (l .before .before .before .pre .0, omega (arith, below w), omega (arith, room w, rest-length (l .loop .out) (l .loop .at) (omega (arith, room w)), control-length (record { line = w .lowest .result; positive = c .has .result }), control-length (controlOn (l .before .before .before .args .positive) (w .lowest .result))))
 
 add-at : tie.Need-add-at Inv-loop μ-loop
-add-at c =
-    let p = c .before .before in
-    let l = p .before .before .before .before in
-    let h = putting-room _ _ _ _ _ _ _ (l .loop .inv) (omega arith) in
-    omega (arith, p .put-control .ensures .count)
+add-at c = let p = c .before .before in let w = p .before .before .before in omega (arith, room w, p .put-control .ensures .count)
 
-add-next-line : tie.Need-add-next-line Inv-loop μ-loop
-add-next-line c = omega arith
-
-next-line-requires-2 : tie.Need-next-line-requires-2 Inv-loop μ-loop
-next-line-requires-2 c κs = omega arith
+sub-left : tie.Need-sub-left Inv-loop μ-loop
+sub-left c = some (c .before .before .before .before .before .before)
 
 loop-less : tie.Need-loop-less Inv-loop μ-loop
-loop-less c = omega (arith, c .next-line2 .ensures .from)
+loop-less c =
+    let i = c .before .before .before .before .before .before in
+    omega (arith, some i, and-le-r (i .before .loop .left) (i .before .loop .left - 1))
 
 loop-again : tie.Need-loop-again Inv-loop μ-loop
 loop-again c =
-    let p = c .before .before .before in
-    let l = p .before .before .before .before in
-    putting-on _ _ _ _ _ _ _ (l .loop .inv) (omega arith) _ (p .before .has .ensures) _ _ (p .put-control .ensures) (p .put-control .kept .0) _ (c .next-line2 .ensures)
+    let p = c .before .before in
+    let w = p .before .before .before in
+    putting-on _ _ _ _ _ _ (w .before .before .loop .inv) (some (w .before)) (w .lowest .result) (w .lowest .ensures) _ (p .before .has .ensures) _ _ (p .put-control .ensures) (p .put-control .kept .0)
 
 same-length : tie.Need-same-length Inv-loop μ-loop
 same-length c = c .before .loop .inv .written .same
 
 returns : tie.Need-returns Inv-loop μ-loop
-returns c = putting-done _ _ _ _ _ _ _ (c .before .loop .inv) (omega arith)
+returns c = putting-done _ _ _ _ _ _ (c .before .loop .inv) (c .loop-test .left)
 
 pub put-controls-spec : {M : Type 1} → statement M
 put-controls-spec =
@@ -72,16 +87,15 @@ put-controls-spec =
     (tie.spec
     Inv-loop
     μ-loop
-    next-line-requires
     loop-holds
+    lowest-requires
     sub-put-control
     part-put-control-start
     part-put-control-end
     has-requires
     put-control-requires
     add-at
-    add-next-line
-    next-line-requires-2
+    sub-left
     loop-less
     loop-again
     same-length

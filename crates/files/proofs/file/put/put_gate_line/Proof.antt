@@ -18,19 +18,19 @@ part-put-gate-text-end : tie.Need-part-put-gate-text-end
 part-put-gate-text-end c = search needs
 
 put-gate-text-requires : tie.Need-put-gate-text-requires
-put-gate-text-requires c κs = let a = c .before .before .args in (omega arith, omega (arith, line-length (a .g)))
+put-gate-text-requires c κs = let s = c .before .before .before in (s .pre .0, omega arith, omega (arith, line-length (s .args .g)))
 
 sub-put-word : tie.Need-sub-put-word
 sub-put-word c =
     let q = c .before .before in
-    let a = q .before .before .before .args in
+    let a = q .before .before .before .before .args in
     let h = room-after (a .out .now) _ _ (gateText (a .g)) (q .put-gate-text .ensures) (q .put-gate-text .kept .0) (1) (omega (arith, line-length (a .g))) in
     omega arith
 
 part-put-word-start : tie.Need-part-put-word-start
 part-put-word-start c =
     let q = c .before .before in
-    let a = q .before .before .before .args in
+    let a = q .before .before .before .before .args in
     let h = room-after (a .out .now) _ _ (gateText (a .g)) (q .put-gate-text .ensures) (q .put-gate-text .kept .0) (1) (omega (arith, line-length (a .g))) in
     search needs
 
@@ -43,14 +43,14 @@ slice-aggregate-put-word c = search needs
 put-word-requires : tie.Need-put-word-requires
 put-word-requires c κs =
     let q = c .before .before .before .before in
-    let a = q .before .before .before .args in
+    let a = q .before .before .before .before .args in
     rest-room (a .out .now) _ _ (gateText (a .g)) (q .put-gate-text .ensures) (q .put-gate-text .kept .0) (1) (omega (arith, line-length (a .g)))
 
 add-result : tie.Need-add-result
 add-result c =
     let n = c .before .before in
     let q = n .before .before .before .before .before in
-    let a = q .before .before .before .args in
+    let a = q .before .before .before .before .args in
     let h = room-after (a .out .now) _ _ (gateText (a .g)) (q .put-gate-text .ensures) (q .put-gate-text .kept .0) (1) (omega (arith, line-length (a .g))) in
     omega (arith, n .put-word .ensures .count)
 
@@ -61,7 +61,7 @@ returns : tie.Need-returns
 returns c =
     let n = c .before .before in
     let q = n .before .before .before .before .before in
-    let a = q .before .before .before .args in
+    let a = q .before .before .before .before .args in
     let w = written-first (a .out .now) _ _ (gateText (a .g)) (q .put-gate-text .ensures) (q .put-gate-text .kept .0) in
     let h = room-after (a .out .now) _ _ (gateText (a .g)) (q .put-gate-text .ensures) (q .put-gate-text .kept .0) (1) (omega (arith, line-length (a .g))) in
     written-put _ _ _ _ (written-more _ _ _ _ w _ _ _ (omega arith) (n .put-word .ensures) (n .put-word .kept .0))

@@ -27,19 +27,19 @@ slice-aggregate-put-numbered : tie.Need-slice-aggregate-put-numbered
 slice-aggregate-put-numbered c = search needs
 
 put-numbered-requires : tie.Need-put-numbered-requires
-put-numbered-requires c κs = let a = c .before .before .before .args in (omega arith, omega (arith, text-length (a .g)))
+put-numbered-requires c κs = let s = c .before .before .before .before in (s .pre .0, omega arith, omega (arith, text-length (s .args .g)))
 
 sub-put-controls : tie.Need-sub-put-controls
 sub-put-controls c =
     let q = c .before .before in
-    let a = q .before .before .before .before .args in
+    let a = q .before .before .before .before .before .args in
     let h = room-after (a .out .now) _ _ (103 ∷ tab ∷ numberText (a .g .target)) (q .put-numbered .ensures) (q .put-numbered .kept .0) (length (controlsText (controlsOf (maskGate (a .g .positive) (a .g .negative))))) (omega (arith, text-length (a .g), ap length (same-controls (a .g)))) in
     omega arith
 
 part-put-controls-start : tie.Need-part-put-controls-start
 part-put-controls-start c =
     let q = c .before .before in
-    let a = q .before .before .before .before .args in
+    let a = q .before .before .before .before .before .args in
     let h = room-after (a .out .now) _ _ (103 ∷ tab ∷ numberText (a .g .target)) (q .put-numbered .ensures) (q .put-numbered .kept .0) (length (controlsText (controlsOf (maskGate (a .g .positive) (a .g .negative))))) (omega (arith, text-length (a .g), ap length (same-controls (a .g)))) in
     search needs
 
@@ -49,14 +49,15 @@ part-put-controls-end c = search needs
 put-controls-requires : tie.Need-put-controls-requires
 put-controls-requires c κs =
     let q = c .before .before .before in
-    let a = q .before .before .before .before .args in
-    rest-room (a .out .now) _ _ (103 ∷ tab ∷ numberText (a .g .target)) (q .put-numbered .ensures) (q .put-numbered .kept .0) (length (controlsText (controlsOf (maskGate (a .g .positive) (a .g .negative))))) (omega (arith, text-length (a .g), ap length (same-controls (a .g))))
+    let s = q .before .before .before .before .before in
+    let a = s .args in
+    (s .pre .0, rest-room (a .out .now) _ _ (103 ∷ tab ∷ numberText (a .g .target)) (q .put-numbered .ensures) (q .put-numbered .kept .0) (length (controlsText (controlsOf (maskGate (a .g .positive) (a .g .negative))))) (omega (arith, text-length (a .g), ap length (same-controls (a .g)))))
 
 add-result : tie.Need-add-result
 add-result c =
     let n = c .before .before in
     let q = n .before .before .before .before in
-    let a = q .before .before .before .before .args in
+    let a = q .before .before .before .before .before .args in
     let h = room-after (a .out .now) _ _ (103 ∷ tab ∷ numberText (a .g .target)) (q .put-numbered .ensures) (q .put-numbered .kept .0) (length (controlsText (controlsOf (maskGate (a .g .positive) (a .g .negative))))) (omega (arith, text-length (a .g), ap length (same-controls (a .g)))) in
     omega (arith, n .put-controls .ensures .count)
 
@@ -67,7 +68,7 @@ returns : tie.Need-returns
 returns c =
     let n = c .before .before in
     let q = n .before .before .before .before in
-    let a = q .before .before .before .before .args in
+    let a = q .before .before .before .before .before .args in
     let w = written-first (a .out .now) _ _ (103 ∷ tab ∷ numberText (a .g .target)) (q .put-numbered .ensures) (q .put-numbered .kept .0) in
     let h = room-after (a .out .now) _ _ (103 ∷ tab ∷ numberText (a .g .target)) (q .put-numbered .ensures) (q .put-numbered .kept .0) (length (controlsText (controlsOf (maskGate (a .g .positive) (a .g .negative))))) (omega (arith, text-length (a .g), ap length (same-controls (a .g)))) in
     put-as _ _ _ _ _ (ap (λ (l : List ℕ). 103 ∷ tab ∷ (numberText (a .g .target) ++ l)) (same-controls (a .g))) (written-put _ _ _ _ (written-more _ _ _ _ w _ _ _ (omega arith) (n .put-controls .ensures) (n .put-controls .kept .0)))

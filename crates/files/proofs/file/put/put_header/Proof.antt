@@ -22,19 +22,19 @@ slice-aggregate-put-numbered : tie.Need-slice-aggregate-put-numbered
 slice-aggregate-put-numbered c = search needs
 
 put-numbered-requires : tie.Need-put-numbered-requires
-put-numbered-requires c κs = let a = c .before .before .before .args in (omega arith, omega (arith, header-text-length (a .n)))
+put-numbered-requires c κs = let s = c .before .before .before .before in (s .pre .0, omega arith, omega (arith, header-text-length (s .args .n)))
 
 sub-put-word : tie.Need-sub-put-word
 sub-put-word c =
     let q = c .before .before in
-    let a = q .before .before .before .before .args in
+    let a = q .before .before .before .before .before .args in
     let h = room-after (a .out .now) _ _ (headerText (a .n)) (q .put-numbered .ensures) (q .put-numbered .kept .0) (1) (omega (arith, header-text-length (a .n))) in
     omega arith
 
 part-put-word-start : tie.Need-part-put-word-start
 part-put-word-start c =
     let q = c .before .before in
-    let a = q .before .before .before .before .args in
+    let a = q .before .before .before .before .before .args in
     let h = room-after (a .out .now) _ _ (headerText (a .n)) (q .put-numbered .ensures) (q .put-numbered .kept .0) (1) (omega (arith, header-text-length (a .n))) in
     search needs
 
@@ -47,14 +47,14 @@ slice-aggregate-put-word c = search needs
 put-word-requires : tie.Need-put-word-requires
 put-word-requires c κs =
     let q = c .before .before .before .before in
-    let a = q .before .before .before .before .args in
+    let a = q .before .before .before .before .before .args in
     rest-room (a .out .now) _ _ (headerText (a .n)) (q .put-numbered .ensures) (q .put-numbered .kept .0) (1) (omega (arith, header-text-length (a .n)))
 
 add-result : tie.Need-add-result
 add-result c =
     let n = c .before .before in
     let q = n .before .before .before .before .before in
-    let a = q .before .before .before .before .args in
+    let a = q .before .before .before .before .before .args in
     let h = room-after (a .out .now) _ _ (headerText (a .n)) (q .put-numbered .ensures) (q .put-numbered .kept .0) (1) (omega (arith, header-text-length (a .n))) in
     omega (arith, n .put-word .ensures .count)
 
@@ -65,7 +65,7 @@ returns : tie.Need-returns
 returns c =
     let n = c .before .before in
     let q = n .before .before .before .before .before in
-    let a = q .before .before .before .before .args in
+    let a = q .before .before .before .before .before .args in
     let w = written-first (a .out .now) _ _ (headerText (a .n)) (q .put-numbered .ensures) (q .put-numbered .kept .0) in
     let h = room-after (a .out .now) _ _ (headerText (a .n)) (q .put-numbered .ensures) (q .put-numbered .kept .0) (1) (omega (arith, header-text-length (a .n))) in
     written-put _ _ _ _ (written-more _ _ _ _ w _ _ _ (omega arith) (n .put-word .ensures) (n .put-word .kept .0))

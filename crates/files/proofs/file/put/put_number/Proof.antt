@@ -19,13 +19,13 @@ tens-requires : tie.Need-tens-requires
 tens-requires c κs = search needs
 
 slice-write-out : tie.Need-slice-write-out
-slice-write-out c = let a = c .before .before .before .args in omega (arith, ap length (text-long (a .k) (c .before .if1 .taken)))
+slice-write-out c = let a = c .before .before .before .before .args in omega (arith, ap length (text-long (a .k) (c .before .if1 .taken)))
 
 ones-requires : tie.Need-ones-requires
 ones-requires c κs = search needs
 
 slice-write-out-2 : tie.Need-slice-write-out-2
-slice-write-out-2 c = let a = c .before .before .before .before .args in simp length-set (omega (arith, ap length (text-long (a .k) (c .before .before .if1 .taken))))
+slice-write-out-2 c = let a = c .before .before .before .before .before .args in simp length-set (omega (arith, ap length (text-long (a .k) (c .before .before .if1 .taken))))
 
 same-length : tie.Need-same-length
 same-length c = search needs
@@ -33,7 +33,7 @@ same-length c = search needs
 returns : tie.Need-returns
 returns c =
     let t = c .before in
-    let a = t .before .before .before .args in
+    let a = t .before .before .before .before .args in
     let e = text-long (a .k) (t .before .if1 .taken) in
     record {
       count = sym (ap length e);
@@ -47,14 +47,14 @@ ones-requires-2 : tie.Need-ones-requires-2
 ones-requires-2 c κs = search needs
 
 slice-write-out-3 : tie.Need-slice-write-out-3
-slice-write-out-3 c = let a = c .before .before .before .args in omega (arith, ap length (text-short (a .k) (c .before .if1 .left)))
+slice-write-out-3 c = let a = c .before .before .before .before .args in omega (arith, ap length (text-short (a .k) (c .before .if1 .left)))
 
 same-length-2 : tie.Need-same-length-2
 same-length-2 c = search needs
 
 returns-2 : tie.Need-returns-2
 returns-2 c =
-    let a = c .before .before .before .args in
+    let a = c .before .before .before .before .args in
     let e = text-short (a .k) (c .before .if1 .left) in
     record {
       count = sym (ap length e);

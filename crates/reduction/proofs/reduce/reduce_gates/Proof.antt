@@ -1,0 +1,151 @@
+-- `reduction::reduce::reduce_gates` meets its contract. The loop's invariant: the gates that now stand, whose reduction is what is left to do. Assumes nothing.
+use mathlib.Core.Path.{_≡_, sym, ap, _∙_}
+use Prim.Native.Nat.{ℕ, _+_, _*_, _-_}
+use native.Mathlib.Omega.{arith}
+use borrow.Author.Needs.{needs}
+use borrow.Rule.Slice.PartMut.{putMid, same-len-mid}
+use Rattle.reduction.specs.declared.step.Kind.{Kind}
+use Rattle.reduction.specs.declared.step.Kind.the-variants.{Cancel, RemoveControl, InvertControl}
+use Rattle.reduction.specs.Step.{found, ofStepped}
+use Rattle.reduction.specs.StepLaws.{taken}
+use Rattle.reduction.proofs.reduce.Turns.{Standing, standing-first, lent-whole, lent-valid, ended, left-less, onward, pairsOf, mergesOf}
+use Rattle.reduction.proofs.reduce.reduce_gates.Statement.{statement}
+use Rattle.reduction.proofs.reduce.reduce_gates.Tie as tie
+
+abbrev Inv-loop : tie.InvT-loop
+Inv-loop words₀ gates₀ pairs₀ merges₀ words gates pairs merges = Standing words₀ words gates pairs merges
+
+abbrev μ-loop : tie.MeasureT-loop
+μ-loop words₀ gates₀ pairs₀ merges₀ words gates pairs merges = gates
+
+-- what the step found
+hit : (c : tie.After-known-told Inv-loop μ-loop) → ofStepped (c .before .before .before .before .before .step-gates .result)
+    ≡ found (c .before .kind .given .0 .0) (c .before .kind .given .0 .1 .0) (c .before .kind .given .0 .1 .1 .0) (c .before .kind .given .0 .1 .1 .1 .0)
+hit c = ap ofStepped (c .before .kind .given .1)
+
+-- the turn's numbers, by the match that it was
+less : (c : tie.After-known-told Inv-loop μ-loop) (k : Kind) → c .before .kind .given .0 .1 .1 .0 ≡ k
+    → c .before .kind .given .0 .1 .1 .1 .0 + taken k ≡ c .before .before .before .before .before .before .before .loop .gates
+less c k e =
+    let s = c .before .before .before .before .before in
+    let l = s .before .before .loop in
+    ap (λ (x : Kind). c .before .kind .given .0 .1 .1 .1 .0 + taken x) (sym e)
+    ∙ left-less _ (l .words) (l .gates) (l .pairs) (l .merges) (l .inv) _ _ (s .step-gates .ensures) _ _ _ _ (hit c)
+
+again : (c : tie.After-known-told Inv-loop μ-loop) (k : Kind) → c .before .kind .given .0 .1 .1 .0 ≡ k → (p m : ℕ)
+    → p ≡ c .before .before .before .before .before .before .before .loop .pairs + pairsOf k
+    → m ≡ c .before .before .before .before .before .before .before .loop .merges + mergesOf k
+    → Standing (c .before .before .before .before .before .before .before .before .before .args .words .now)
+    (putMid 0 (3 * c .before .before .before .before .before .before .before .loop .gates - 0) (c .before .before .before .before .before .before .before .loop .words)
+    (c .before .before .before .before .before .step-gates .last .0)) (c .before .kind .given .0 .1 .1 .1 .0) p m
+again c k e p m pe me =
+    let s = c .before .before .before .before .before in
+    let l = s .before .before .loop in
+    let f = c .before .kind .given .0 in
+    onward _ (l .words) (l .gates) (l .pairs) (l .merges) (l .inv) _ _ (s .step-gates .ensures) (f .0) (f .1 .0) k (f .1 .1 .1 .0)
+    (hit c ∙ ap (λ (x : Kind). found (f .0) (f .1 .0) x (f .1 .1 .1 .0)) e) p m pe me
+
+loop-holds : tie.Need-loop-holds Inv-loop μ-loop
+loop-holds c = standing-first _ (c .before .pre .0) (c .before .pre .1)
+
+mul-end : tie.Need-mul-end Inv-loop μ-loop
+mul-end c = omega arith
+
+sub-step-gates : tie.Need-sub-step-gates Inv-loop μ-loop
+sub-step-gates c = search needs
+
+part-step-gates-start : tie.Need-part-step-gates-start Inv-loop μ-loop
+part-step-gates-start c = search needs
+
+part-step-gates-end : tie.Need-part-step-gates-end Inv-loop μ-loop
+part-step-gates-end c = search needs
+
+step-gates-requires : tie.Need-step-gates-requires Inv-loop μ-loop
+step-gates-requires c κs =
+    let l = c .before .loop in (
+      lent-whole _ (l .words) (l .gates) (l .pairs) (l .merges) (l .inv),
+      lent-valid _ (l .words) (l .gates) (l .pairs) (l .merges) (l .inv),
+    )
+
+enum-told : tie.Need-enum-told Inv-loop μ-loop
+enum-told c = search needs
+
+same-length : tie.Need-same-length Inv-loop μ-loop
+same-length c =
+    let s = c .before .before .before .before in
+    let l = s .before .before .loop in
+    same-len-mid 0 (3 * l .gates - 0) (l .words) (s .step-gates .last .0) (s .step-gates .kept .0) ∙ l .inv .long
+
+returns : tie.Need-returns Inv-loop μ-loop
+returns c =
+    let s = c .before .before .before .before in
+    let l = s .before .before .loop in
+    ended _ (l .words) (l .gates) (l .pairs) (l .merges) (l .inv) _ _ (s .step-gates .ensures) (ap ofStepped (c .enum-told .given .1))
+
+enum-known-kind : tie.Need-enum-known-kind Inv-loop μ-loop
+enum-known-kind c = search needs
+
+enum-told-2 : tie.Need-enum-told-2 Inv-loop μ-loop
+enum-told-2 c = search needs
+
+add-pairs : tie.Need-add-pairs Inv-loop μ-loop
+add-pairs c = let e = less (c .before .before) Cancel (c .enum-told2 .given .1) in omega arith
+
+loop-less : tie.Need-loop-less Inv-loop μ-loop
+loop-less c = let e = less (c .before .before) Cancel (c .enum-told2 .given .1) in omega arith
+
+loop-again : tie.Need-loop-again Inv-loop μ-loop
+loop-again c = again (c .before .before) Cancel (c .enum-told2 .given .1) _ _ (omega arith) (omega arith)
+
+enum-told-3 : tie.Need-enum-told-3 Inv-loop μ-loop
+enum-told-3 c = search needs
+
+add-merges : tie.Need-add-merges Inv-loop μ-loop
+add-merges c = let e = less (c .before .before) RemoveControl (c .enum-told3 .given .1) in omega arith
+
+loop-less-2 : tie.Need-loop-less-2 Inv-loop μ-loop
+loop-less-2 c = let e = less (c .before .before) RemoveControl (c .enum-told3 .given .1) in omega arith
+
+loop-again-2 : tie.Need-loop-again-2 Inv-loop μ-loop
+loop-again-2 c = again (c .before .before) RemoveControl (c .enum-told3 .given .1) _ _ (omega arith) (omega arith)
+
+enum-told-4 : tie.Need-enum-told-4 Inv-loop μ-loop
+enum-told-4 c = search needs
+
+add-merges-2 : tie.Need-add-merges-2 Inv-loop μ-loop
+add-merges-2 c = let e = less (c .before .before) InvertControl (c .enum-told4 .given .1) in omega arith
+
+loop-less-3 : tie.Need-loop-less-3 Inv-loop μ-loop
+loop-less-3 c = let e = less (c .before .before) InvertControl (c .enum-told4 .given .1) in omega arith
+
+loop-again-3 : tie.Need-loop-again-3 Inv-loop μ-loop
+loop-again-3 c = again (c .before .before) InvertControl (c .enum-told4 .given .1) _ _ (omega arith) (omega arith)
+
+pub reduce-gates-spec : {M : Type 1} → statement M
+reduce-gates-spec =
+    tie.close
+    (tie.spec
+    Inv-loop
+    μ-loop
+    loop-holds
+    mul-end
+    sub-step-gates
+    part-step-gates-start
+    part-step-gates-end
+    step-gates-requires
+    enum-told
+    same-length
+    returns
+    enum-known-kind
+    enum-told-2
+    add-pairs
+    loop-less
+    loop-again
+    enum-told-3
+    add-merges
+    loop-less-2
+    loop-again-2
+    enum-told-4
+    add-merges-2
+    loop-less-3
+    loop-again-3)
