@@ -40,6 +40,11 @@
 extern "C" {
 #endif
 
+/* One gate, as its three words. */
+struct cascade_gate {
+    uint64_t positive, negative, target;
+};
+
 struct cascade_run_answer {
     uint64_t number, place, state;
 };
@@ -65,6 +70,9 @@ struct cascade_write_answer cascade_write(uint64_t lines, const uint64_t *words,
 
 /* The output state of a cascade. Refused with 2, 11, 6, 7, 9, tested in this order. */
 struct cascade_run_answer cascade_run(uint64_t lines, const uint64_t *words, size_t words_len, uint64_t state);
+
+/* The same of a list of gate records. Refused with 2, 6, 7, 9, tested in this order. */
+struct cascade_run_answer cascade_run_records(uint64_t lines, const struct cascade_gate *gates, size_t gates_len, uint64_t state);
 
 /* The inverse of a cascade: its gates in reverse order. Refused with 2, 11, 6, 7, 10. */
 struct cascade_count_answer cascade_inverse(uint64_t lines, const uint64_t *words, size_t words_len, uint64_t *out, size_t out_len);

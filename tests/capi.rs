@@ -2,6 +2,14 @@
 
 #[repr(C)]
 #[derive(Clone, Copy, Debug, PartialEq)]
+pub struct Gate {
+    pub positive: u64,
+    pub negative: u64,
+    pub target: u64,
+}
+
+#[repr(C)]
+#[derive(Clone, Copy, Debug, PartialEq)]
 pub struct RunAnswer {
     pub number: u64,
     pub place: u64,
@@ -107,6 +115,12 @@ extern "C" {
         out_len: usize,
     ) -> WriteAnswer;
     pub fn cascade_run(lines: u64, words: *const u64, words_len: usize, state: u64) -> RunAnswer;
+    pub fn cascade_run_records(
+        lines: u64,
+        gates: *const Gate,
+        gates_len: usize,
+        state: u64,
+    ) -> RunAnswer;
     pub fn cascade_inverse(
         lines: u64,
         words: *const u64,

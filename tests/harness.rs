@@ -1,6 +1,7 @@
 //! What every section of the differential test needs: buffers between guards, the table of counts,
 //! and the comparison that stops at the first mismatch.
 
+use crate::capi::Gate;
 use std::collections::BTreeMap;
 use std::fmt::Debug;
 use std::ptr::NonNull;
@@ -18,6 +19,16 @@ pub trait Element: Copy + Debug + PartialEq {
 impl Element for u64 {
     fn guard(index: usize) -> u64 {
         0xc0de_5afe_0000_0000 + index as u64
+    }
+}
+
+impl Element for Gate {
+    fn guard(index: usize) -> Gate {
+        Gate {
+            positive: u64::guard(3 * index),
+            negative: u64::guard(3 * index + 1),
+            target: u64::guard(3 * index + 2),
+        }
     }
 }
 

@@ -24,6 +24,15 @@ int main(void)
     expect("run refused", run.number, 9);
     run = cascade_run(2, toffoli, 3, 0);
     expect("run no gate", run.number, 7);
+    const struct cascade_gate records[2] = {{3, 0, 2}, {1, 2, 0}};
+    run = cascade_run_records(3, records, 1, 3);
+    expect("run records number", run.number, 0);
+    expect("run records state", run.state, 7);
+    run = cascade_run_records(3, records, 2, 3);
+    expect("run records no gate", run.number, 7);
+    expect("run records place", run.place, 1);
+    run = cascade_run_records(3, records, 0, 8);
+    expect("run records refused", run.number, 9);
     struct cascade_count_answer inverse = cascade_inverse(2, two, 6, out, 7);
     expect("inverse number", inverse.number, 0);
     expect("inverse gates", inverse.gates, 2);

@@ -220,6 +220,23 @@ pub fn run(n: u64, words: &[u64], state: u64) -> Result<u64, Refusal> {
     Ok(state)
 }
 
+/// The same of a list of gate records, which has no word count: 2, 6, 7, 9.
+pub fn run_records(n: u64, gates: &[Gate], state: u64) -> Result<u64, Refusal> {
+    if bad_line_count(n) {
+        return refuse(2, 0);
+    }
+    if gates.len() > CASCADE_GATES {
+        return refuse(6, 0);
+    }
+    if let Some(index) = gates.iter().position(|gate| !gate.valid(n)) {
+        return refuse(7, index as u64);
+    }
+    if bad_state(n, state) {
+        return refuse(9, 0);
+    }
+    Ok(gates.iter().fold(state, |state, gate| gate.apply(state)))
+}
+
 // ---- inverse
 
 /// The gate count; the gates in reverse order are at the buffer's start.

@@ -1,6 +1,6 @@
-//! cascade_run.
+//! cascade_run, and cascade_run_records on the same gates.
 
-use crate::capi::{self, RunAnswer};
+use crate::capi::{self, Gate, RunAnswer};
 use crate::classes;
 use crate::expected;
 use crate::harness::{compare, compare_buffer, Buffer, Counts};
@@ -18,6 +18,13 @@ const CLASSES: &[&str] = &[
     "served: one negative control alone is not met",
     "9: state 2^n",
     "9: n = 63, state 2^63",
+    "records: served",
+    "records: 2",
+    "records: 6",
+    "records: 7",
+    "records: 9",
+    "records: 1,024 gates served",
+    "records: 1,025 gates",
 ];
 
 /// What the call is given. With `dangling`, an empty slice has a dangling pointer.
@@ -33,7 +40,7 @@ pub fn section(random: &mut Random) -> Counts {
     let mut counts = Counts::new("cascade_run");
     counts.require_refusals(&[2, 11, 6, 7, 9]);
     counts.require(classes::CASCADE);
-    classes::require_pointers(&mut counts, &["words"]);
+    classes::require_pointers(&mut counts, &["words", "records"]);
     counts.require(CLASSES);
     inputs::each_edge(random, CASCADE_GATES, &mut |cascade| {
         for state in inputs::edge_states(cascade.lines) {
@@ -62,6 +69,11 @@ pub fn call(lines: u64, words: &mut Buffer<u64>, state: u64) -> RunAnswer {
     unsafe { capi::cascade_run(lines, words.pointer(), words.len(), state) }
 }
 
+/// The same for gate records.
+fn call_records(lines: u64, gates: &mut Buffer<Gate>, state: u64) -> RunAnswer {
+    unsafe { capi::cascade_run_records(lines, gates.pointer(), gates.len(), state) }
+}
+
 fn check(case: &Case, counts: &mut Counts) {
     let mut words = Buffer::placed(&case.words, case.dangling);
     let library = call(case.lines, &mut words, case.state);
@@ -69,6 +81,34 @@ fn check(case: &Case, counts: &mut Counts) {
     compare(case, "cascade_run: answer", library, reference);
     compare_buffer(case, "cascade_run: words", &words, &case.words);
     count(case, reference.number, counts);
+    check_records(case, counts);
+}
+
+/// The whole gates of the words as records.
+fn check_records(case: &Case, counts: &mut Counts) {
+    let gates = reference::gates_of(&case.words);
+    let records: Vec<Gate> = gates.iter().map(record).collect();
+    let mut buffer = Buffer::placed(&records, case.dangling);
+    let library = call_records(case.lines, &mut buffer, case.state);
+    let reference = expected::run_answer(reference::run_records(case.lines, &gates, case.state));
+    compare(case, "cascade_run_records: answer", library, reference);
+    compare_buffer(case, "cascade_run_records: gates", &buffer, &records);
+    classes::count_pointer(counts, "records", &records, case.dangling);
+    match reference.number {
+        0 => counts.add("records: served"),
+        number => counts.add(&format!("records: {number}")),
+    }
+    let served = reference.number == 0;
+    counts.add_if(served && gates.len() == 1024, "records: 1,024 gates served");
+    counts.add_if(gates.len() == 1025, "records: 1,025 gates");
+}
+
+fn record(gate: &reference::Gate) -> Gate {
+    Gate {
+        positive: gate.positive,
+        negative: gate.negative,
+        target: gate.target,
+    }
 }
 
 fn count(case: &Case, number: u64, counts: &mut Counts) {

@@ -12,7 +12,7 @@ use Rattle.circuit.specs.declared.gate.Gate.{Gate}
 use Rattle.circuit.specs.Gate.{maxLines, maxGates, notGate, valid, fires, apply, controlCount, controlsOf, allMet}
 use Rattle.circuit.specs.Outcome.{served, refused}
 use Rattle.circuit.specs.Words.{gatesOf, wordsOf, allValid, checkOutcome, Cascade, WordsFault, Counts, pairOutcome, PairFault}
-use Rattle.circuit.specs.Run.{run, Equal, Differs}
+use Rattle.circuit.specs.Run.{run, Equal, Differs, runOutcome, recordsOutcome}
 use Rattle.circuit.specs.Inverse.{inverse}
 
 -- every positive control is 1 and every negative one 0, line by line
@@ -62,6 +62,8 @@ pub record CascadeLaws : Type 0 where
   -- a run of two cascades in a row, and its bound
   pub run-append : (a b : List Gate) (s : ℕ) → run (a ++ b) s ≡ run b (run a s)
   pub run-below : (n : ℕ) (gs : List Gate) → allValid n gs ≡ true → (s : ℕ) → s < 2 ^ n → run gs s < 2 ^ n
+  -- a run over gate records has the outcome of the run on their words
+  pub records-words : (n : ℕ) (gs : List Gate) (s : ℕ) → recordsOutcome n gs s ≡ runOutcome n (wordsOf gs) s
   -- the inverse undoes the run, both ways
   pub run-inverse : (gs : List Gate) (s : ℕ) → run (inverse gs) (run gs s) ≡ s
   pub inverse-run : (gs : List Gate) (s : ℕ) → run gs (run (inverse gs) s) ≡ s

@@ -1,9 +1,12 @@
 -- For the contracts of the functions that read at a position of a text: what stands there, and their answers as outcomes.
+use mathlib.Core.Path.{_≡_}
 use mathlib.Core.Bool.{Bool, true, false, not, cond, _&&_, _||_}
 use mathlib.Core.List.{List, [], _∷_}
-use Prim.Native.Nat.{ℕ, _+_, _^_}
+use Prim.Native.Nat.{ℕ, _+_, _*_, _^_, _≤_}
 use lib.Dec.{eqb, leb}
 use lib.Bits.{bitOr}
+use lib.ListN.{length}
+use Rattle.bits.specs.Lists.{over}
 use Rattle.circuit.specs.declared.gate.Gate.{Gate}
 use Rattle.files.specs.declared.file.scan.Seen.{Seen}
 use Rattle.files.specs.declared.file.scan.LineAnswer.{LineAnswer}
@@ -16,8 +19,9 @@ use Rattle.files.specs.declared.file.scan.HeaderAnswer.{HeaderAnswer}
 use Rattle.files.specs.declared.file.scan.HeaderAnswer.the-variants as header
 use Rattle.circuit.specs.Gate.{Control}
 use Rattle.circuit.specs.Outcome.{Outcome, served, refused, andThen}
+use Rattle.circuit.specs.Words.{wordsOf}
 use Rattle.files.specs.Text.{tab, lineFeed}
-use Rattle.files.specs.File.{Line, firstLine, linesOf, size, fieldsOf, controlsFrom, closedGate, gateOn, headerOn}
+use Rattle.files.specs.File.{Line, firstLine, linesOf, size, fieldsOf, controlsFrom, closedGate, gateOn, headerOn, Reading, ReadCounts, countsOf}
 
 -- a byte that ends a field
 abbrev pub isStop : ℕ → Bool
@@ -102,3 +106,8 @@ ofGate (gate.Refused r) = refused (r .number) (r .place)
 abbrev pub ofHeader : HeaderAnswer → Outcome HeaderNext
 ofHeader (header.Lines n next) = served (record { lines = n; next = next })
 ofHeader (header.Refused r) = refused (r .number) (r .place)
+
+-- what a walk over the gate lines owes: the counts of the reading, and its gates' words at the buffer's start where all of them fit
+pub record Walks (told : Outcome ReadCounts) (last : List ℕ) (read : Outcome Reading) (first : List ℕ) : Type 0 where
+  pub answer : told ≡ andThen read (λ c. served (countsOf c))
+  pub buffer : (c : Reading) → read ≡ served c → 3 * length (c .gates) ≤ length first → last ≡ over (wordsOf (c .gates)) first

@@ -8,15 +8,16 @@ use circuit::words::CountAnswer;
 ghost use mathlib.Core.Path.{_≡_};
 ghost use mathlib.Core.Bool.{true};
 ghost use mathlib.Core.List.{[], _++_};
-ghost use Prim.Native.Nat.{_*_, _/_, _<_, _≤_};
-ghost use lib.ListN.{length, drop};
+ghost use Prim.Native.Nat.{_+_, _*_, _/_, _<_, _≤_};
+ghost use lib.ListN.{length, take, drop};
 ghost use Rattle.bits.specs.Lists.{over};
 ghost use Rattle.circuit.specs.Gate.{maxLines, maxGates};
 ghost use Rattle.circuit.specs.Outcome.{Yields, served, andThen};
-ghost use Rattle.circuit.specs.Words.{gatesOf, wordsOf, allValid};
+ghost use Rattle.circuit.specs.Words.{gatesOf, gateWords, wordsOf, allValid};
 ghost use Rattle.files.specs.Text.{gateLines, endLine, textOf};
 ghost use Rattle.files.specs.Put.{Put, TwoDigits};
-ghost use Rattle.files.specs.File.{linesOf, readFrom, countsOf, gatesRead, readOutcome, readBuffer, ofRead, writeOutcome, writeBuffer, ofWrite};
+ghost use Rattle.files.specs.Scan.{Walks};
+ghost use Rattle.files.specs.File.{linesOf, readFrom, readOutcome, readBuffer, ofRead, writeOutcome, writeBuffer, ofWrite};
 
 pub mod put;
 pub mod scan;
@@ -42,10 +43,21 @@ pub enum WriteAnswer {
     Refused(Refusal),
 }
 
-// The counts of a cascade on n lines whose gate lines start at a position; else 1, 3, 4, 5 or 6 by line. Nothing is written.
-fn judge(text: &[u8], n: u64, start: usize) -> ReadAnswer
+// Writes gate i where its words fit.
+fn store_at(out: &mut [u64], i: usize, g: Gate)
+    requires { ⌜ i ≤ maxGates ⌝ }
+    ensures { λ _. ⌜ (3 * i + 3 ≤ length (now (out .entry)) → now (out .exit) ≡ take (3 * i) (now (out .entry)) ++ over (gateWords g) (drop (3 * i) (now (out .entry)))) ⌝ }
+{
+    let to = Gate::WORDS * i;
+    if to < out.len() {
+        circuit::words::put_gate(&mut out[to..], g);
+    }
+}
+
+// The counts of a cascade on n lines whose gate lines start at a position, and its gates' words at the buffer's start where all of them fit; else 1, 3, 4, 5 or 6 by line.
+fn walk(text: &[u8], n: u64, start: usize, out: &mut [u64]) -> ReadAnswer
     requires { ⌜ (start ≤ length (now text)) × (n ≤ maxLines) ⌝ }
-    ensures { λ r. ⌜ ofRead r ≡ andThen (readFrom n [] start (linesOf (drop start (now (text .entry))))) (λ c. served (countsOf c)) ⌝ }
+    ensures { λ r. ⌜ Walks (ofRead r) (now (out .exit)) (readFrom n [] start (linesOf (drop start (now (text .entry))))) (now (out .entry)) ⌝ }
 {
     let mut at = start;
     let mut gates = 0;
@@ -54,7 +66,8 @@ fn judge(text: &[u8], n: u64, start: usize) -> ReadAnswer
             GateAnswer::Refused(why) => {
                 return ReadAnswer::Refused(why);
             }
-            GateAnswer::Gate { gate: _, next } => {
+            GateAnswer::Gate { gate, next } => {
+                store_at(out, gates, gate);
                 at = next;
                 gates += 1;
             }
@@ -67,50 +80,23 @@ fn judge(text: &[u8], n: u64, start: usize) -> ReadAnswer
     }
 }
 
-// Writes the gates of a text that was judged good at the buffer's start.
-fn fill(text: &[u8], n: u64, start: usize, gates: usize, out: &mut [u64])
-    requires { ⌜ (start ≤ length (now text)) × (n ≤ maxLines) × (3 * gates ≤ length (now out)) × (andThen (readFrom n [] start (linesOf (drop start (now text)))) (λ c. served (length (c .gates))) ≡ served gates) ⌝ }
-    ensures { λ _. ⌜ now (out .exit) ≡ over (wordsOf (gatesRead (readFrom n [] start (linesOf (drop start (now (text .entry))))))) (now (out .entry)) ⌝ }
-{
-    let mut at = start;
-    let mut i = 0;
-    while i < gates {
-        match crate::file::scan::gate_line(text, at, n, i as u64 + 1) {
-            GateAnswer::Refused(_) => {
-                return;
-            }
-            GateAnswer::Gate { gate, next } => {
-                let to = Gate::WORDS * i;
-                circuit::words::put_gate(&mut out[to..], gate);
-                at = next;
-                i += 1;
-            }
-        }
-    }
-}
-
-// The cascade at the start of a text, its words at the buffer's start; else 1 to 6 by line, or 10.
+// The cascade at the start of a text, its words at the buffer's start; else 1 to 6 by line, or 10. The first walk writes nothing.
 pub fn read(text: &[u8], out: &mut [u64]) -> ReadAnswer
     ensures { λ r. ⌜ Yields (ofRead r) (now (out .exit)) (readOutcome (now (text .entry)) (length (now (out .entry)))) (readBuffer (now (text .entry)) (now (out .entry))) ⌝ }
 {
     match crate::file::scan::header(text) {
         HeaderAnswer::Refused(why) => ReadAnswer::Refused(why),
-        HeaderAnswer::Lines { lines, next } => match judge(text, lines, next) {
+        HeaderAnswer::Lines { lines, next } => match walk(text, lines, next, &mut out[0..0]) {
             ReadAnswer::Refused(why) => ReadAnswer::Refused(why),
             ReadAnswer::Cascade {
-                header,
+                header: _,
                 gates,
-                taken,
+                taken: _,
             } => {
                 if out.len() / Gate::WORDS < gates {
                     return ReadAnswer::Refused(Refusal::no_room());
                 }
-                fill(text, lines, next, gates, out);
-                ReadAnswer::Cascade {
-                    header,
-                    gates,
-                    taken,
-                }
+                walk(text, lines, next, out)
             }
         },
     }

@@ -1,6 +1,5 @@
 -- What the one-gate emitter writes for a gate with no control, with one, and with more. Assumes nothing.
-use mathlib.Core.Path.{_≡_, refl, sym, ap, ap₂, _∙_, subst}
-use mathlib.Core.Bool.{Bool, true, false, cond, _||_}
+use mathlib.Core.Path.{_≡_, refl, sym, ap, _∙_, subst}
 use mathlib.Core.Logic.{⊎-elim}
 use mathlib.Core.List.{List, [], _∷_, map, map-map}
 use Prim.Native.Nat.{ℕ, zero, suc, _+_, _*_, _-_, _^_, _≤_, _<_}
@@ -11,18 +10,17 @@ use lib.Bits.{bitAnd, bitOr, or-lt}
 use lib.Count.{trailingZeros}
 use lib.IntN.{ℤ, pos}
 use lib.ListN.{length, length-map}
-use Rattle.bits.specs.Digits.{bit, linesIn}
-use Rattle.bits.proofs.Digits.{bit-or}
+use Rattle.bits.specs.Digits.{linesIn}
 use Rattle.bits.proofs.Lowest.{lines-none, lines-lowest, lowest-below}
 use Rattle.circuit.specs.declared.gate.Gate.{Gate}
-use Rattle.circuit.specs.Gate.{maxLines, controlCount, Control, controlAt, controlsBelow, controlsOf}
+use Rattle.circuit.specs.Gate.{maxLines, controlCount, Control, controlsBelow, controlsOf}
 use Rattle.circuit.proofs.gate.Laws.{valid-facts, valid-more}
 use Rattle.circuit.proofs.gate.Controls.{controlOn, controls-count, controls-lines, controls-below}
 use Rattle.checking.specs.declared.clauses.Totals.{Totals}
 use Rattle.checking.specs.Clauses.{plus, minus, literalOf, gateClauses, manyClauses}
 use Rattle.checking.specs.Stored.{stored, wordLimit}
 use Rattle.checking.specs.Sizes.{gateSizes}
-use Rattle.checking.specs.Emitter.{literalWord, byLine, literalAt, literalsIn, gateStored, manyStored, Many, Ready}
+use Rattle.checking.specs.Emitter.{byLine, literalAt, literalsIn, gateStored, manyStored, Many, Ready}
 use Rattle.checking.proofs.clauses.Sums.{many-words}
 use Rattle.checking.proofs.clauses.Loop.{sizes-many}
 

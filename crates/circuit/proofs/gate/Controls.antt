@@ -1,13 +1,11 @@
 -- The laws of the list of controls: it decides whether a gate fires, and has as many as the control count. Assumes nothing.
 use mathlib.Core.Path.{_≡_, refl, sym, ap, ap₂, _∙_}
 use mathlib.Core.Bool.{Bool, true, false, not, cond, _&&_, _||_, false≢true, true≢false}
-use mathlib.Core.Logic.{⊎-elim}
 use mathlib.Core.List.{List, [], _∷_, _++_, map, map-append, append-nil}
 use Prim.Native.Nat.{ℕ, zero, suc, _+_, _<_, _≤_}
 use native.Mathlib.Decide.{le-ind}
 use native.Mathlib.Omega.{arith}
 use lib.Bits.{bitOr}
-use lib.Count.{ones}
 use lib.Dec.{ltb}
 use lib.ListN.{length, length-append}
 use borrow.Author.Tests.{not-true, ltb-true, ltb-false}
@@ -16,7 +14,6 @@ use Rattle.bits.proofs.Bools.{and-parts, both, either, same-test}
 use Rattle.bits.proofs.Digits.{bit-or, bit-above, lines-ones}
 use Rattle.circuit.specs.declared.gate.Gate.{Gate}
 use Rattle.circuit.specs.Gate.{maxLines, valid, fires, controlCount, Control, controlAt, controlsBelow, controlsOf, met, allMet}
-use Rattle.circuit.specs.Laws.{FiresByLines}
 use Rattle.circuit.proofs.gate.Laws.{Valid, valid-facts, valid-apart, fires-lines, lines-fires}
 
 pub met-append : (s : ℕ) (xs ys : List Control) → allMet s (xs ++ ys) ≡ (allMet s xs && allMet s ys)

@@ -3,6 +3,7 @@ use Rattle.circuit.proofs.gate.Laws.{fires-lines, lines-fires, valid-by
 use Rattle.circuit.proofs.gate.Controls.{controls-count, controls-fire}
 use Rattle.circuit.proofs.words.Laws.{gates-words, words-gates, check-served, served-check, check-refused, refused-check, pair-served, served-pair, pair-refused, refused-pair}
 use Rattle.circuit.proofs.run.Laws.{run-append, run-below, equal-differs}
+use Rattle.circuit.proofs.run.Records.{records-words}
 use Rattle.circuit.proofs.inverse.Laws.{run-inverse, inverse-run, inverse-append, inverse-twice, inverse-valid}
 use Rattle.circuit.proofs.laws.Statement.{statement}
 use Rattle.circuit.proofs.laws.Tie as tie
@@ -37,6 +38,7 @@ returns c =
           record {
             run-append = run-append;
             run-below = run-below;
+            records-words = records-words;
             run-inverse = run-inverse;
             inverse-run = inverse-run;
             inverse-append = inverse-append;

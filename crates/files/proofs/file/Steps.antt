@@ -1,27 +1,26 @@
 -- A reading as the code takes it: one line of the two loops over lines, the header, and what the call owes. Assumes nothing.
 use mathlib.Core.Path.{_≡_, refl, sym, ap, ap₂, _∙_}
 use mathlib.Core.Bool.{true, false, false≢true}
-use mathlib.Core.List.{List, [], _∷_, _++_, append-nil}
+use mathlib.Core.List.{List, [], _∷_, _++_}
 use Prim.Native.Nat.{ℕ, _+_, _-_, _*_, _≤_, _<_}
 use native.Mathlib.Omega.{arith}
-use lib.ListN.{length, take, drop, length-take, length-drop, length-append}
+use lib.ListN.{length, take, drop, length-drop, length-append}
 use lib.Seq.{drop-drop}
-use borrow.Rule.Slice.PartMut.{putMid, same-len-mid}
 use Rattle.bits.specs.Lists.{over}
-use Rattle.bits.proofs.Bools.{and-parts, cond-true, cond-false, not-held}
-use Rattle.bits.proofs.Lists.{lent-over}
+use Rattle.bits.proofs.Bools.{and-parts, cond-true, cond-false}
+use Rattle.bits.proofs.Lists.{over-more}
 use Rattle.circuit.specs.declared.gate.Gate.{Gate}
 use Rattle.circuit.specs.Gate.{maxLines, maxGates}
 use Rattle.circuit.specs.Outcome.{Outcome, served, refused, andThen, written, Yields}
 use Rattle.circuit.specs.Refusal.{wrongForm}
 use Rattle.files.specs.Text.{lineFeed, endWord}
 use Rattle.files.specs.File.{Line, noLine, firstLine, laterLines, linesOf, size, fieldsOf, same, gateFields, gateOn, headerOn, isEnd, Reading, readFrom, reading, ReadCounts, countsOf, gatesRead, readOutcome, readBuffer}
-use Rattle.circuit.specs.Words.{gateWords, wordsOf, putGate}
-use Rattle.files.specs.Scan.{lineAt, GateNext, gateNext, HeaderNext, headerNext}
+use Rattle.circuit.specs.Words.{gateWords, wordsOf}
+use Rattle.files.specs.Scan.{lineAt, GateNext, gateNext, HeaderNext, headerNext, Walks}
 use Rattle.circuit.proofs.Outcome.{never, then-served, then-refused, then-both, told}
-use Rattle.circuit.proofs.words.Laws.{words-append, words-length, put-fits}
-use Rattle.files.proofs.file.Lines.{Cut, cut-first, same-true}
-use Rattle.files.proofs.file.Offences.{GateFound, gate-found, HeaderFound, header-found, Walked, whole-text, stopped, walked}
+use Rattle.circuit.proofs.words.Laws.{words-append, words-length}
+use Rattle.files.proofs.file.Lines.{cut-first, same-true}
+use Rattle.files.proofs.file.Offences.{GateFound, gate-found, HeaderFound, header-found}
 
 -- a gate line that was read
 pub record Stepped (n : ℕ) (text : List ℕ) (gs : List Gate) (at : ℕ) (g : Gate) (next : ℕ) : Type 0 where
@@ -121,27 +120,6 @@ module _ (n : ℕ) (lines-high : n ≤ maxLines) (text : List ℕ) (gs : List Ga
           cond-true (isEnd l) _ _ (sym (ap (λ (x : List Line). isEnd (firstLine x)) q) ∙ z)
           ∙ ap (λ (x : List Line). served (record { lines = n; gates = gs; taken = at + size (firstLine x) })) (sym q)
 
-  -- a reading that has no gate left
-  pub step-all : (c : Reading) → length gs ≤ maxGates → readFrom n gs at (linesOf (drop at text)) ≡ served c → length (c .gates) ≡ length gs → c .gates ≡ gs
-  step-all c few e k =
-      go (readFrom n gs at (linesOf (drop at text))) (walked n lines-high (linesOf (drop at text)) gs at (drop at text) refl few) e
-    where
-      none : (hs : List Gate) → length hs ≡ 0 → gs ++ hs ≡ gs
-      none [] z = append-nil gs
-      none (h ∷ hs) z = absurd (omega arith)
-
-      go : (o : Outcome Reading) → Walked n gs at (drop at text) o → o ≡ served c → c .gates ≡ gs
-      go o (whole-text hs rest q w m) f =
-          let x : record { lines = n; gates = gs ++ hs; taken = _ } ≡ c = unserved f in
-          let y : gs ++ hs ≡ c .gates = ap (λ (r : Reading). r .gates) x in
-          let z : length (gs ++ hs) ≡ length gs + length hs = length-append gs hs in
-          let u : length (gs ++ hs) ≡ length (c .gates) = ap length y in
-          sym y ∙ none hs (omega arith)
-        where
-          unserved : {a b : Reading} → _≡_ {A = Outcome Reading} (served a) (served b) → a ≡ b
-          unserved e = cc
-      go o (stopped hs rest q w m number x) f = absurd (never f refl)
-
 -- ---- what the loop that judges keeps: the gates up to `at`, and that what is left from there decides
 
 pub record Judging (n : ℕ) (text : List ℕ) (start at gates : ℕ) : Type 0 where
@@ -180,83 +158,57 @@ module _ (n : ℕ) (text : List ℕ) (start at gates : ℕ) (j : Judging n text 
       → (readFrom n [] start (linesOf (drop start text)) ≡ served (record { lines = n; gates = j .passed; taken = at + 4 })) × (at + 4 ≤ length text)
   judging-end z = let (e, h) = step-end n (j .high) text (j .passed) at (j .inside) z in (j .left ∙ e, h)
 
--- ---- what the loop that fills keeps besides: the words of those gates stand at the buffer's start
+-- ---- and besides, the words of those gates stand at the buffer's start, where they fit
 
-abbrev pub countRead : Outcome Reading → Outcome ℕ
-countRead o = andThen o (λ c. served (length (c .gates)))
-
-pub record Filling (n : ℕ) (text : List ℕ) (start gates : ℕ) (first : List ℕ) (at i : ℕ) (out : List ℕ) : Type 0 where
+pub record Walking (n : ℕ) (text : List ℕ) (start : ℕ) (first : List ℕ) (at i : ℕ) (out : List ℕ) : Type 0 where
   pub judging : Judging n text start at i
-  pub within : i ≤ gates
-  pub room : 3 * gates ≤ length out
   pub same-length : length out ≡ length first
-  pub put : out ≡ over (wordsOf (judging .passed)) first
-  pub counted : countRead (readFrom n [] start (linesOf (drop start text))) ≡ served gates
+  pub put : 3 * i ≤ length first → out ≡ over (wordsOf (judging .passed)) first
 
-pub filling-start : (n : ℕ) (text : List ℕ) (start gates : ℕ) (out : List ℕ) → n ≤ maxLines → start ≤ length text → 3 * gates ≤ length out
-    → countRead (readFrom n [] start (linesOf (drop start text))) ≡ served gates → Filling n text start gates out start 0 out
+pub walking-start : (n : ℕ) (text : List ℕ) (start : ℕ) (out : List ℕ) → n ≤ maxLines → start ≤ length text → Walking n text start out start 0 out
 unfolding wordsOf judging-start
-filling-start n text start gates out h i r c =
-    record { judging = judging-start n text start h i; within = omega arith; room = r; same-length = refl; put = refl; counted = c }
+walking-start n text start out h i = record { judging = judging-start n text start h i; same-length = refl; put = λ r. refl }
 
-module _ (n : ℕ) (text : List ℕ) (start gates : ℕ) (first : List ℕ) (at i : ℕ) (out : List ℕ) (f : Filling n text start gates first at i out) where
-  -- a gate is left, so the line is not `end`
-  pub filling-open : i < gates → isEnd (lineAt (drop at text)) ≡ false
-  filling-open h =
-      not-held (isEnd (lineAt (drop at text))) (λ z.
-      let (e, k) = judging-end n text start at i (f .judging) z in
-      let q : _≡_ {A = Outcome ℕ} (served (length (f .judging .passed))) (served gates) = sym (ap countRead e) ∙ f .counted in
-      let x : length (f .judging .passed) ≡ gates = cc in
-      let y = f .judging .count in
-      omega arith)
-
-  -- and it is a gate line
-  pub filling-gate : (number p : ℕ) → i < gates → gateNext n (i + 1) at (drop at text) ≡ refused number p → ⊥
-  filling-gate number p h e =
-      never (f .counted) (ap countRead (judging-refused n text start at i (f .judging) (filling-open h) number p e))
-
-  module _ (h : i < gates) (g : Gate) (next : ℕ) (read : gateNext n (i + 1) at (drop at text) ≡ served (record { gate = g; next = next })) where
-    pub filling-turn : (last : List ℕ) → last ≡ putGate g (take (length out - 3 * i) (drop (3 * i) out)) → length last ≡ length (take (length out - 3 * i) (drop (3 * i) out))
-        → Filling n text start gates first next (i + 1) (putMid (3 * i) (length out - 3 * i) out last)
-    unfolding judging-turn
-    filling-turn last e l =
-        let j = f .judging in
-        let r = f .room in
-        let c = j .count in
-        let w = words-length (j .passed) in
-        let fits : 3 ≤ length (take (length out - 3 * i) (drop (3 * i) out)) = omega (arith, length-take (length out - 3 * i) (drop (3 * i) out), length-drop (3 * i) out) in
-        let s : length (putMid (3 * i) (length out - 3 * i) out last) ≡ length out = same-len-mid (3 * i) (length out - 3 * i) out last l in
-        record {
-          judging = judging-turn n text start at i j (filling-open h) g next read;
-          within = omega arith;
-          room = omega arith;
-          same-length = s ∙ f .same-length;
-          put =
-              lent-over (wordsOf (j .passed)) (gateWords g) first out last (3 * i) (f .put) (omega arith) (omega arith) (e ∙ put-fits g (take (length out - 3 * i) (drop (3 * i) out)) fits)
-              ∙ ap (λ (x : List ℕ). over x first) (sym (words-push (j .passed) g));
-          counted = f .counted;
-        }
-      where
-        words-push : (gs : List Gate) (g : Gate) → wordsOf (gs ++ (g ∷ [])) ≡ wordsOf gs ++ gateWords g
-        words-push gs g = words-append gs (g ∷ []) ∙ ap (λ (x : List ℕ). wordsOf gs ++ x) (one g)
-          where
-            one : (g : Gate) → wordsOf (g ∷ []) ≡ gateWords g
-            one g = unfold wordsOf in refl
-
-  -- all gates were put
-  pub filling-done : gates ≤ i → out ≡ over (wordsOf (gatesRead (readFrom n [] start (linesOf (drop start text))))) first
-  filling-done h = f .put ∙ ap (λ (gs : List Gate). over (wordsOf gs) first) (all (readFrom n [] start (linesOf (drop start text))) refl)
+module _ (n : ℕ) (text : List ℕ) (start : ℕ) (first : List ℕ) (at i : ℕ) (out : List ℕ) (w : Walking n text start first at i out) where
+  pub walking-turn : isEnd (lineAt (drop at text)) ≡ false → (g : Gate) (next : ℕ) → gateNext n (i + 1) at (drop at text) ≡ served (record { gate = g; next = next })
+      → (last : List ℕ) → length last ≡ length out → (3 * i + 3 ≤ length out → last ≡ take (3 * i) out ++ over (gateWords g) (drop (3 * i) out))
+      → Walking n text start first next (i + 1) last
+  unfolding judging-turn
+  walking-turn open-line g next read last long stores =
+      let j = w .judging in
+      record {
+        judging = judging-turn n text start at i j open-line g next read;
+        same-length = long ∙ w .same-length;
+        put = λ r.
+            stores (omega (arith, w .same-length))
+            ∙ ap (λ (o : List ℕ). take (3 * i) o ++ over (gateWords g) (drop (3 * i) o)) (w .put (omega arith))
+            ∙ over-more (wordsOf (j .passed)) (gateWords g) first (3 * i) (omega (arith, words-length (j .passed), j .count))
+            ∙ ap (λ (x : List ℕ). over x first) (sym (words-push (j .passed) g));
+      }
     where
-      all : (o : Outcome Reading) → readFrom n [] start (linesOf (drop start text)) ≡ o → f .judging .passed ≡ gatesRead (readFrom n [] start (linesOf (drop start text)))
-      all (refused number p) e = absurd (never (f .counted) (ap countRead e))
-      all (served c) e =
-          let j = f .judging in
-          let q : _≡_ {A = Outcome ℕ} (served (length (c .gates))) (served gates) = sym (ap countRead e) ∙ f .counted in
-          let x : length (c .gates) ≡ gates = cc in
-          let y = j .count in
-          let w = f .within in
-          let m = j .few in
-          sym (ap gatesRead e ∙ step-all n (j .high) text (j .passed) at (j .inside) c (omega arith) (sym (j .left) ∙ e) (omega arith))
+      words-push : (gs : List Gate) (g : Gate) → wordsOf (gs ++ (g ∷ [])) ≡ wordsOf gs ++ gateWords g
+      words-push gs g = words-append gs (g ∷ []) ∙ ap (λ (x : List ℕ). wordsOf gs ++ x) (one g)
+        where
+          one : (g : Gate) → wordsOf (g ∷ []) ≡ gateWords g
+          one g = unfold wordsOf in refl
+
+  pub walking-refused : isEnd (lineAt (drop at text)) ≡ false → (number p : ℕ) → gateNext n (i + 1) at (drop at text) ≡ refused number p
+      → Walks (refused number p) out (readFrom n [] start (linesOf (drop start text))) first
+  walking-refused open-line number p e =
+      let r = judging-refused n text start at i (w .judging) open-line number p e in
+      record { answer = sym (then-refused _ _ _ _ r); buffer = λ c q h. absurd (never q r) }
+
+  pub walking-end : isEnd (lineAt (drop at text)) ≡ true
+      → Walks (served (record { lines = n; gates = i; taken = at + 4 })) out (readFrom n [] start (linesOf (drop start text))) first
+  walking-end z =
+      let j = w .judging in
+      let e = judging-end n text start at i j z .0 in
+      record {
+        answer = sym (then-served _ _ _ e ∙ ap (λ (k : ℕ). served (record { lines = n; gates = k; taken = at + 4 })) (j .count));
+        buffer = λ c q h.
+            let x : j .passed ≡ c .gates = ap gatesRead (sym e ∙ q) in
+            w .put (omega (arith, j .count, ap length x)) ∙ ap (λ (gs : List Gate). over (wordsOf gs) first) x;
+      }
 
 -- ---- a text from its header on
 

@@ -5,7 +5,7 @@ use lib.ListN.{length}
 use borrow.Author.Needs.{needs}
 use Rattle.circuit.specs.Words.{gatesOf}
 use Rattle.files.specs.Text.{headerLine, gateLines, endLine}
-use Rattle.files.proofs.file.put.Laws.{Written, written-first, written-more, written-put, room-after, rest-room}
+use Rattle.files.proofs.file.put.Laws.{written-first, written-more, written-put, room-after, rest-room}
 use Rattle.files.proofs.file.Writes.{text-parts}
 use Rattle.files.proofs.file.put_text.Statement.{statement}
 use Rattle.files.proofs.file.put_text.Tie as tie
