@@ -2,7 +2,7 @@
 use mathlib.Core.Path.{_≡_, refl, sym, ap, ap₂, subst, _∙_}
 use mathlib.Core.Bool.{Bool, true, false}
 use mathlib.Core.List.{List, [], _++_, append-nil}
-use Prim.Native.Nat.{ℕ}
+use Prim.Native.Nat.{ℕ, _≤_}
 use native.Mathlib.Omega.{arith}
 use lib.Dec.{eqb, leb}
 use lib.ListN.{length, drop, take-append-drop}
@@ -30,20 +30,25 @@ use Rattle.text.proofs.Pairs.{listable}
 use Rattle.text.proofs.Reading.{text-back}
 use Rattle.text.proofs.list.Laws.{first-good, second-pair}
 
+-- ---- good files
+
+-- after a good first file comes the second one
+pub after-first : (input : List ℕ) (n : ℕ) (a : List Gate) (rest : List ℕ) → length input ≤ maxInput → FileCascade n a → input ≡ textOf n a ++ rest
+    → verdict input ≡ secondVerdict n a rest
+after-first input n a rest short good e =
+    first-good input short _ (ap reading e ∙ reader .text-read n a rest good)
+    ∙ ap (secondVerdict n a) (ap (drop (length (textOf n a))) e ∙ drop-append-seam (textOf n a) rest)
+
+-- and after a good second one, to its last byte, the pair
+pub after-second : (n : ℕ) (a : List Gate) (m : ℕ) (b : List Gate) → FileCascade m b → secondVerdict n a (textOf m b) ≡ pairVerdict n a m b
+after-second n a m b good =
+    second-pair n a (textOf m b) m (length (textOf m b)) b (ap reading (sym (append-nil (textOf m b))) ∙ reader .text-read m b [] good) refl
+
 -- ---- an input that fits
 
 module _ (input : List ℕ) (n : ℕ) (a b : List Gate) (f : Fitting input n a b) where
   abbrev gs : List Gate
   gs = miterGates a b
-
-  fitting-first : reading input ≡ served (record { lines = n; gates = a; taken = length (textOf n a) })
-  fitting-first = ap reading (f .files) ∙ reader .text-read n a (textOf n b) (f .first)
-
-  fitting-rest : drop (length (textOf n a)) input ≡ textOf n b
-  fitting-rest = ap (drop (length (textOf n a))) (f .files) ∙ drop-append-seam (textOf n a) (textOf n b)
-
-  fitting-second : reading (textOf n b) ≡ served (record { lines = n; gates = b; taken = length (textOf n b) })
-  fitting-second = ap reading (sym (append-nil (textOf n b))) ∙ reader .text-read n b [] (f .second)
 
   fitting-pair : pairVerdict n a n b ≡ listed (variablesOf n gs) (clausesOf n gs)
   unfolding pairVerdict listVerdict
@@ -53,10 +58,7 @@ module _ (input : List ℕ) (n : ℕ) (a b : List Gate) (f : Fitting input n a b
 
   pub fitting-verdict : verdict input ≡ listed (variablesOf n gs) (clausesOf n gs)
   fitting-verdict =
-      first-good input (f .bytes) _ fitting-first
-      ∙ ap (secondVerdict n a) fitting-rest
-      ∙ second-pair n a (textOf n b) n (length (textOf n b)) b fitting-second refl
-      ∙ fitting-pair
+      after-first input n a (textOf n b) (f .bytes) (f .first) (f .files) ∙ after-second n a n b (f .second) ∙ fitting-pair
 
   -- the clauses tell on which states the two cascades differ
   pub fitting-tells : Tells n (variablesOf n gs) (clausesOf n gs) (run a) (run b)
@@ -76,7 +78,7 @@ unfolding refusalText
 refusal-starts number file place e = let z : _≡_ {A = ℕ} 114 112 = cc in omega arith
 
 -- what a verdict that lists clauses says of the tests before it
-not-refused : {number file place v : ℕ} {cs : List Clause} → refusedAt number file place ≡ listed v cs → ⊥
+pub not-refused : {number file place v : ℕ} {cs : List Clause} → refusedAt number file place ≡ listed v cs → ⊥
 not-refused e = let z : _≡_ {A = ℕ} 0 1 = cc in omega arith
 
 passed : (test : Bool) (number file place : ℕ) (more : Verdict) (v : ℕ) (cs : List Clause) → unless test (refusedAt number file place) more ≡ listed v cs

@@ -1,14 +1,15 @@
 -- What is proved of the text that the program writes.
 use mathlib.Core.Path.{_≡_}
+use mathlib.Core.Logic.{_↔_}
 use mathlib.Core.List.{List, [], _∷_, _++_}
 use mathlib.Core.Option.{some}
-use Prim.Native.Nat.{ℕ, _≤_}
+use Prim.Native.Nat.{ℕ, _+_, _≤_, _<_}
 use lib.ListN.{length, take, drop}
 use Rattle.circuit.specs.declared.gate.Gate.{Gate}
 use Rattle.circuit.specs.Outcome.{served}
 use Rattle.circuit.specs.Run.{run}
 use Rattle.files.specs.Text.{textOf}
-use Rattle.files.specs.FileLaws.{FileCascade}
+use Rattle.files.specs.FileLaws.{FileCascade, FileFault}
 use Rattle.reduction.specs.Miter.{miterGates}
 use Rattle.checking.specs.Clauses.{Clause, OR, clausesOf}
 use Rattle.checking.specs.Stored.{stored}
@@ -28,6 +29,24 @@ pub record Fitting (input : List ℕ) (n : ℕ) (a b : List Gate) : Type 0 where
   pub files : input ≡ textOf n a ++ textOf n b
   pub bytes : length input ≤ maxInput
   pub words : length (stored (clausesOf n (miterGates a b))) ≤ maxWords
+
+-- what is wrong with an input, by number, file and place, where nothing of an earlier kind is
+pub data InputFault (input : List ℕ) : ℕ → ℕ → ℕ → Type 0 where
+  -- more than 65,536 bytes
+  too-long : maxInput < length input → InputFault input 10 0 0
+  -- the first file; the second one, after a first that is good
+  first-file : (number place : ℕ) → length input ≤ maxInput → FileFault input number place → InputFault input number 1 place
+  second-file : (n : ℕ) (a : List Gate) (rest : List ℕ) (number place : ℕ) → length input ≤ maxInput → FileCascade n a → input ≡ textOf n a ++ rest
+      → FileFault rest number place → InputFault input number 2 place
+  -- bytes after the second `end`: the lines of the second file are its header, its gates and `end`
+  after-end : (n : ℕ) (a : List Gate) (m : ℕ) (b : List Gate) (rest : List ℕ) → length input ≤ maxInput → FileCascade n a → FileCascade m b
+      → input ≡ textOf n a ++ (textOf m b ++ rest) → (rest ≡ [] → ⊥) → InputFault input 1 2 (length b + 2)
+  -- line counts that differ
+  lines-differ : (n : ℕ) (a : List Gate) (m : ℕ) (b : List Gate) → length input ≤ maxInput → FileCascade n a → FileCascade m b
+      → input ≡ textOf n a ++ textOf m b → (n ≡ m → ⊥) → InputFault input 8 0 0
+  -- a clause list of more than 16,384 words
+  list-long : (n : ℕ) (a b : List Gate) → length input ≤ maxInput → FileCascade n a → FileCascade n b
+      → input ≡ textOf n a ++ textOf n b → maxWords < length (stored (clausesOf n (miterGates a b))) → InputFault input 10 0 0
 
 -- what is read from the text tells on which states two cascades differ
 pub record TextTells (text : List ℕ) (n : ℕ) (a b : List Gate) : Type 0 where
@@ -65,6 +84,8 @@ pub record TextLaws : Type 0 where
       → dimacsRead (dimacsOf variables cs) ≡ some (record { variables = variables; count = length cs; clauses = cs })
   -- and only such a text is read
   pub read-text : (text : List ℕ) (d : Dimacs) → dimacsRead text ≡ some d → text ≡ headerText (d .variables) (d .count) ++ clausesText (d .clauses)
+  -- refused with a number, a file and a place exactly for what is wrong first
+  pub refused : (input : List ℕ) (number file place : ℕ) → (verdict input ≡ refusedAt number file place) ↔ InputFault input number file place
   pub program : ProgramLaws tomiterText
   -- the stand-ins do not have these laws, and neither has a program that refuses all
   pub contradiction-fails : ProgramLaws contradiction → ⊥

@@ -3,6 +3,7 @@ use Rattle.text.proofs.Reading.{text-back}
 use Rattle.text.proofs.Strict.{text-was}
 use Rattle.text.proofs.Sizes.{text-fits, room-enough}
 use Rattle.text.proofs.Telling.{program-laws}
+use Rattle.text.proofs.Faults.{refused-exactly}
 use Rattle.text.proofs.StandIns.{contradiction-fails, without-first-fails, refuses-all}
 use Rattle.text.proofs.Rows.{rows-hold}
 use Rattle.text.proofs.laws.Statement.{statement}
@@ -13,6 +14,7 @@ returns c =
     record {
       read-back = text-back;
       read-text = text-was;
+      refused = refused-exactly;
       program = program-laws;
       contradiction-fails = contradiction-fails;
       without-first-fails = without-first-fails;
