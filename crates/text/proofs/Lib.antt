@@ -1,0 +1,11 @@
+-- The laws of `specs/`: `Decimal` on numbers, `Reading` on a text that is read back, `Strict` on what a text is that is read, `Pairs` on the miter of two files, `Sizes` on how long a text is,
+-- `Telling` on what the program's text tells, `Faults` on what is refused, `StandIns` on other programs, `Rows` on the table of rows.
+pub mod Decimal
+pub mod Reading
+pub mod Strict
+pub mod Pairs
+pub mod Sizes
+pub mod Telling
+pub mod Faults
+pub mod StandIns
+pub mod Rows

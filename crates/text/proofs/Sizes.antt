@@ -1,0 +1,167 @@
+-- No text is longer than `maxText`. Assumes nothing.
+use mathlib.Core.Path.{_≡_, refl, sym, ap, subst}
+use mathlib.Core.List.{List, [], _∷_, _++_}
+use Prim.Native.Nat.{ℕ, zero, suc, _*_, _^_, _/_, _≤_, _<_}
+use native.Mathlib.Nat.{le-trans}
+use native.Mathlib.Omega.{arith}
+use lib.Dec.{eqb, leb, ltb}
+use lib.IntN.{ℤ, pos, negsuc}
+use lib.ListN.{length, drop, length-append}
+use borrow.Author.Tests.{eqb-true, leb-true, ltb-true, ltb-false}
+use Rattle.bits.proofs.Bools.{either, cond-true, cond-false}
+use Rattle.circuit.specs.declared.gate.Gate.{Gate}
+use Rattle.circuit.specs.Outcome.{Outcome, served, refused}
+use Rattle.files.specs.Text.{tab, lineFeed, digit}
+use Rattle.files.specs.File.{Line, Reading, reading}
+use Rattle.files.specs.FileLaws.{FileCascade, HeaderOffence, no-lines, no-number, outside, ControlsOffence, form, value, later, LineOffence, no-gate, many, target-form, target-value, controls, controlled, not-rising, FileFault, header-line, later-line}
+use Rattle.files.specs.FileLaws as laws
+use Rattle.files.proofs.file.Laws.{reader}
+use Rattle.reduction.specs.Miter.{miterGates}
+use Rattle.checking.specs.Clauses.{Clause, OR, XOR, clausesOf}
+use Rattle.checking.specs.Satisfaction.{size, LiteralsWithin, clauseLiterals, ClausesWithin}
+use Rattle.checking.specs.Stored.{storedClause, stored}
+use Rattle.checking.proofs.clauses.Laws.{clause-laws}
+use Rattle.text.specs.Dimacs.{blank, decimal, literalText, literalsText, closing, clauseText, clausesText, headerText, dimacsOf}
+use Rattle.text.specs.Tomiter.{maxInput, maxWords, maxText, Verdict, listed, refusedAt, ofFile, listVerdict, pairVerdict, secondVerdict, verdict, refusalText, verdictText, tomiterText, tomiterOutcome}
+use Rattle.text.proofs.Decimal.{decimal-short, decimal-long}
+use Rattle.text.proofs.Pairs.{Listable, listable}
+use Rattle.text.proofs.program.Laws.{fits}
+
+-- ---- digits
+
+-- a number below 10 ^ d has at most d digits
+pub decimal-few : (d k : ℕ) → k < 10 ^ suc d → length (decimal k) ≤ suc d
+decimal-few zero k h = omega (arith, ap length (decimal-short k (omega arith)))
+decimal-few (suc d) k h =
+    either (ltb k 10)
+    (λ t. omega (arith, ap length (decimal-short k (ltb-true k 10 t))))
+    (λ t.
+    omega (arith, ap length (decimal-long k (ltb-false k 10 t)), length-append (decimal (k / 10)) (digit (Prim.Native.Nat._%_ k 10) ∷ []), decimal-few d (k / 10) (omega arith)))
+
+-- ---- the text of a clause list
+
+literal-few : (v : ℕ) (l : ℤ) → v ≤ 4224 → size l ≤ v → length (literalText l) ≤ 5
+literal-few v (pos i) h s = omega (arith, decimal-few 3 i (omega arith))
+literal-few v (negsuc i) h s = omega (arith, decimal-few 3 (suc i) (omega arith))
+
+literals-few : (v : ℕ) (ls : List ℤ) → v ≤ 4224 → LiteralsWithin v ls → length (literalsText ls) ≤ 6 * length ls
+unfolding literalsText
+literals-few v [] h w = omega arith
+literals-few v (l ∷ ls) h w =
+    omega (arith, literal-few v l h (w .1 .0), literals-few v ls h (w .1 .1), length-append (literalText l ++ (blank ∷ [])) (literalsText ls), length-append (literalText l) (blank ∷ []))
+
+clause-few : (v : ℕ) (c : Clause) → v ≤ 4224 → LiteralsWithin v (clauseLiterals c) → length (clauseText c) ≤ 6 * length (storedClause c)
+clause-few v (OR ls) h w = omega (arith, literals-few v ls h w, length-append (literalsText ls) closing)
+clause-few v (XOR ls) h w = omega (arith, literals-few v ls h w, length-append (literalsText ls) closing)
+
+clauses-few : (v : ℕ) (cs : List Clause) → v ≤ 4224 → ClausesWithin v cs → length (clausesText cs) ≤ 6 * length (stored cs)
+unfolding clausesText stored
+clauses-few v [] h w = omega arith
+clauses-few v (c ∷ cs) h w =
+    omega (arith, clause-few v c h (w .0), clauses-few v cs h (w .1), length-append (clauseText c) (clausesText cs), length-append (storedClause c) (stored cs))
+
+count-few : (cs : List Clause) → length cs ≤ length (stored cs)
+unfolding stored
+count-few [] = omega arith
+count-few (OR ls ∷ cs) = omega (arith, count-few cs, length-append ls (stored cs))
+count-few (XOR ls ∷ cs) = omega (arith, count-few cs, length-append ls (stored cs))
+
+header-few : (v m : ℕ) → v ≤ 4224 → m ≤ maxWords → length (headerText v m) ≤ 17
+unfolding headerText
+header-few v m h l =
+    omega (arith, decimal-few 3 v (omega arith), decimal-few 4 m (omega arith), length-append (decimal v) (blank ∷ (decimal m ++ (lineFeed ∷ []))), length-append (decimal m) (lineFeed ∷ []))
+
+-- ---- what a verdict says
+
+-- so few variables and words, or so small numbers
+abbrev Small : Verdict → Type 0
+Small (listed v cs) = (v ≤ 4224) × (ClausesWithin v cs) × (length (stored cs) ≤ maxWords)
+Small (refusedAt number file place) = (number < 100) × (file < 10) × (place < 10000)
+
+small-text : (v : Verdict) → Small v → length (verdictText v) ≤ maxText
+unfolding dimacsOf refusalText
+small-text (listed v cs) (a, b, c) =
+    omega (arith, header-few v (length cs) a (omega (arith, count-few cs)), clauses-few v cs a b, length-append (headerText v (length cs)) (clausesText cs))
+small-text (refusedAt number file place) (a, b, c) =
+    omega (arith, decimal-few 1 number a, decimal-few 0 file b, decimal-few 3 place c, length-append (decimal number) (tab ∷ (decimal file ++ (tab ∷ (decimal place ++ (lineFeed ∷ []))))), length-append (decimal file) (tab ∷ (decimal place ++ (lineFeed ∷ []))), length-append (decimal place) (lineFeed ∷ []))
+
+-- ---- the numbers and places of refused files
+
+header-number : (l : Line) (number : ℕ) → HeaderOffence l number → number < 100
+header-number l _ (no-lines _) = omega arith
+header-number l _ (no-number _ _ _ _) = omega arith
+header-number l _ (outside _ _ _ _ _ _) = omega arith
+header-number l _ (laws.HeaderOffence.no-end _ _ _ _ _ _ _ _) = omega arith
+
+controls-number : (n : ℕ) (fs : List (List ℕ)) (number : ℕ) → ControlsOffence n fs number → number < 100
+controls-number n _ _ (form _ _ _) = omega arith
+controls-number n _ _ (value _ _ _ _ _) = omega arith
+controls-number n _ number (later _ fs _ _ _ _ o) = controls-number n fs number o
+
+line-number : (n i : ℕ) (l : Line) (number : ℕ) → LineOffence n i l number → number < 100
+line-number n i l _ (no-gate _ _) = omega arith
+line-number n i l _ (many _ _ _ _) = omega arith
+line-number n i l _ (target-form _ _ _ _ _) = omega arith
+line-number n i l _ (target-value _ _ _ _ _ _ _) = omega arith
+line-number n i l number (controls _ fs _ _ _ _ _ _ o) = controls-number n fs number o
+line-number n i l _ (laws.LineOffence.no-end _ _ _ _ _) = omega arith
+line-number n i l _ (controlled _ _ _ _ _ _) = omega arith
+line-number n i l _ (not-rising _ _ _ _ _ _ _) = omega arith
+
+fault-small : (text : List ℕ) (number place : ℕ) → FileFault text number place → (number < 100) × (place < 10000)
+fault-small text _ _ (header-line number o) = (header-number _ number o, omega arith)
+fault-small text _ _ (later-line n gs rest good starts number o) = (line-number n _ _ number o, omega (arith, good .few))
+
+-- ---- every verdict
+
+list-small : (n : ℕ) (gs : List Gate) → Listable n gs → Small (listVerdict n gs)
+unfolding listVerdict
+list-small n gs g =
+    either (leb (length (stored (clausesOf n gs))) maxWords)
+    (λ t.
+    subst Small (sym (cond-true (leb (length (stored (clausesOf n gs))) maxWords) _ _ t))
+    (clause-laws .variables-few n gs (g .lines) (g .few), clause-laws .lists-tell n gs (g .lines) (g .valid) .within, leb-true _ _ t))
+    (λ t. subst Small (sym (cond-false (leb (length (stored (clausesOf n gs))) maxWords) _ _ t)) (omega arith, omega arith, omega arith))
+
+pair-small : (na : ℕ) (a : List Gate) (nb : ℕ) (b : List Gate) → FileCascade na a → FileCascade nb b → Small (pairVerdict na a nb b)
+unfolding pairVerdict
+pair-small na a nb b x y =
+    either (eqb na nb)
+    (λ t.
+    subst Small (sym (cond-true (eqb na nb) _ _ t))
+    (list-small na (miterGates a b) (listable na a b x (subst (λ (n : ℕ). FileCascade n b) (sym (eqb-true na nb t)) y))))
+    (λ t. subst Small (sym (cond-false (eqb na nb) _ _ t)) (omega arith, omega arith, omega arith))
+
+-- a file's refusal is small, and so is what follows
+file-small : (file : ℕ) (text : List ℕ) (more : Reading → Verdict) → file < 10 → ((c : Reading) → reading text ≡ served c → FileCascade (c .lines) (c .gates) → Small (more c))
+    → (o : Outcome Reading) → reading text ≡ o → Small (ofFile file o more)
+file-small file text more h f (served c) e = f c e (reader .read-text text c e .0)
+file-small file text more h f (refused number place) e =
+    let (a, b) = fault-small text number place (reader .read-refused text number place .0 e) in (a, h, b)
+
+second-small : (n : ℕ) (gs : List Gate) (text : List ℕ) → FileCascade n gs → Small (secondVerdict n gs text)
+unfolding secondVerdict
+second-small n gs text x =
+    file-small 2 text _ (omega arith)
+    (λ c e y.
+    either (eqb (c .taken) (length text))
+    (λ t. subst Small (sym (cond-true (eqb (c .taken) (length text)) _ _ t)) (pair-small n gs (c .lines) (c .gates) x y))
+    (λ t. subst Small (sym (cond-false (eqb (c .taken) (length text)) _ _ t)) (omega arith, omega arith, omega (arith, y .few))))
+    (reading text) refl
+
+verdict-small : (input : List ℕ) → Small (verdict input)
+unfolding verdict
+verdict-small input =
+    either (leb (length input) maxInput)
+    (λ t.
+    subst Small (sym (cond-true (leb (length input) maxInput) _ _ t))
+    (file-small 1 input _ (omega arith) (λ c e x. second-small (c .lines) (c .gates) (drop (c .taken) input) x) (reading input) refl))
+    (λ t. subst Small (sym (cond-false (leb (length input) maxInput) _ _ t)) (omega arith, omega arith, omega arith))
+
+pub text-fits : (input : List ℕ) → length (tomiterText input) ≤ maxText
+unfolding tomiterText
+text-fits input = small-text (verdict input) (verdict-small input)
+
+-- so a buffer of that length always suffices
+pub room-enough : (input : List ℕ) (room : ℕ) → maxText ≤ room → tomiterOutcome input room ≡ served (length (tomiterText input))
+room-enough input room h = fits input room (le-trans (text-fits input) h)

@@ -1,0 +1,117 @@
+-- Stand-ins for the program do not have its laws. Assumes nothing.
+use mathlib.Core.Path.{_≡_, refl, sym, ap, subst, _∙_}
+use mathlib.Core.Bool.{Bool, true, false, false≢true}
+use mathlib.Core.List.{List, [], _∷_, _++_}
+use mathlib.Core.Option.{some}
+use Prim.Native.Nat.{ℕ, _≤_}
+use native.Mathlib.Omega.{arith}
+use lib.ListN.{length, drop}
+use borrow.Author.Tests.{leb-true}
+use Rattle.bits.specs.Digits.{bit}
+use Rattle.bits.specs.Lists.{fold}
+use Rattle.circuit.specs.declared.gate.Gate.{Gate}
+use Rattle.circuit.specs.Gate.{notGate, valid, fires, inverted, apply, controlsBelow}
+use Rattle.circuit.specs.Words.{allValid}
+use Rattle.circuit.specs.Run.{run}
+use Rattle.files.specs.Text.{numberText, controlsText, gateLines, textOf}
+use Rattle.files.specs.FileLaws.{FileCascade}
+use Rattle.reduction.specs.Miter.{miterGates}
+use Rattle.checking.specs.Clauses.{Clause, OR, upFrom, moved, gatesClauses, usedAfter, currentAfter, targeted, differenceClauses, clausesOf, variablesOf}
+use Rattle.checking.specs.Satisfaction.{ClausesWithin, holds, satisfies, Satisfying, Tells}
+use Rattle.checking.specs.Stored.{stored}
+use Rattle.text.specs.Dimacs.{Dimacs, dimacsOf, dimacsRead}
+use Rattle.text.specs.Tomiter.{maxInput, maxWords, refusalText}
+use Rattle.text.specs.TextLaws.{Fitting, TextTells, ProgramLaws, contradictionText, contradiction, withoutFirstText, withoutFirst}
+use Rattle.text.proofs.Reading.{text-back}
+use Rattle.text.proofs.Telling.{fitting-verdict, fitting-tells, refusal-starts}
+
+-- the cascades NOT and nothing on one line
+abbrev once : List Gate
+once = notGate 0 ∷ []
+
+once-runs : run once 0 ≡ 1
+unfolding fold apply valid inverted fires
+once-runs = refl
+
+none-good : FileCascade 1 []
+unfolding allValid
+none-good = record { lines-low = omega arith; lines-high = omega arith; few = omega arith; gates = refl }
+
+once-good : FileCascade 1 once
+unfolding allValid valid
+once-good = record { lines-low = omega arith; lines-high = omega arith; few = omega arith; gates = refl }
+
+-- NOT against nothing, and against NOT
+abbrev differing : List ℕ
+differing = textOf 1 once ++ textOf 1 []
+
+abbrev equal : List ℕ
+equal = textOf 1 once ++ textOf 1 once
+
+differing-bytes : length differing ≤ maxInput
+unfolding numberText controlsText gateLines controlsBelow bit
+differing-bytes = leb-true (length differing) maxInput refl
+
+equal-bytes : length equal ≤ maxInput
+unfolding numberText controlsText gateLines controlsBelow bit
+equal-bytes = leb-true (length equal) maxInput refl
+
+differing-words : length (stored (clausesOf 1 (miterGates once []))) ≤ maxWords
+unfolding stored clausesOf usedAfter currentAfter gatesClauses moved targeted differenceClauses upFrom controlsBelow bit
+differing-words = leb-true (length (stored (clausesOf 1 (miterGates once [])))) maxWords refl
+
+equal-words : length (stored (clausesOf 1 (miterGates once once))) ≤ maxWords
+unfolding stored clausesOf usedAfter currentAfter gatesClauses moved targeted differenceClauses upFrom controlsBelow bit
+equal-words = leb-true (length (stored (clausesOf 1 (miterGates once once)))) maxWords refl
+
+differing-fits : Fitting differing 1 once []
+differing-fits = record { first = once-good; second = none-good; files = refl; bytes = differing-bytes; words = differing-words }
+
+equal-fits : Fitting equal 1 once once
+equal-fits = record { first = once-good; second = once-good; files = refl; bytes = equal-bytes; words = equal-words }
+
+-- a text tells what its clauses tell
+text-tells : (text : List ℕ) (n : ℕ) (a b : List Gate) (v : ℕ) (cs : List Clause) → text ≡ dimacsOf v cs → ClausesWithin v cs → TextTells text n a b → Tells n v cs (run a) (run b)
+text-tells text n a b v cs e w t =
+    let f : some (t .read) ≡ some (record { variables = v; count = length cs; clauses = cs }) = sym (t .is-read) ∙ ap dimacsRead e ∙ text-back v cs w in
+    let g : t .read ≡ record { variables = v; count = length cs; clauses = cs } = cc in
+    subst (λ (d : Dimacs). Tells n (d .variables) (d .clauses) (run a) (run b)) g (t .tells)
+
+unsatisfied : (v : ℕ) (σ : List Bool) → Satisfying v (OR [] ∷ []) σ → ⊥
+unfolding satisfies holds
+unsatisfied v σ s = false≢true (s .satisfied)
+
+-- a contradiction calls NOT and nothing equal
+pub contradiction-fails : ProgramLaws contradiction → ⊥
+unfolding contradiction fold
+contradiction-fails laws =
+    let e : contradiction differing ≡ dimacsOf _ (OR [] ∷ []) = ap contradictionText (fitting-verdict differing 1 once [] differing-fits) in
+    let t = text-tells (contradiction differing) 1 once [] _ (OR [] ∷ []) e (tt, tt) (laws .told differing 1 once [] differing-fits) in
+    let f : run once 0 ≡ 0 = t .equal .1 (unsatisfied _) 0 (omega arith) in
+    let z : _≡_ {A = ℕ} 0 1 = sym f ∙ once-runs in
+    omega arith
+
+-- input 1, first w 1 where it should be 0, second w 0, d 1
+abbrev free : List Bool
+free = true ∷ true ∷ false ∷ true ∷ []
+
+free-satisfies : Satisfying (variablesOf 1 (miterGates once once)) (drop 1 (clausesOf 1 (miterGates once once))) free
+unfolding variablesOf clausesOf usedAfter currentAfter gatesClauses moved targeted differenceClauses upFrom controlsBelow bit satisfies holds
+free-satisfies = record { whole = refl; satisfied = refl }
+
+within-later : (v : ℕ) (cs : List Clause) → ClausesWithin v cs → ClausesWithin v (drop 1 cs)
+within-later v [] w = tt
+within-later v (c ∷ cs) w = w .1
+
+-- without the first clause, NOT and NOT are called different
+pub without-first-fails : ProgramLaws withoutFirst → ⊥
+unfolding withoutFirst
+without-first-fails laws =
+    let e : withoutFirst equal ≡ dimacsOf (variablesOf 1 (miterGates once once)) (drop 1 (clausesOf 1 (miterGates once once))) =
+    ap withoutFirstText (fitting-verdict equal 1 once once equal-fits) in
+    let t = text-tells (withoutFirst equal) 1 once once _ _ e (within-later (variablesOf 1 (miterGates once once)) (clausesOf 1 (miterGates once once)) (fitting-tells equal 1 once once equal-fits .within)) (laws .told equal 1 once once equal-fits) in
+    t .equal .0 (λ x h. refl) free free-satisfies
+
+-- a program that refuses all
+pub refuses-all : (number file place : ℕ) → ProgramLaws (λ input. refusalText number file place) → ⊥
+refuses-all number file place laws = refusal-starts number file place (laws .problem differing 1 once [] differing-fits)

@@ -1,0 +1,144 @@
+-- The program's text tells on which states the cascades of two files differ. Assumes nothing.
+use mathlib.Core.Path.{_≡_, refl, sym, ap, ap₂, subst, _∙_}
+use mathlib.Core.Bool.{Bool, true, false}
+use mathlib.Core.List.{List, [], _++_, append-nil}
+use Prim.Native.Nat.{ℕ, _≤_}
+use native.Mathlib.Omega.{arith}
+use lib.Dec.{eqb, leb}
+use lib.ListN.{length, drop, take-append-drop}
+use lib.Seq.{take-all, drop-append-seam}
+use borrow.Author.Tests.{eq-eqb, eqb-true, le-leb, leb-true}
+use Rattle.bits.proofs.Bools.{cond-true}
+use Rattle.circuit.specs.declared.gate.Gate.{Gate}
+use Rattle.circuit.specs.Outcome.{Outcome, served, refused}
+use Rattle.circuit.specs.Run.{run}
+use Rattle.files.specs.Text.{textOf}
+use Rattle.files.specs.File.{Reading, reading}
+use Rattle.files.specs.FileLaws.{FileCascade}
+use Rattle.files.proofs.file.Laws.{reader}
+use Rattle.reduction.specs.Miter.{miterGates}
+use Rattle.checking.specs.Clauses.{Clause, clausesOf, variablesOf}
+use Rattle.checking.specs.Satisfaction.{Tells}
+use Rattle.checking.specs.Stored.{stored}
+use Rattle.reduction.proofs.miter.Laws.{miter-laws}
+use Rattle.checking.proofs.clauses.Laws.{clause-laws}
+use Rattle.checking.proofs.clauses.Meaning.{tells-same}
+use Rattle.text.specs.Dimacs.{headerText, dimacsOf, dimacsRead}
+use Rattle.text.specs.Tomiter.{maxInput, maxWords, Verdict, listed, refusedAt, unless, ofFile, listVerdict, pairVerdict, secondVerdict, verdict, refusalText, verdictText, tomiterText}
+use Rattle.text.specs.TextLaws.{StartsProblem, Fitting, ProgramLaws}
+use Rattle.text.proofs.Pairs.{listable}
+use Rattle.text.proofs.Reading.{text-back}
+use Rattle.text.proofs.list.Laws.{first-good, second-pair}
+
+-- ---- good files
+
+-- after a good first file comes the second one
+pub after-first : (input : List ℕ) (n : ℕ) (a : List Gate) (rest : List ℕ) → length input ≤ maxInput → FileCascade n a → input ≡ textOf n a ++ rest
+    → verdict input ≡ secondVerdict n a rest
+after-first input n a rest short good e =
+    first-good input short _ (ap reading e ∙ reader .text-read n a rest good)
+    ∙ ap (secondVerdict n a) (ap (drop (length (textOf n a))) e ∙ drop-append-seam (textOf n a) rest)
+
+-- and after a good second one, to its last byte, the pair
+pub after-second : (n : ℕ) (a : List Gate) (m : ℕ) (b : List Gate) → FileCascade m b → secondVerdict n a (textOf m b) ≡ pairVerdict n a m b
+after-second n a m b good =
+    second-pair n a (textOf m b) m (length (textOf m b)) b (ap reading (sym (append-nil (textOf m b))) ∙ reader .text-read m b [] good) refl
+
+-- ---- an input that fits
+
+module _ (input : List ℕ) (n : ℕ) (a b : List Gate) (f : Fitting input n a b) where
+  abbrev gs : List Gate
+  gs = miterGates a b
+
+  fitting-pair : pairVerdict n a n b ≡ listed (variablesOf n gs) (clausesOf n gs)
+  unfolding pairVerdict listVerdict
+  fitting-pair =
+      cond-true (eqb n n) _ _ (eq-eqb n n refl)
+      ∙ cond-true (leb (length (stored (clausesOf n gs))) maxWords) _ _ (le-leb (length (stored (clausesOf n gs))) maxWords (f .words))
+
+  pub fitting-verdict : verdict input ≡ listed (variablesOf n gs) (clausesOf n gs)
+  fitting-verdict =
+      after-first input n a (textOf n b) (f .bytes) (f .first) (f .files) ∙ after-second n a n b (f .second) ∙ fitting-pair
+
+  -- the clauses tell on which states the two cascades differ
+  pub fitting-tells : Tells n (variablesOf n gs) (clausesOf n gs) (run a) (run b)
+  fitting-tells =
+      let g = listable n a b (f .first) (f .second) in
+      tells-same n (variablesOf n gs) (clausesOf n gs) (run gs) (λ x. x) (run a) (run b) (λ x h. miter-laws .identity a b x)
+      (clause-laws .lists-tell n gs (g .lines) (g .valid))
+
+-- ---- a text that starts `p cnf`
+
+dimacs-starts : (v : ℕ) (cs : List Clause) → StartsProblem (dimacsOf v cs)
+unfolding dimacsOf headerText
+dimacs-starts v cs = refl
+
+pub refusal-starts : (number file place : ℕ) → StartsProblem (refusalText number file place) → ⊥
+unfolding refusalText
+refusal-starts number file place e = let z : _≡_ {A = ℕ} 114 112 = cc in omega arith
+
+-- what a verdict that lists clauses says of the tests before it
+pub not-refused : {number file place v : ℕ} {cs : List Clause} → refusedAt number file place ≡ listed v cs → ⊥
+not-refused e = let z : _≡_ {A = ℕ} 0 1 = cc in omega arith
+
+passed : (test : Bool) (number file place : ℕ) (more : Verdict) (v : ℕ) (cs : List Clause) → unless test (refusedAt number file place) more ≡ listed v cs
+    → (test ≡ true) × (more ≡ listed v cs)
+passed true number file place more v cs e = (refl, e)
+passed false number file place more v cs e = absurd (not-refused e)
+
+file-passed : (file : ℕ) (more : Reading → Verdict) (v : ℕ) (cs : List Clause) (o : Outcome Reading) → ofFile file o more ≡ listed v cs
+    → (c : Reading) × (o ≡ served c) × (more c ≡ listed v cs)
+file-passed file more v cs (served c) e = (c, refl, e)
+file-passed file more v cs (refused number place) e = absurd (not-refused e)
+
+module _ (input : List ℕ) (v : ℕ) (cs : List Clause) (e : verdict input ≡ listed v cs) where
+  listed-fits : (n : ℕ) × (a : List Gate) × (b : List Gate) × Fitting input n a b
+  unfolding verdict secondVerdict pairVerdict listVerdict
+  listed-fits =
+      let (short, e1) = passed (leb (length input) maxInput) _ 0 0 _ v cs e in
+      let (c, first, e2) = file-passed 1 _ v cs (reading input) e1 in
+      let rest : List ℕ = drop (c .taken) input in
+      let (d, second, e3) = file-passed 2 _ v cs (reading rest) e2 in
+      let (all, e4) = passed (eqb (d .taken) (length rest)) _ 2 _ _ v cs e3 in
+      let (same, e5) = passed (eqb (c .lines) (d .lines)) _ 0 0 _ v cs e4 in
+      let (words, e6) = passed (leb (length (stored (clausesOf (c .lines) (miterGates (c .gates) (d .gates))))) maxWords) _ 0 0 _ v cs e5 in
+      let (good-a, text-a) = reader .read-text input c first in
+      let (good-b, text-b) = reader .read-text rest d second in
+      let lines : c .lines ≡ d .lines = eqb-true (c .lines) (d .lines) same in
+      let whole : rest ≡ textOf (c .lines) (d .gates) =
+      sym (take-all (d .taken) rest (omega (arith, eqb-true (d .taken) (length rest) all))) ∙ text-b ∙ ap (λ (n : ℕ). textOf n (d .gates)) (sym lines) in (
+        c .lines,
+        c .gates,
+        d .gates,
+        record {
+          first = good-a;
+          second = subst (λ (n : ℕ). FileCascade n (d .gates)) (sym lines) good-b;
+          files = sym (take-append-drop (c .taken) input) ∙ ap₂ _++_ text-a whole;
+          bytes = leb-true (length input) maxInput short;
+          words = leb-true (length (stored (clausesOf (c .lines) (miterGates (c .gates) (d .gates))))) maxWords words;
+        },
+      )
+
+starts-fits : (input : List ℕ) (w : Verdict) → verdict input ≡ w → StartsProblem (verdictText w) → (n : ℕ) × (a : List Gate) × (b : List Gate) × Fitting input n a b
+starts-fits input (listed v cs) e s = listed-fits input v cs e
+starts-fits input (refusedAt number file place) e s = absurd (refusal-starts number file place s)
+
+-- ---- the program
+
+pub program-laws : ProgramLaws tomiterText
+unfolding tomiterText
+program-laws =
+    record {
+      problem = λ input n a b f. subst (λ (w : Verdict). StartsProblem (verdictText w)) (sym (fitting-verdict input n a b f)) (dimacs-starts _ _);
+      fitting = λ input s. starts-fits input (verdict input) refl s;
+      told = λ input n a b f.
+          let t = fitting-tells input n a b f in
+          record {
+            read = record { variables = variablesOf n (miterGates a b); count = length (clausesOf n (miterGates a b)); clauses = clausesOf n (miterGates a b) };
+            is-read =
+                ap (λ (w : Verdict). dimacsRead (verdictText w)) (fitting-verdict input n a b f)
+                ∙ text-back (variablesOf n (miterGates a b)) (clausesOf n (miterGates a b)) (t .within);
+            counted = refl;
+            tells = t;
+          };
+    }

@@ -1,0 +1,105 @@
+-- What the code's casts make of a signed 16-bit word. Assumes nothing.
+use mathlib.Core.Path.{_≡_, refl, sym, ap, subst, _∙_}
+use mathlib.Core.Bool.{Bool, true, false, true≢false}
+use mathlib.Core.List.{[], _∷_}
+use Prim.Native.Nat.{zero, suc}
+use native.Mathlib.Omega.{arith}
+use lib.Dec.{T}
+use borrow.Author.Tests.{ltb-true}
+use lib.IntN.{ℤ, pos, negsuc, negℤ, natAbs, _-ℤ_, +ℤ-idl}
+use lib.Signed.{nonNeg, ltZ}
+use mir.Syntax.{w16, w64}
+use mir.Val.{Fits, SFits, toZ, ofZ}
+use mir.ValLaws.{toZ-ofZ}
+use Rattle.checking.specs.Satisfaction.{size}
+use Rattle.files.specs.Text.{minus}
+use Rattle.text.specs.Dimacs.{xorSign}
+use Rattle.text.specs.Words.{signText, kindText}
+
+-- a word of 16 bits fits 64
+wide : (z : ℤ) → SFits w16 z → SFits w64 z
+wide (pos v) f = let h = f .sfits in record { sfits = omega arith }
+wide (negsuc i) f = let h = f .sfits in record { sfits = omega arith }
+
+abbrev pub widened : ℤ → ℤ
+widened z = toZ w64 (ofZ w64 (toZ w16 (ofZ w16 z)))
+
+module _ (z : ℤ) (f : SFits w16 z) where
+  pub word-is : toZ w16 (ofZ w16 z) ≡ z
+  word-is = toZ-ofZ w16 z f
+
+  pub word-wide : SFits w64 (toZ w16 (ofZ w16 z))
+  word-wide = subst (SFits w64) (sym word-is) (wide z f)
+
+  widened-is : widened z ≡ z
+  widened-is = ap (λ (x : ℤ). toZ w64 (ofZ w64 x)) word-is ∙ toZ-ofZ w64 z (wide z f)
+
+negated-fits : (z : ℤ) → SFits w16 z → SFits w64 (negℤ z)
+negated-fits (pos zero) f = record { sfits = omega arith }
+negated-fits (pos (suc v)) f = let h = f .sfits in record { sfits = omega arith }
+negated-fits (negsuc i) f = let h = f .sfits in record { sfits = omega arith }
+
+module _ (z : ℤ) (f : SFits w16 z) where
+  negated : pos 0 -ℤ widened z ≡ negℤ z
+  negated = +ℤ-idl (negℤ (widened z)) ∙ ap negℤ (widened-is z f)
+
+  pub minus-fits : SFits w64 (pos 0 -ℤ widened z)
+  minus-fits = subst (SFits w64) (sym negated) (negated-fits z f)
+
+  minus-is : toZ w64 (ofZ w64 (pos 0 -ℤ widened z)) ≡ negℤ z
+  minus-is = toZ-ofZ w64 (pos 0 -ℤ widened z) minus-fits ∙ negated
+
+-- the casts to an unsigned number
+abbrev pub Casts : ℤ → Type 0
+Casts x = T (nonNeg x) × Fits w64 (natAbs x)
+
+below : (z : ℤ) → SFits w16 z → ltZ z (pos 0) ≡ true → Casts (negℤ z)
+below (pos v) f h = absurd (omega (arith, ltb-true v 0 h))
+below (negsuc i) f h = let b = f .sfits in (tt, record { fits = omega arith })
+
+below-size : (z : ℤ) → ltZ z (pos 0) ≡ true → natAbs (negℤ z) ≡ size z
+below-size (pos v) h = absurd (omega (arith, ltb-true v 0 h))
+below-size (negsuc i) h = refl
+
+above : (z : ℤ) → SFits w16 z → ltZ z (pos 0) ≡ false → Casts z
+above (pos v) f h = let b = f .sfits in (tt, record { fits = omega arith })
+above (negsuc i) f h = absurd (true≢false h)
+
+above-size : (z : ℤ) → ltZ z (pos 0) ≡ false → natAbs z ≡ size z
+above-size (pos v) h = refl
+above-size (negsuc i) h = absurd (true≢false h)
+
+module _ (z : ℤ) (f : SFits w16 z) where
+  -- what the code's test of the sign says
+  pub sign-is : {b : Bool} → ltZ (toZ w16 (ofZ w16 z)) (pos 0) ≡ b → ltZ z (pos 0) ≡ b
+  sign-is h = ap (λ (x : ℤ). ltZ x (pos 0)) (sym (word-is z f)) ∙ h
+
+  pub minus-casts : ltZ (toZ w16 (ofZ w16 z)) (pos 0) ≡ true → Casts (toZ w64 (ofZ w64 (pos 0 -ℤ widened z)))
+  minus-casts h = subst Casts (sym (minus-is z f)) (below z f (sign-is h))
+
+  pub minus-size : ltZ (toZ w16 (ofZ w16 z)) (pos 0) ≡ true → natAbs (toZ w64 (ofZ w64 (pos 0 -ℤ widened z))) ≡ size z
+  minus-size h = ap natAbs (minus-is z f) ∙ below-size z (sign-is h)
+
+  pub plus-casts : ltZ (toZ w16 (ofZ w16 z)) (pos 0) ≡ false → Casts (toZ w16 (ofZ w16 z))
+  plus-casts h = subst Casts (sym (word-is z f)) (above z f (sign-is h))
+
+  pub plus-size : ltZ (toZ w16 (ofZ w16 z)) (pos 0) ≡ false → natAbs (toZ w16 (ofZ w16 z)) ≡ size z
+  plus-size h = ap natAbs (word-is z f) ∙ above-size z (sign-is h)
+
+pub sign-minus : (z : ℤ) → ltZ z (pos 0) ≡ true → signText z ≡ minus ∷ []
+sign-minus (pos v) h = absurd (omega (arith, ltb-true v 0 h))
+sign-minus (negsuc i) h = refl
+
+pub sign-plus : (z : ℤ) → ltZ z (pos 0) ≡ false → signText z ≡ []
+sign-plus (pos v) h = refl
+sign-plus (negsuc i) h = absurd (true≢false h)
+
+-- the code's test of a kind word
+pub kind-xor : (z : ℤ) → SFits w16 z → ofZ w16 z ≡ 1 → kindText z ≡ xorSign ∷ []
+kind-xor z f h = ap kindText (sym (word-is z f) ∙ ap (toZ w16) h)
+
+pub kind-other : (z : ℤ) → (ofZ w16 z ≡ 1 → ⊥) → kindText z ≡ []
+kind-other (pos zero) h = refl
+kind-other (pos (suc zero)) h = absurd (h refl)
+kind-other (pos (suc (suc k))) h = refl
+kind-other (negsuc i) h = refl

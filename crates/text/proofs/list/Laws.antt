@@ -1,0 +1,254 @@
+-- What the functions from an input to its clause list owe, case by case. Assumes nothing.
+use mathlib.Core.Path.{_≡_, refl, sym, ap, ap₂, subst, _∙_}
+use mathlib.Core.Bool.{true, false}
+use mathlib.Core.List.{List}
+use Prim.Native.Nat.{ℕ, _+_, _*_, _≤_, _<_}
+use native.Mathlib.Omega.{arith}
+use lib.Dec.{eqb, leb}
+use lib.IntN.{ℤ}
+use lib.ListN.{length, take, drop, length-append}
+use lib.Seq.{take-append-seam, take-at}
+use borrow.Author.Tests.{eqb-true, eqb-false, eq-eqb, ne-eqb, le-leb, lt-leb, leb-true}
+use Rattle.bits.specs.Lists.{over}
+use Rattle.bits.proofs.Bools.{either, cond-true, cond-false}
+use Rattle.bits.proofs.Lists.{over-length}
+use Rattle.circuit.specs.declared.gate.Gate.{Gate}
+use Rattle.circuit.specs.declared.refusal.Refusal.{Refusal}
+use Rattle.circuit.specs.Gate.{maxGates, maxMiterGates}
+use Rattle.circuit.specs.Outcome.{Outcome, served, refused, demand, andThen, written}
+use Rattle.circuit.specs.Refusal.{wrongForm, lineCountsDiffer, noRoom}
+use Rattle.circuit.specs.Words.{gatesOf, wordsOf, Cascade, differ}
+use Rattle.circuit.proofs.Outcome.{never, demand-met, demand-failed, then-served}
+use Rattle.circuit.proofs.words.Laws.{gates-words, words-length, served-check, refused-pair}
+use Rattle.files.specs.Text.{textOf}
+use Rattle.files.specs.File.{Reading, reading, ReadCounts, gatesRead, readOutcome, readBuffer}
+use Rattle.files.specs.FileLaws.{ReadFault, wrong, short}
+use Rattle.files.proofs.file.Laws.{reader, read-served, read-refused}
+use Rattle.checking.specs.declared.clauses.Totals.{Totals}
+use Rattle.reduction.specs.Miter.{miterGates, miterOutcome, miterBuffer}
+use Rattle.checking.specs.Clauses.{Clause, clausesOf, variablesOf}
+use Rattle.checking.specs.Stored.{stored}
+use Rattle.checking.specs.Sizes.{totals, sizesOf, sizesOutcome}
+use Rattle.checking.specs.Emit.{emitOutcome, emitBuffer}
+use Rattle.reduction.proofs.miter.Laws.{miter-laws, miter-refused}
+use Rattle.checking.proofs.clauses.Laws.{clause-laws}
+use Rattle.text.specs.declared.list.ListAnswer.{ListAnswer}
+use Rattle.text.specs.declared.list.ListAnswer.the-variants as list
+use Rattle.text.specs.Tomiter.{maxInput, maxWords, Verdict, listed, refusedAt, ofFile, listVerdict, pairVerdict, secondVerdict, verdict}
+use Rattle.text.specs.Answers.{FileWords, Says}
+
+-- the same verdict, said in another way
+pub says-as : (r : ListAnswer) (buffer : List ℤ) (v w : Verdict) → v ≡ w → Says r buffer w → Says r buffer v
+says-as r buffer v w e s = subst (Says r buffer) (sym e) s
+
+-- a refusal says the verdict that it is
+pub says-refusal : {A : Type 0} (why : Refusal) (file : ℕ) (buffer : List ℤ) (v : Verdict) (number place : ℕ) → v ≡ refusedAt number file place
+    → _≡_ {A = Outcome A} (refused (why .number) (why .place)) (refused number place) → Says (list.Refused why file) buffer v
+says-refusal why file buffer v number place e f =
+    let n : why .number ≡ number = cc in
+    let p : why .place ≡ place = cc in
+    says-as (list.Refused why file) buffer v _ e (n, refl, p)
+
+-- ---- the clause list
+
+module _ (n : ℕ) (ws : List ℕ) (k : ℕ) (c : Cascade n ws maxMiterGates k) (room : ℕ) (long : room ≡ maxWords) where
+  abbrev gs : List Gate
+  gs = gatesOf ws
+
+  abbrev cs : List Clause
+  cs = clausesOf n gs
+
+  sums : sizesOf n gs ≡ totals (variablesOf n gs) (length cs) (length (stored cs))
+  sums = clause-laws .sizes-list n gs (c .lines-high) (c .gates)
+
+  emit-is : emitOutcome n ws room ≡ demand (leb (length (stored cs)) maxWords) noRoom 0 (served (totals (variablesOf n gs) (length cs) (length (stored cs))))
+  unfolding emitOutcome sizesOutcome
+  emit-is =
+      ap (λ (o : Outcome Totals). andThen o (λ t. demand (leb (t .words) room) noRoom 0 (served t))) (then-served _ _ k (served-check n ws maxMiterGates k c))
+      ∙ ap₂ (λ (t : Totals) (m : ℕ). demand (leb (t .words) m) noRoom 0 (served t)) sums long
+
+  list-short : leb (length (stored cs)) maxWords ≡ false → listVerdict n gs ≡ refusedAt noRoom 0 0
+  unfolding listVerdict
+  list-short t = cond-false (leb (length (stored cs)) maxWords) _ _ t
+
+  list-fits : leb (length (stored cs)) maxWords ≡ true → listVerdict n gs ≡ listed (variablesOf n gs) cs
+  unfolding listVerdict
+  list-fits t = cond-true (leb (length (stored cs)) maxWords) _ _ t
+
+  pub list-bad : (why : Refusal) (buffer : List ℤ) → emitOutcome n ws room ≡ refused (why .number) (why .place) → Says (list.Refused why 0) buffer (listVerdict n gs)
+  list-bad why buffer e =
+      either (leb (length (stored cs)) maxWords)
+      (λ t. absurd (never (emit-is ∙ demand-met _ _ _ _ t) e))
+      (λ t. says-refusal why 0 buffer (listVerdict n gs) noRoom 0 (list-short t) (sym e ∙ emit-is ∙ demand-failed _ _ _ _ t))
+
+  pub list-good : (t : Totals) (buffer out : List ℤ) → length out ≡ room → emitOutcome n ws (length out) ≡ served t → buffer ≡ emitBuffer n ws out → Says (list.Listed t) buffer (listVerdict n gs)
+  unfolding emitBuffer
+  list-good t buffer out size o b =
+      let e : emitOutcome n ws room ≡ served t = ap (emitOutcome n ws) (sym size) ∙ o in
+      either (leb (length (stored cs)) maxWords)
+      (λ x.
+      let f : t ≡ totals (variablesOf n gs) (length cs) (length (stored cs)) = let g = sym e ∙ emit-is ∙ demand-met _ _ _ _ x in cc in
+      let w : t .words ≡ length (stored cs) = ap (λ (y : Totals). y .words) f in
+      let is : buffer ≡ over (stored cs) out = b ∙ ap (λ (x : Outcome Totals). written x (stored cs) out) o in
+      let r : length (stored cs) ≤ maxWords = leb-true (length (stored cs)) maxWords x in
+      says-as (list.Listed t) buffer _ _ (list-fits x)
+      (record {
+        variables-are = ap (λ (y : Totals). y .variables) f;
+        count = ap (λ (y : Totals). y .clauses) f;
+        inside = omega (arith, ap length is, over-length (stored cs) out (omega arith));
+        words = ap₂ take w is ∙ take-append-seam (stored cs) (drop (length (stored cs)) out);
+      }))
+      (λ x. absurd (never e (emit-is ∙ demand-failed _ _ _ _ x)))
+
+-- ---- two cascades
+
+-- the words of a miter
+pub record Mitered (na : ℕ) (a : List ℕ) (nb : ℕ) (b buffer : List ℕ) (gates : ℕ) : Type 0 where
+  pub inside : 3 * gates ≤ length buffer
+  pub cascade : Cascade na (take (3 * gates) buffer) maxMiterGates gates
+  pub verdict-is : pairVerdict na (gatesOf a) nb (gatesOf b) ≡ listVerdict na (gatesOf (take (3 * gates) buffer))
+
+module _ (na : ℕ) (a : List ℕ) (nb : ℕ) (b : List ℕ) (wa : FileWords na a) (wb : FileWords nb b) (room : ℕ) (long : room ≡ 6144) where
+  fits : length a + length b ≤ room
+  fits = let x = wa .cascade in let y = wb .cascade in omega (arith, x .size, x .few, y .size, y .few)
+
+  miter-made : na ≡ nb → miterOutcome na a nb b room ≡ served (wa .count + wb .count)
+  miter-made e =
+      miter-laws .miter-served na a nb b room (wa .count + wb .count) .1
+      (record { first = wa .count; second = wb .count; first-good = wa .cascade; second-good = wb .cascade; lines = e; fits = fits; count = refl })
+
+  miter-differs : (na ≡ nb → ⊥) → miterOutcome na a nb b room ≡ refused lineCountsDiffer 0
+  miter-differs h =
+      miter-refused na a nb b room lineCountsDiffer 0 (refused-pair na a nb b lineCountsDiffer 0 (differ (wa .count) (wb .count) (wa .cascade) (wb .cascade) h))
+
+  pair-differs : (na ≡ nb → ⊥) → pairVerdict na (gatesOf a) nb (gatesOf b) ≡ refusedAt lineCountsDiffer 0 0
+  unfolding pairVerdict
+  pair-differs h = cond-false (eqb na nb) _ _ (ne-eqb na nb h)
+
+  pair-listed : na ≡ nb → pairVerdict na (gatesOf a) nb (gatesOf b) ≡ listVerdict na (miterGates (gatesOf a) (gatesOf b))
+  unfolding pairVerdict
+  pair-listed e = cond-true (eqb na nb) _ _ (eq-eqb na nb e)
+
+  pub pair-bad : (why : Refusal) (buffer : List ℤ) → miterOutcome na a nb b room ≡ refused (why .number) (why .place)
+      → Says (list.Refused why 0) buffer (pairVerdict na (gatesOf a) nb (gatesOf b))
+  pair-bad why buffer e =
+      either (eqb na nb)
+      (λ t. absurd (never (miter-made (eqb-true na nb t)) e))
+      (λ t. says-refusal why 0 buffer _ lineCountsDiffer 0 (pair-differs (eqb-false na nb t)) (sym e ∙ miter-differs (eqb-false na nb t)))
+
+  pub mitered : (gates : ℕ) (buffer out : List ℕ) → length out ≡ room → miterOutcome na a nb b (length out) ≡ served gates → buffer ≡ miterBuffer na a nb b out → length buffer ≡ 6144
+      → Mitered na a nb b buffer gates
+  mitered gates buffer out size e is l =
+      let s = miter-laws .miter-served na a nb b (length out) gates .0 e in
+      let m = miter-laws .miter-stands na a nb b out gates e in
+      let x = s .first-good in
+      let y = s .second-good in
+      record {
+        inside = omega (arith, s .count, x .few, y .few);
+        cascade = subst (λ (ws : List ℕ). Cascade na (take (3 * gates) ws) maxMiterGates gates) (sym is) (m .cascade);
+        verdict-is =
+            pair-listed (s .lines)
+            ∙ ap (listVerdict na) (sym (ap (λ (ws : List ℕ). gatesOf (take (3 * gates) ws)) is ∙ m .gates));
+      }
+
+-- ---- a file
+
+-- a file that was read: its cascade, the words in the buffer, and the bytes that were taken
+pub record FileRead (text : List ℕ) (lines gates taken : ℕ) (buffer : List ℕ) : Type 0 where
+  pub cascade : List Gate
+  pub is : reading text ≡ served (record { lines = lines; gates = cascade; taken = taken })
+  pub count : gates ≡ length cascade
+  pub few : gates ≤ maxGates
+  pub inside : 3 * gates ≤ length buffer
+  pub words : FileWords lines (take (3 * gates) buffer)
+  pub gates-are : gatesOf (take (3 * gates) buffer) ≡ cascade
+  pub within : taken ≤ length text
+
+abbrev counts : ℕ → ℕ → ℕ → ReadCounts
+counts lines gates taken = record { lines = lines; gates = gates; taken = taken }
+
+module _ (text : List ℕ) (room : ℕ) (long : room ≡ 3072) where
+  pub file-bad : (number place : ℕ) → readOutcome text room ≡ refused number place → reading text ≡ refused number place
+  file-bad number place e = faulty number place (read-refused text room number place e)
+    where
+      faulty : (number place : ℕ) → ReadFault text room number place → reading text ≡ refused number place
+      faulty number place (wrong _ _ f) = reader .read-refused text number place .1 f
+      faulty number place (short n gs rest good starts less) = absurd (omega (arith, good .few))
+
+  pub file-read : (lines gates taken : ℕ) (buffer out : List ℕ) → length out ≡ room → readOutcome text (length out) ≡ served (counts lines gates taken) → buffer ≡ readBuffer text out
+      → FileRead text lines gates taken buffer
+  unfolding readBuffer
+  file-read lines gates taken buffer out size e b =
+      let s = read-served text (length out) (counts lines gates taken) e in
+      let hs : List Gate = s .cascade in
+      let g = s .good in
+      let r : reading text ≡ served (record { lines = lines; gates = hs; taken = taken }) =
+      ap reading (s .starts) ∙ reader .text-read lines hs (s .rest) g
+      ∙ ap (λ (t : ℕ). served (record { lines = lines; gates = hs; taken = t })) (sym (s .taken)) in
+      let is : buffer ≡ over (wordsOf hs) out =
+      b ∙ ap₂ (λ (o : Outcome ReadCounts) (p : Outcome Reading). written o (wordsOf (gatesRead p)) out) e r in
+      let l : length (wordsOf hs) ≡ 3 * gates = words-length hs ∙ ap (λ (k : ℕ). 3 * k) (sym (s .gates)) in
+      let t : take (3 * gates) buffer ≡ wordsOf hs = ap (take (3 * gates)) is ∙ take-at (wordsOf hs) (drop (length (wordsOf hs)) out) (3 * gates) l in
+      let few : gates ≤ maxGates = omega (arith, s .gates, g .few) in
+      record {
+        cascade = hs;
+        is = r;
+        count = s .gates;
+        few = few;
+        inside = omega (arith, ap length is, over-length (wordsOf hs) out (omega arith));
+        words =
+            subst (FileWords lines) (sym t)
+            (record {
+              count = gates;
+              cascade =
+                  record {
+                    lines-low = g .lines-low;
+                    lines-high = g .lines-high;
+                    size = l;
+                    few = few;
+                    gates = ap (Rattle.circuit.specs.Words.allValid lines) (gates-words hs) ∙ g .gates;
+                  };
+            });
+        gates-are = ap gatesOf t ∙ gates-words hs;
+        within = omega (arith, ap length (s .starts), length-append (textOf lines hs) (s .rest), s .taken);
+      }
+
+module _ (file : ℕ) (o : Outcome Reading) (more : Reading → Verdict) where
+  file-served : (c : Reading) → o ≡ served c → ofFile file o more ≡ more c
+  file-served c e = ap (λ (x : Outcome Reading). ofFile file x more) e
+
+  file-refused : (number place : ℕ) → o ≡ refused number place → ofFile file o more ≡ refusedAt number file place
+  file-refused number place e = ap (λ (x : Outcome Reading). ofFile file x more) e
+
+-- ---- the second file
+
+module _ (n : ℕ) (gs : List Gate) (text : List ℕ) where
+  pub second-bad : (number place : ℕ) → reading text ≡ refused number place → secondVerdict n gs text ≡ refusedAt number 2 place
+  unfolding secondVerdict
+  second-bad number place e = file-refused 2 (reading text) _ number place e
+
+  module _ (lines taken : ℕ) (hs : List Gate) (e : reading text ≡ served (record { lines = lines; gates = hs; taken = taken })) where
+    pub second-more : (taken ≡ length text → ⊥) → secondVerdict n gs text ≡ refusedAt wrongForm 2 (length hs + 2)
+    unfolding secondVerdict
+    second-more h = file-served 2 (reading text) _ _ e ∙ cond-false (eqb taken (length text)) _ _ (ne-eqb taken (length text) h)
+
+    pub second-pair : taken ≡ length text → secondVerdict n gs text ≡ pairVerdict n gs lines hs
+    unfolding secondVerdict
+    second-pair h = file-served 2 (reading text) _ _ e ∙ cond-true (eqb taken (length text)) _ _ (eq-eqb taken (length text) h)
+
+-- ---- the input
+
+pub input-long : (input : List ℕ) → maxInput < length input → verdict input ≡ refusedAt noRoom 0 0
+unfolding verdict
+input-long input h = cond-false (leb (length input) maxInput) _ _ (lt-leb (length input) maxInput h)
+
+module _ (input : List ℕ) (short : length input ≤ maxInput) where
+  pub first-bad : (number place : ℕ) → reading input ≡ refused number place → verdict input ≡ refusedAt number 1 place
+  unfolding verdict
+  first-bad number place e =
+      cond-true (leb (length input) maxInput) _ _ (le-leb (length input) maxInput short) ∙ file-refused 1 (reading input) _ number place e
+
+  pub first-good : (c : Reading) → reading input ≡ served c → verdict input ≡ secondVerdict (c .lines) (c .gates) (drop (c .taken) input)
+  unfolding verdict
+  first-good c e =
+      cond-true (leb (length input) maxInput) _ _ (le-leb (length input) maxInput short) ∙ file-served 1 (reading input) _ c e

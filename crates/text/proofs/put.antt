@@ -1,0 +1,2 @@
+-- `Laws`: two writes in a row.
+pub mod Laws

@@ -1,0 +1,6 @@
+pub mod Dimacs
+pub mod Words
+pub mod Tomiter
+pub mod Answers
+pub mod Rows
+pub mod TextLaws

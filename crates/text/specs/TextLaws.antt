@@ -1,0 +1,97 @@
+-- What is proved of the text that the program writes.
+use mathlib.Core.Path.{_≡_}
+use mathlib.Core.Logic.{_↔_}
+use mathlib.Core.List.{List, [], _∷_, _++_}
+use mathlib.Core.Option.{some}
+use Prim.Native.Nat.{ℕ, _+_, _≤_, _<_}
+use lib.ListN.{length, take, drop}
+use Rattle.circuit.specs.declared.gate.Gate.{Gate}
+use Rattle.circuit.specs.Outcome.{served}
+use Rattle.circuit.specs.Run.{run}
+use Rattle.files.specs.Text.{textOf}
+use Rattle.files.specs.FileLaws.{FileCascade, FileFault}
+use Rattle.reduction.specs.Miter.{miterGates}
+use Rattle.checking.specs.Clauses.{Clause, OR, clausesOf}
+use Rattle.checking.specs.Stored.{stored}
+use Rattle.checking.specs.Satisfaction.{ClausesWithin, Tells}
+use Rattle.text.specs.Dimacs.{problemWord, blank, cnfWord, clausesText, headerText, Dimacs, dimacsOf, dimacsRead}
+use Rattle.text.specs.Rows.{RowsHold, textRows}
+use Rattle.text.specs.Tomiter.{maxInput, maxWords, maxText, Verdict, listed, refusedAt, verdict, refusalText, tomiterText, tomiterOutcome}
+
+-- the text starts `p cnf`, so that it is no refusal
+abbrev pub StartsProblem : List ℕ → Type 0
+StartsProblem text = take 5 text ≡ problemWord ++ (blank ∷ cnfWord)
+
+-- the input is the files of two cascades on n lines, and nothing is too long
+pub record Fitting (input : List ℕ) (n : ℕ) (a b : List Gate) : Type 0 where
+  pub first : FileCascade n a
+  pub second : FileCascade n b
+  pub files : input ≡ textOf n a ++ textOf n b
+  pub bytes : length input ≤ maxInput
+  pub words : length (stored (clausesOf n (miterGates a b))) ≤ maxWords
+
+-- what is wrong with an input, by number, file and place, where nothing of an earlier kind is
+pub data InputFault (input : List ℕ) : ℕ → ℕ → ℕ → Type 0 where
+  -- more than 65,536 bytes
+  too-long : maxInput < length input → InputFault input 10 0 0
+  -- the first file; the second one, after a first that is good
+  first-file : (number place : ℕ) → length input ≤ maxInput → FileFault input number place → InputFault input number 1 place
+  second-file : (n : ℕ) (a : List Gate) (rest : List ℕ) (number place : ℕ) → length input ≤ maxInput → FileCascade n a → input ≡ textOf n a ++ rest
+      → FileFault rest number place → InputFault input number 2 place
+  -- bytes after the second `end`: the lines of the second file are its header, its gates and `end`
+  after-end : (n : ℕ) (a : List Gate) (m : ℕ) (b : List Gate) (rest : List ℕ) → length input ≤ maxInput → FileCascade n a → FileCascade m b
+      → input ≡ textOf n a ++ (textOf m b ++ rest) → (rest ≡ [] → ⊥) → InputFault input 1 2 (length b + 2)
+  -- line counts that differ
+  lines-differ : (n : ℕ) (a : List Gate) (m : ℕ) (b : List Gate) → length input ≤ maxInput → FileCascade n a → FileCascade m b
+      → input ≡ textOf n a ++ textOf m b → (n ≡ m → ⊥) → InputFault input 8 0 0
+  -- a clause list of more than 16,384 words
+  list-long : (n : ℕ) (a b : List Gate) → length input ≤ maxInput → FileCascade n a → FileCascade n b
+      → input ≡ textOf n a ++ textOf n b → maxWords < length (stored (clausesOf n (miterGates a b))) → InputFault input 10 0 0
+
+-- what is read from the text tells on which states two cascades differ
+pub record TextTells (text : List ℕ) (n : ℕ) (a b : List Gate) : Type 0 where
+  pub read : Dimacs
+  pub is-read : dimacsRead text ≡ some read
+  -- the header has the number of the clauses
+  pub counted : read .count ≡ length (read .clauses)
+  -- the cascades are equal exactly when no assignment satisfies the clauses; each state on which they differ is spelled by exactly one, and no other by any
+  pub tells : Tells n (read .variables) (read .clauses) (run a) (run b)
+
+-- of a program, by what it writes for an input: its text starts `p cnf` exactly for the files of two cascades of that size, and then tells on which states they differ
+pub record ProgramLaws (program : List ℕ → List ℕ) : Type 0 where
+  pub problem : (input : List ℕ) (n : ℕ) (a b : List Gate) → Fitting input n a b → StartsProblem (program input)
+  pub fitting : (input : List ℕ) → StartsProblem (program input) → (n : ℕ) × (a : List Gate) × (b : List Gate) × Fitting input n a b
+  pub told : (input : List ℕ) (n : ℕ) (a b : List Gate) → Fitting input n a b → TextTells (program input) n a b
+
+-- stand-ins, as programs: one fixed contradiction in place of every clause list, and the first clause left out
+abbrev pub contradictionText : Verdict → List ℕ
+contradictionText (listed variables cs) = dimacsOf variables (OR [] ∷ [])
+contradictionText (refusedAt number file place) = refusalText number file place
+
+unfoldable pub contradiction : List ℕ → List ℕ
+contradiction input = contradictionText (verdict input)
+
+abbrev pub withoutFirstText : Verdict → List ℕ
+withoutFirstText (listed variables cs) = dimacsOf variables (drop 1 cs)
+withoutFirstText (refusedAt number file place) = refusalText number file place
+
+unfoldable pub withoutFirst : List ℕ → List ℕ
+withoutFirst input = withoutFirstText (verdict input)
+
+pub record TextLaws : Type 0 where
+  -- the text of clauses is read back: the header's counts, and the clauses
+  pub read-back : (variables : ℕ) (cs : List Clause) → ClausesWithin variables cs
+      → dimacsRead (dimacsOf variables cs) ≡ some (record { variables = variables; count = length cs; clauses = cs })
+  -- and only such a text is read
+  pub read-text : (text : List ℕ) (d : Dimacs) → dimacsRead text ≡ some d → text ≡ headerText (d .variables) (d .count) ++ clausesText (d .clauses)
+  -- refused with a number, a file and a place exactly for what is wrong first
+  pub refused : (input : List ℕ) (number file place : ℕ) → (verdict input ≡ refusedAt number file place) ↔ InputFault input number file place
+  pub program : ProgramLaws tomiterText
+  -- the stand-ins do not have these laws, and neither has a program that refuses all
+  pub contradiction-fails : ProgramLaws contradiction → ⊥
+  pub without-first-fails : ProgramLaws withoutFirst → ⊥
+  pub refuses-all : (number file place : ℕ) → ProgramLaws (λ input. refusalText number file place) → ⊥
+  -- every text fits a buffer of 98,321 bytes
+  pub text-fits : (input : List ℕ) → length (tomiterText input) ≤ maxText
+  pub room-enough : (input : List ℕ) (room : ℕ) → maxText ≤ room → tomiterOutcome input room ≡ served (length (tomiterText input))
+  pub rows : RowsHold textRows

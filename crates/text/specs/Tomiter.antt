@@ -1,0 +1,85 @@
+-- The program's whole job, by document 01: from the bytes of two cascade files to the bytes that it writes.
+use mathlib.Core.Bool.{Bool, cond}
+use mathlib.Core.List.{List, [], _∷_, _++_}
+use Prim.Native.Nat.{ℕ, _+_}
+use lib.Dec.{eqb, leb}
+use lib.ListN.{length, drop}
+use Rattle.circuit.specs.declared.gate.Gate.{Gate}
+use Rattle.circuit.specs.Outcome.{Outcome, served, refused, demand, written}
+use Rattle.circuit.specs.Refusal.{wrongForm, lineCountsDiffer, noRoom}
+use Rattle.files.specs.Text.{tab, lineFeed}
+use Rattle.files.specs.File.{Reading, reading}
+use Rattle.reduction.specs.Miter.{miterGates}
+use Rattle.checking.specs.Clauses.{Clause, clausesOf, variablesOf}
+use Rattle.checking.specs.Stored.{stored}
+use Rattle.text.specs.Dimacs.{decimal, dimacsOf}
+
+-- the input has 65,536 bytes at most, and the clause buffer 16,384 words
+abbrev pub maxInput : ℕ
+maxInput = 65536
+
+abbrev pub maxWords : ℕ
+maxWords = 16384
+
+-- no text has more bytes: six for each word of the clause buffer, and seventeen for the header
+abbrev pub maxText : ℕ
+maxText = 98321
+
+-- clauses over so many variables; or a refusal's number, file (1, 2, or 0 for both) and place
+pub data Verdict : Type 0 where
+  listed : ℕ → List Clause → Verdict
+  refusedAt : ℕ → ℕ → ℕ → Verdict
+
+-- goes on where the test holds, and is else refused
+abbrev pub unless : Bool → Verdict → Verdict → Verdict
+unless test refusal more = cond test more refusal
+
+-- goes on with the cascade of a file; what is wrong with it is said of that file
+abbrev pub ofFile : ℕ → Outcome Reading → (Reading → Verdict) → Verdict
+ofFile file (served c) more = more c
+ofFile file (refused number place) more = refusedAt number file place
+
+-- the clause list of the miter, as it is built: 10
+unfoldable pub listVerdict : ℕ → List Gate → Verdict
+listVerdict n gs =
+    unless (leb (length (stored (clausesOf n gs))) maxWords) (refusedAt noRoom 0 0) (listed (variablesOf n gs) (clausesOf n gs))
+
+-- two cascades: 8
+unfoldable pub pairVerdict : ℕ → List Gate → ℕ → List Gate → Verdict
+pairVerdict na a nb b = unless (eqb na nb) (refusedAt lineCountsDiffer 0 0) (listVerdict na (miterGates a b))
+
+-- the second file: its own refusal, then 1 for bytes after its `end`, at the line index after that
+unfoldable pub secondVerdict : ℕ → List Gate → List ℕ → Verdict
+secondVerdict n gs text =
+    ofFile 2 (reading text) (λ c.
+    unless (eqb (c .taken) (length text)) (refusedAt wrongForm 2 (length (c .gates) + 2)) (pairVerdict n gs (c .lines) (c .gates)))
+
+-- more than 65,536 bytes: 10; the first file; the second one, from where the first one's reading stops
+unfoldable pub verdict : List ℕ → Verdict
+verdict input =
+    unless (leb (length input) maxInput) (refusedAt noRoom 0 0)
+    (ofFile 1 (reading input) (λ c. secondVerdict (c .lines) (c .gates) (drop (c .taken) input)))
+
+-- `refused`
+abbrev pub refusedWord : List ℕ
+refusedWord = 114 ∷ 101 ∷ 102 ∷ 117 ∷ 115 ∷ 101 ∷ 100 ∷ []
+
+-- `refused`, number, file, place, tab-parted, and an LF
+unfoldable pub refusalText : ℕ → ℕ → ℕ → List ℕ
+refusalText number file place =
+    refusedWord ++ (tab ∷ (decimal number ++ (tab ∷ (decimal file ++ (tab ∷ (decimal place ++ (lineFeed ∷ [])))))))
+
+abbrev pub verdictText : Verdict → List ℕ
+verdictText (listed variables cs) = dimacsOf variables cs
+verdictText (refusedAt number file place) = refusalText number file place
+
+-- what the program writes
+unfoldable pub tomiterText : List ℕ → List ℕ
+tomiterText input = verdictText (verdict input)
+
+-- the call on slices: 10 where the buffer is shorter than the text
+unfoldable pub tomiterOutcome : List ℕ → ℕ → Outcome ℕ
+tomiterOutcome input room = demand (leb (length (tomiterText input)) room) noRoom 0 (served (length (tomiterText input)))
+
+unfoldable pub tomiterBuffer : List ℕ → List ℕ → List ℕ
+tomiterBuffer input out = written (tomiterOutcome input (length out)) (tomiterText input) out

@@ -1,0 +1,93 @@
+// From the bytes of two cascade files to the clause list of their miter.
+
+use checking::clauses::SizesAnswer;
+use checking::clauses::Totals;
+use circuit::gate::Gate;
+use circuit::refusal::Refusal;
+use circuit::words::CountAnswer;
+use files::file::ReadAnswer;
+ghost use mathlib.Core.Path.{_≡_};
+ghost use lib.ListN.{length};
+ghost use Rattle.circuit.specs.Words.{gatesOf};
+ghost use Rattle.text.specs.Tomiter.{maxWords, pairVerdict, secondVerdict, verdict};
+ghost use Rattle.text.specs.Answers.{FileWords, Says};
+
+// The totals of a clause list that stands in the clause buffer; or a refusal with its file, 1, 2, or 0 for both.
+pub enum ListAnswer {
+    Listed(Totals),
+    Refused { why: Refusal, file: u64 },
+}
+
+// The words of a file's cascade and of a miter, at most.
+const FILE_WORDS: usize = 3072;
+
+const MITER_WORDS: usize = 6144;
+
+// The clause list of two cascades; else 8 or 10.
+fn list_pair(na: u64, a: &[u64], nb: u64, b: &[u64], clauses: &mut [i16]) -> ListAnswer
+    requires { ⌜ FileWords na (now a) ⌝ }
+    requires { ⌜ FileWords nb (now b) ⌝ }
+    requires { ⌜ length (now clauses) ≡ maxWords ⌝ }
+    ensures { λ r. ⌜ Says r (now (clauses .exit)) (pairVerdict na (gatesOf (now (a .entry))) nb (gatesOf (now (b .entry)))) ⌝ }
+{
+    let mut room = [0u64; MITER_WORDS];
+    match reduction::miter::miter(na, a, nb, b, &mut room) {
+        CountAnswer::Refused(why) => ListAnswer::Refused { why, file: 0 },
+        CountAnswer::Gates(gates) => {
+            let end = Gate::WORDS * gates;
+            match checking::clauses::emit(na, &room[..end], clauses) {
+                SizesAnswer::Refused(why) => ListAnswer::Refused { why, file: 0 },
+                SizesAnswer::Sizes(totals) => ListAnswer::Listed(totals),
+            }
+        }
+    }
+}
+
+// The clause list of a cascade and of the one in the second file; else what is wrong with that file, 8 or 10.
+fn list_second(n: u64, a: &[u64], text: &[u8], clauses: &mut [i16]) -> ListAnswer
+    requires { ⌜ FileWords n (now a) ⌝ }
+    requires { ⌜ length (now clauses) ≡ maxWords ⌝ }
+    ensures { λ r. ⌜ Says r (now (clauses .exit)) (secondVerdict n (gatesOf (now (a .entry))) (now (text .entry))) ⌝ }
+{
+    let mut b = [0u64; FILE_WORDS];
+    match files::file::read(text, &mut b) {
+        ReadAnswer::Refused(why) => ListAnswer::Refused { why, file: 2 },
+        ReadAnswer::Cascade {
+            header,
+            gates,
+            taken,
+        } => {
+            if taken != text.len() {
+                let why = Refusal::wrong_form(gates as u64 + 2);
+                return ListAnswer::Refused { why, file: 2 };
+            }
+            let end = Gate::WORDS * gates;
+            list_pair(n, a, header.lines, &b[..end], clauses)
+        }
+    }
+}
+
+// The clause list of the two files of an input; else what is wrong with it.
+pub(crate) fn list(input: &[u8], clauses: &mut [i16]) -> ListAnswer
+    requires { ⌜ length (now clauses) ≡ maxWords ⌝ }
+    ensures { λ r. ⌜ Says r (now (clauses .exit)) (verdict (now (input .entry))) ⌝ }
+{
+    if crate::MAX_INPUT < input.len() {
+        return ListAnswer::Refused {
+            why: Refusal::no_room(),
+            file: 0,
+        };
+    }
+    let mut a = [0u64; FILE_WORDS];
+    match files::file::read(input, &mut a) {
+        ReadAnswer::Refused(why) => ListAnswer::Refused { why, file: 1 },
+        ReadAnswer::Cascade {
+            header,
+            gates,
+            taken,
+        } => {
+            let end = Gate::WORDS * gates;
+            list_second(header.lines, &a[..end], &input[taken..], clauses)
+        }
+    }
+}
