@@ -304,7 +304,8 @@ fn main() {
     for work in &works {
         let library = || time_write(work, library_write);
         let plain = || time_write(work, plain_file::write);
-        file_highest = file_highest.max(compare("cascade_write", work.name, ROUNDS, library, plain));
+        file_highest =
+            file_highest.max(compare("cascade_write", work.name, ROUNDS, library, plain));
     }
     println!("bench: of files {file_highest:.2}, the limit {FILE_LIMIT}");
     println!("\nagainst plain Rust with std::hint::select_unpredictable (not judged)");
