@@ -1,6 +1,5 @@
 -- Answers of the calls that compare two cascades in C.
 use mathlib.Core.Bool.{Bool, true, false, cond}
-use Prim.Native.Nat.{ℕ}
 use lib.Dec.{ltb}
 use Rattle.circuit.specs.Outcome.{Outcome, served, refused}
 use Rattle.circuit.specs.Words.{Counts}

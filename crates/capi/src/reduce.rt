@@ -1,7 +1,6 @@
 // cascade_reduce.
 
 use reduction::reduce::ReduceAnswer;
-ghost use mathlib.Core.Path.{_≡_};
 ghost use Rattle.circuit.specs.Outcome.{Yields};
 ghost use Rattle.reduction.specs.Reduce.{reduceOutcome, reduceBuffer};
 ghost use Rattle.capi.specs.Reduce.{reduceAnswer};

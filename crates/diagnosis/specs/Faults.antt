@@ -10,7 +10,7 @@ use Rattle.circuit.specs.declared.gate.Gate.{Gate}
 use Rattle.circuit.specs.Gate.{maxLines, fires, apply}
 use Rattle.circuit.specs.Outcome.{Outcome, served, demand, andThen, written}
 use Rattle.circuit.specs.Refusal.{badState, agreeingState, noRoom}
-use Rattle.circuit.specs.Words.{gatesOf, Counts, pairOutcome}
+use Rattle.circuit.specs.Words.{gatesOf, pairOutcome}
 use Rattle.circuit.specs.Run.{run}
 use Rattle.diagnosis.specs.Compare.{outputsDiffer}
 

@@ -16,7 +16,7 @@ ghost use Rattle.circuit.specs.Outcome.{Yields};
 ghost use Rattle.circuit.specs.Refusal.{badState, agreeingState};
 ghost use Rattle.circuit.specs.Words.{gatesOf, allValid, ofCount};
 ghost use Rattle.diagnosis.specs.Compare.{outputsDiffer};
-ghost use Rattle.diagnosis.specs.Faults.{isFree, maskWhere, masksFrom, faultMasks, eachFrom, faultCheck, faultOutcome, faultBuffer, kept, narrowed, narrowedBy};
+ghost use Rattle.diagnosis.specs.Faults.{isFree, maskWhere, masksFrom, eachFrom, faultCheck, faultOutcome, faultBuffer, kept, narrowed, narrowedBy};
 
 // The lines below n.
 fn lines_below(n: u64) -> u64

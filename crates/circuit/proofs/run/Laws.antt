@@ -1,10 +1,9 @@
 -- The laws of a run: one gate at a time over words, of two cascades in a row, of the inverse, and its bound. Assumes nothing.
-use mathlib.Core.Path.{_≡_, refl, sym, ap, ap₂, _∙_}
+use mathlib.Core.Path.{_≡_, sym, ap, _∙_}
 use mathlib.Core.Logic.{_↔_}
 use mathlib.Core.Bool.{true, false}
 use mathlib.Core.List.{List, [], _∷_, _++_}
 use Prim.Native.Nat.{ℕ, _+_, _*_, _/_, _^_, _<_, _≤_}
-use native.Mathlib.Omega.{arith}
 use lib.Dec.{eqb, ltb}
 use lib.ListN.{length, drop}
 use borrow.Author.Tests.{eqb-true, eqb-false}
@@ -12,13 +11,13 @@ use Rattle.bits.specs.Lists.{fold}
 use Rattle.bits.proofs.Lists.{fold-append}
 use Rattle.bits.proofs.Bools.{and-parts, either}
 use Rattle.circuit.specs.declared.gate.Gate.{Gate}
-use Rattle.circuit.specs.Gate.{maxLines, maxGates, apply, inverted, valid}
+use Rattle.circuit.specs.Gate.{maxGates, apply, valid}
 use Rattle.circuit.specs.Outcome.{Outcome, served, refused, andThen}
 use Rattle.circuit.specs.Refusal.{badState, badLineCount}
 use Rattle.circuit.specs.Words.{gateAt, gatesOf, allValid, lineCountGood, validFrom, sizeOutcome, checkOutcome}
 use Rattle.circuit.specs.Run.{run, Equal, Differs, runOutcome}
-use Rattle.circuit.proofs.Outcome.{never, demand-met, demand-failed, then-served, then-refused, then-both, then-fails}
-use Rattle.circuit.proofs.gate.Laws.{apply-gate, apply-below}
+use Rattle.circuit.proofs.Outcome.{demand-met, demand-failed, then-served, then-refused, then-both, then-fails}
+use Rattle.circuit.proofs.gate.Laws.{apply-below}
 use Rattle.circuit.proofs.words.Laws.{gates-next, gates-end, check-lines, check-gates, gates-refused, gates-sized}
 
 -- a turn over the words: gate i acts, and the others after it

@@ -1,21 +1,18 @@
 -- The laws of words as gates: the next gate, gates as words, and what the tests of a caller's words say. Assumes nothing.
 use mathlib.Core.Path.{_≡_, refl, sym, ap, ap₂, _∙_, subst₂}
-use mathlib.Core.Logic.{_↔_}
-use mathlib.Core.Bool.{Bool, true, false, _&&_}
+use mathlib.Core.Bool.{true, false}
 use mathlib.Core.List.{List, [], _∷_, _++_, reverse, reverse-cons}
 use Prim.Native.Nat.{ℕ, zero, suc, _+_, _*_, _/_, _%_, _≤_, _<_}
-use native.Mathlib.Nat.{not-suc-le-zero, le-of-suc-le-suc}
 use native.Mathlib.Omega.{arith}
 use lib.Dec.{eqb, leb}
 use lib.ListN.{length, getD, drop, take, length-drop, List·getD-eq-default}
-use lib.Seq.{drop-length}
 use borrow.Author.Tests.{le-leb, lt-leb, eq-eqb, ne-eqb, leb-true, leb-false, eqb-true, eqb-false}
 use Rattle.bits.specs.Lists.{over}
 use Rattle.bits.proofs.Bools.{either, and-parts, both, not-held, refuted, cond-true, cond-false}
 use Rattle.bits.proofs.Lists.{three}
 use Rattle.circuit.specs.declared.gate.Gate.{Gate}
 use Rattle.circuit.specs.Gate.{maxLines, maxGates, notGate, valid}
-use Rattle.circuit.specs.Outcome.{Outcome, served, refused, demand, andThen}
+use Rattle.circuit.specs.Outcome.{Outcome, served, refused}
 use Rattle.circuit.specs.Refusal.{badLineCount, tooManyGates, noGate, lineCountsDiffer, badWordCount}
 use Rattle.circuit.specs.Words.{gatesOf, gateAt, gateWords, wordsOf, putGate, allValid, lineCountGood, validFrom, sizeOutcome, gatesOutcome, checkOutcome, Counts, pairOutcome, Cascade, WordsFault, lines, thirds, many, gate, PairFault, first-fault, second-fault, differ}
 use Rattle.circuit.proofs.gate.Laws.{valid-more}

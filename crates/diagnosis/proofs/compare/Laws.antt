@@ -1,10 +1,10 @@
 -- The laws of comparing two cascades: the search for the lowest difference, and what the calls answer. Assumes nothing.
-use mathlib.Core.Path.{_≡_, refl, sym, ap, ap₂, subst, _∙_}
-use mathlib.Core.Bool.{Bool, true, false, not, cond}
+use mathlib.Core.Path.{_≡_, sym, ap, subst, _∙_}
+use mathlib.Core.Bool.{Bool, true, false}
 use mathlib.Core.List.{List, []}
 use Prim.Native.Nat.{ℕ, zero, suc, _+_, _-_, _^_, _<_, _≤_}
 use native.Mathlib.Omega.{arith}
-use lib.Dec.{eqb, leb, ltb}
+use lib.Dec.{eqb, ltb}
 use borrow.Author.Tests.{eqb-true, eqb-false, not-true, not-false, le-leb, lt-leb, ltb-true, ltb-false}
 use Rattle.bits.proofs.Bools.{either, cond-true, cond-false}
 use Rattle.circuit.specs.declared.gate.Gate.{Gate}
@@ -12,7 +12,7 @@ use Rattle.circuit.specs.Gate.{maxLines}
 use Rattle.circuit.specs.Outcome.{Outcome, served, refused}
 use Rattle.circuit.specs.Refusal.{badState, tooWide}
 use Rattle.circuit.specs.Words.{gatesOf, allValid, Counts, pairOutcome}
-use Rattle.circuit.specs.Run.{run, Equal, Differs}
+use Rattle.circuit.specs.Run.{run}
 use Rattle.circuit.proofs.Outcome.{demand-met, demand-failed, then-served, then-refused}
 use Rattle.circuit.proofs.words.Laws.{valid-all-more, pair-served}
 use Rattle.diagnosis.specs.Compare.{outputsDiffer, maxSweepLines, Difference, none, lowest, lowestFrom, differenceOutcome, Says, differsOutcome, picked, pickOutcome, Picks}

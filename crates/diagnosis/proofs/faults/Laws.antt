@@ -1,5 +1,5 @@
 -- The laws of faults: candidates bit by bit, repairs, excluded lines, and the stand-ins. Assumes nothing.
-use mathlib.Core.Path.{_≡_, refl, sym, ap, ap₂, subst, _∙_}
+use mathlib.Core.Path.{_≡_, refl, sym, ap, ap₂, _∙_}
 use mathlib.Core.Logic.{_↔_}
 use mathlib.Core.Bool.{Bool, true, false, not, xor, _&&_, _||_, true≢false, false≢true}
 use mathlib.Core.List.{List, [], _∷_, _++_, append-nil, append-assoc}
@@ -10,14 +10,13 @@ use lib.Bits.{bitOr, bitXor}
 use lib.Dec.{eqb, ltb}
 use lib.ListN.{length, take, drop, getD}
 use lib.Seq.{split-at}
-use borrow.Author.Tests.{eqb-true, eqb-false, eq-eqb, ne-eqb, ltb-true, ltb-false, lt-ltb, not-true, not-false}
+use borrow.Author.Tests.{eqb-true, eqb-false, eq-eqb, ne-eqb, ltb-true, lt-ltb, not-true}
 use Rattle.bits.specs.Digits.{bit}
 use Rattle.bits.specs.Lists.{fold}
 use Rattle.bits.proofs.Bools.{and-parts, both, either, same-test, not-held}
 use Rattle.bits.proofs.Digits.{bit-or, bit-pow}
 use Rattle.circuit.specs.declared.gate.Gate.{Gate}
-use Rattle.circuit.specs.Gate.{maxLines, notGate, valid, fires, inverted, apply}
-use Rattle.circuit.specs.Laws.{FiresByLines, ValidByLines}
+use Rattle.circuit.specs.Gate.{maxLines, notGate, valid, fires}
 use Rattle.circuit.specs.Words.{allValid}
 use Rattle.circuit.specs.Run.{run, Differs}
 use Rattle.circuit.proofs.gate.Laws.{fires-lines, lines-fires, valid-by-lines, lines-valid, valid-more, apply-gate, inverted-fired, inverted-idle}

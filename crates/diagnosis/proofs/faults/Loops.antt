@@ -1,17 +1,15 @@
 -- The laws of the loops over gates and states, and of what the call answers and leaves. Assumes nothing.
 use mathlib.Core.Path.{_≡_, refl, sym, ap, ap₂, subst, _∙_}
-use mathlib.Core.Bool.{Bool, true, false, cond, _&&_}
+use mathlib.Core.Bool.{Bool, true, false, _&&_}
 use mathlib.Core.List.{List, [], _∷_, _++_, append-assoc}
-use Prim.Native.Nat.{ℕ, zero, suc, _+_, _*_, _/_, _^_, _<_, _≤_}
-use native.Mathlib.Nat.{le-of-lt}
+use Prim.Native.Nat.{ℕ, suc, _+_, _*_, _/_, _^_, _<_, _≤_}
 use native.Mathlib.Omega.{arith}
 use lib.Dec.{ltb}
 use lib.Bits.{bitAnd}
 use lib.ListN.{length, take, drop, getD, set, length-append, take-append-drop, drop-of-length-le}
-use lib.Seq.{sets-eq, drop-cons, drop-drop, take-at, drop-at, length-take-le, drop-length, getD-set-other}
+use lib.Seq.{sets-eq, drop-cons, take-at, drop-at, length-take-le}
 use borrow.Author.Tests.{le-leb, lt-leb}
 use Rattle.bits.specs.Lists.{over}
-use Rattle.bits.proofs.Bools.{either}
 use Rattle.bits.proofs.Lists.{two}
 use Rattle.circuit.specs.declared.gate.Gate.{Gate}
 use Rattle.circuit.specs.Gate.{maxLines, maxGates, apply}

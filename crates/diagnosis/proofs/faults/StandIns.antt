@@ -1,17 +1,16 @@
 -- The stand-ins that the laws of the sweep and of the masks shut out, and the record of these laws. Assumes nothing.
-use mathlib.Core.Path.{_≡_, refl, sym, _∙_}
-use mathlib.Core.Bool.{Bool, true, false, true≢false, false≢true}
+use mathlib.Core.Path.{_≡_, refl}
+use mathlib.Core.Bool.{true, false, false≢true}
 use mathlib.Core.List.{List, [], _∷_}
 use Prim.Native.Nat.{ℕ, zero, suc, _-_, _^_, _<_}
 use native.Mathlib.Omega.{arith}
-use lib.ListN.{length}
 use Rattle.bits.specs.Digits.{bit}
 use Rattle.bits.specs.Lists.{fold}
 use Rattle.circuit.specs.declared.gate.Gate.{Gate}
 use Rattle.circuit.specs.Gate.{notGate, valid, fires, inverted, apply}
 use Rattle.circuit.specs.Run.{run}
 use Rattle.diagnosis.specs.Compare.{none, lowestFrom}
-use Rattle.diagnosis.specs.Faults.{isFree, maskWhere}
+use Rattle.diagnosis.specs.Faults.{maskWhere}
 use Rattle.diagnosis.specs.FaultLaws.{Sweeping, Candidate, Masking, strikesNothing, strikesAll, stateAt, gateOf, FaultLaws}
 use Rattle.diagnosis.proofs.compare.Laws.{sweep-says}
 use Rattle.diagnosis.proofs.faults.Laws.{masks-masking, repair-leaves, control-repairs, control-valid, excluded}

@@ -1,8 +1,7 @@
 -- `file_rows::put` meets its contract. The loop's invariant: the index is at most the word's length. Assumes nothing.
 use mathlib.Core.Path.{_≡_}
 use Prim.Native.Nat.{_≤_, _-_}
-use native.Mathlib.Omega.{arith}
-use lib.ListN.{length, length-set}
+use lib.ListN.{length}
 use borrow.Author.Needs.{needs}
 use Rattle.file_rows.proofs.put.Statement.{statement}
 use Rattle.file_rows.proofs.put.Tie as tie

@@ -1,7 +1,6 @@
 -- `file_rows::put_gates` meets its contract. The loop's invariant: the position is inside the buffer. Assumes nothing.
 use mathlib.Core.Path.{_≡_}
 use Prim.Native.Nat.{_≤_, _-_}
-use native.Mathlib.Omega.{arith}
 use lib.ListN.{length}
 use borrow.Author.Needs.{needs}
 use Rattle.file_rows.proofs.put_gates.Statement.{statement}

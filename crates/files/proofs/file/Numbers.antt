@@ -1,13 +1,13 @@
 -- The laws of a number field: it is the text of its number, and that text reads back. Assumes nothing.
 use mathlib.Core.Path.{_≡_, refl, sym, ap, ap₂, _∙_}
-use mathlib.Core.Bool.{Bool, true, not, _&&_}
+use mathlib.Core.Bool.{true, not, _&&_}
 use mathlib.Core.List.{List, [], _∷_}
 use Prim.Native.Nat.{ℕ, _+_, _*_, _-_, _/_, _%_, _≤_, _<_}
 use native.Mathlib.Omega.{arith}
 use lib.Dec.{eqb, leb, ltb}
 use borrow.Author.Tests.{eqb-false, not-true, le-leb, leb-true, ltb-true, ltb-false, lt-ltb, le-ltb, ne-eqb}
 use Rattle.bits.proofs.Bools.{either, and-parts, both, cond-true, cond-false}
-use Rattle.circuit.specs.Outcome.{Outcome, served, refused}
+use Rattle.circuit.specs.Outcome.{served, refused}
 use Rattle.circuit.specs.Refusal.{wrongForm}
 use Rattle.files.specs.Text.{digit, numberText}
 use Rattle.files.specs.File.{isDigit, numberOf}

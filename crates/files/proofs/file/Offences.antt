@@ -16,7 +16,7 @@ use Rattle.circuit.specs.Words.{allValid, lineCountGood}
 use Rattle.files.specs.Text.{tab, lineFeed, plus, minus, linesWord, gateWord, endWord, numberText, controlText, controlsText, gateText, gateLine, endLine, gateLines}
 use Rattle.files.specs.File.{Line, noLine, firstLine, laterLines, linesOf, size, fieldsOf, same, numberOf, lineOf, controlOf, controlsFrom, among, risingFrom, gateOf, closedGate, gateFields, gateOn, headerFields, headerOn, isEnd, Reading, readFrom}
 use Rattle.files.specs.FileLaws as laws
-use Rattle.files.specs.FileLaws.{FileCascade, NumberField, ControlField, HeaderOffence, ControlsOffence, Inside, Among, NotRising, GoodFields, LineOffence, FileFault}
+use Rattle.files.specs.FileLaws.{NumberField, ControlField, HeaderOffence, ControlsOffence, Inside, Among, NotRising, GoodFields, LineOffence}
 use Rattle.circuit.proofs.Outcome.{never, demand-met, demand-failed, then-served, then-refused}
 use Rattle.circuit.proofs.words.Laws.{lines-good, good-lines}
 use Rattle.files.proofs.file.Lines.{tabbed, whole, fields-back, same-true, same-self, true-same, Cut, cut-first}

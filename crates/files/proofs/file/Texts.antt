@@ -10,13 +10,13 @@ use borrow.Author.Tests.{le-leb, lt-ltb, ltb-true}
 use Rattle.bits.proofs.Bools.{and-parts, both}
 use Rattle.circuit.specs.declared.gate.Gate.{Gate}
 use Rattle.circuit.specs.Gate.{maxLines, maxGates, valid, Control, controlsOf}
-use Rattle.circuit.specs.Outcome.{Outcome, served, andThen}
+use Rattle.circuit.specs.Outcome.{served, andThen}
 use Rattle.circuit.specs.Words.{allValid}
 use Rattle.files.specs.Text.{tab, lineFeed, plus, minus, linesWord, gateWord, endWord, numberText, controlText, controlsText, gateText, headerLine, gateLine, endLine, gateLines, textOf}
-use Rattle.files.specs.File.{Line, firstLine, laterLines, linesOf, size, fieldsOf, same, lineOf, controlOf, controlsFrom, among, risingFrom, gateOf, closedGate, gateFields, gateOn, headerFields, headerOn, Reading, readFrom, reading}
+use Rattle.files.specs.File.{Line, firstLine, laterLines, linesOf, size, fieldsOf, same, lineOf, controlOf, controlsFrom, among, risingFrom, gateOf, closedGate, gateFields, gateOn, headerFields, headerOn, readFrom, reading}
 use Rattle.files.specs.FileLaws.{FileCascade}
 use Rattle.circuit.proofs.Outcome.{demand-met, then-served}
-use Rattle.circuit.proofs.gate.Laws.{Valid, valid-facts, valid-more}
+use Rattle.circuit.proofs.gate.Laws.{valid-facts, valid-more}
 use Rattle.circuit.proofs.words.Laws.{good-lines}
 use Rattle.files.proofs.file.Lines.{free, free-append, lines-cut, tabbed, fields-cut, fields-one, allFree, fields-joined, same-self}
 use Rattle.files.proofs.file.Numbers.{number-free, number-text}

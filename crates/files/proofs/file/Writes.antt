@@ -18,7 +18,7 @@ use Rattle.files.specs.File.{writeOutcome, writeBuffer}
 use Rattle.files.specs.Put.{Put}
 use Rattle.files.specs.Scan.{width}
 use Rattle.circuit.proofs.Outcome.{demand-met, demand-failed, then-served, then-refused, told}
-use Rattle.circuit.proofs.gate.Laws.{Valid, valid-facts}
+use Rattle.circuit.proofs.gate.Laws.{valid-facts}
 use Rattle.circuit.proofs.words.Laws.{gates-next, gates-end}
 use Rattle.files.proofs.file.scan.Laws.{width-two}
 use Rattle.files.proofs.file.put.Laws.{Written, written-none, written-more, written-put, put-as, header-length}

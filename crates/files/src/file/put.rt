@@ -2,13 +2,12 @@
 
 use circuit::gate::Gate;
 ghost use mathlib.Core.Path.{_≡_};
-ghost use mathlib.Core.Bool.{true, cond};
-ghost use mathlib.Core.List.{[], _∷_, _++_};
+ghost use mathlib.Core.Bool.{cond};
+ghost use mathlib.Core.List.{_∷_, _++_};
 ghost use Prim.Native.Nat.{_+_, _/_, _%_, _<_, _≤_};
 ghost use lib.ListN.{length};
 ghost use Rattle.bits.specs.Digits.{bit};
-ghost use Rattle.bits.specs.Lists.{over};
-ghost use Rattle.circuit.specs.Gate.{maxLines, valid, controlsOf};
+ghost use Rattle.circuit.specs.Gate.{maxLines, controlsOf};
 ghost use Rattle.files.specs.Text.{tab, plus, minus, digit, numberText, controlText, controlsText, headerLine, gateText, gateLine, endLine};
 ghost use Rattle.files.specs.Put.{Put, TwoDigits, maskGate};
 

@@ -15,7 +15,7 @@ use Rattle.circuit.specs.declared.gate.Gate.{Gate}
 use Rattle.circuit.specs.Gate.{maxGates}
 use Rattle.circuit.specs.Outcome.{Outcome, served, refused, written, Yields}
 use Rattle.circuit.specs.Refusal.{noRoom}
-use Rattle.circuit.specs.Words.{gatesOf, wordsOf, allValid, Counts, pairOutcome, Cascade}
+use Rattle.circuit.specs.Words.{gatesOf, wordsOf, allValid, Counts, pairOutcome}
 use Rattle.circuit.specs.Run.{run}
 use Rattle.circuit.specs.Inverse.{inverse, inverseBuffer}
 use Rattle.circuit.proofs.Outcome.{told, demand-met, demand-failed, demanded, then-served, then-refused, then-both}

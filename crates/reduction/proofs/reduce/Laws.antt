@@ -7,7 +7,6 @@ use lib.ListN.{length}
 use Rattle.circuit.specs.declared.gate.Gate.{Gate}
 use Rattle.reduction.specs.declared.step.Kind.{Kind}
 use Rattle.reduction.specs.declared.step.Kind.the-variants.{Cancel, RemoveControl, InvertControl}
-use Rattle.reduction.specs.declared.step.Match.{Match}
 use Rattle.reduction.specs.declared.step.Search.{Search}
 use Rattle.reduction.specs.declared.step.Search.the-variants as hits
 use Rattle.circuit.specs.Gate.{maxMiterGates}

@@ -18,7 +18,7 @@ use Rattle.circuit.proofs.run.Laws.{run-append}
 use Rattle.reduction.specs.declared.step.Match.{Match}
 use Rattle.reduction.specs.declared.step.Match.the-variants as match
 use Rattle.reduction.specs.Step.{mayPass, kindOf, remaining, between, replaced}
-use Rattle.reduction.specs.StepLaws.{Matches, gateIn, Candidate, taken}
+use Rattle.reduction.specs.StepLaws.{gateIn, Candidate, taken}
 use Rattle.reduction.proofs.step.Lines.{passing, match-run, match-valid}
 
 -- the parts of a list of valid gates

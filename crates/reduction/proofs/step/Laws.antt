@@ -18,7 +18,7 @@ use Rattle.circuit.proofs.words.Laws.{gates-length, gates-words, words-length, 
 use Rattle.reduction.specs.declared.step.Kind.{Kind}
 use Rattle.reduction.specs.declared.step.Match.{Match}
 use Rattle.reduction.specs.Step.{remaining, filled, Step, found, none, stepGates, counted, stepWords, servedWords, stepOutcome, stepBuffer}
-use Rattle.reduction.specs.StepLaws.{Matches, Candidate, Steps, finds, taken, Keeps, Stands, StepLaws}
+use Rattle.reduction.specs.StepLaws.{Matches, Steps, finds, taken, Keeps, Stands, StepLaws}
 use Rattle.reduction.proofs.step.Lines.{pass-clear, clear-pass, passing, match-run, match-valid}
 use Rattle.reduction.proofs.step.Verdicts.{match-found, found-match, match-unique}
 use Rattle.reduction.proofs.step.Relation.{step-relation, steps-unique}

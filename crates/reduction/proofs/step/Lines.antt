@@ -12,7 +12,6 @@ use Rattle.bits.proofs.Bools.{and-parts, both, either, same-test, refuted}
 use Rattle.bits.proofs.Digits.{bit-and, bit-or, bit-pow, bit-none, bits-equal}
 use Rattle.circuit.specs.declared.gate.Gate.{Gate}
 use Rattle.circuit.specs.Gate.{maxLines, fires, valid, apply}
-use Rattle.circuit.specs.Laws.{FiresByLines, ValidByLines}
 use Rattle.circuit.specs.Words.{allValid}
 use Rattle.circuit.specs.Run.{run}
 use Rattle.circuit.proofs.gate.Laws.{fires-lines, lines-fires, valid-by-lines, lines-valid, apply-bit, apply-twice}

@@ -10,7 +10,6 @@ use borrow.Author.Tests.{leb-true, leb-false}
 use Rattle.bits.proofs.Bools.{and-parts, either, refuted}
 use Rattle.circuit.specs.declared.gate.Gate.{Gate}
 use Rattle.circuit.specs.Gate.{maxLines, valid}
-use Rattle.circuit.specs.Laws.{ValidByLines}
 use Rattle.circuit.specs.Words.{gatesOf, gateAt, allValid}
 use Rattle.circuit.proofs.gate.Laws.{valid-by-lines}
 use Rattle.circuit.proofs.words.Laws.{gates-length}

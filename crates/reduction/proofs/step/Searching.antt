@@ -12,7 +12,6 @@ use Rattle.reduction.specs.declared.step.Verdict.{Verdict}
 use Rattle.reduction.specs.declared.step.Verdict.the-variants.{Apart, Matched}
 use Rattle.reduction.specs.declared.step.Scan.{Scan}
 use Rattle.reduction.specs.declared.step.Scan.the-variants as scans
-use Rattle.reduction.specs.declared.step.Search.{Search}
 use Rattle.reduction.specs.declared.step.Search.the-variants as finds
 use Rattle.reduction.specs.Step.{mayPass, matchOf, judged, scanFrom, scanned, searchFrom}
 

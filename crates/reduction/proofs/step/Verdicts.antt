@@ -12,7 +12,6 @@ use Rattle.bits.proofs.Digits.{bit-and, bit-or, bit-xor, bit-pow, bit-none, bit
 use Rattle.bits.proofs.Single.{ones-zero, single-pow, pow-single}
 use Rattle.circuit.specs.declared.gate.Gate.{Gate}
 use Rattle.circuit.specs.Gate.{maxLines, valid}
-use Rattle.circuit.specs.Laws.{ValidByLines}
 use Rattle.circuit.proofs.gate.Laws.{valid-by-lines}
 use Rattle.reduction.specs.declared.step.Match.{Match}
 use Rattle.reduction.specs.declared.step.Match.the-variants as match

@@ -1,5 +1,5 @@
 -- `capi::compare::cascade_fewer_gates` meets its contract. Assumes nothing.
-use mathlib.Core.Path.{_≡_, sym, ap, _∙_}
+use mathlib.Core.Path.{sym, ap, _∙_}
 use borrow.Author.Needs.{needs}
 use Rattle.diagnosis.specs.Compare.{ofRefusal}
 use Rattle.capi.proofs.compare.Laws.{fewer-refused, fewer-second, fewer-first}

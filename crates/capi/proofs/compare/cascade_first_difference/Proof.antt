@@ -1,5 +1,5 @@
 -- `capi::compare::cascade_first_difference` meets its contract. Assumes nothing.
-use mathlib.Core.Path.{_≡_, sym, ap, _∙_}
+use mathlib.Core.Path.{sym, ap, _∙_}
 use borrow.Author.Needs.{needs}
 use Rattle.diagnosis.specs.Compare.{ofDifference}
 use Rattle.capi.specs.Compare.{stateAnswer}

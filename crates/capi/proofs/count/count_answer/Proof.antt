@@ -1,5 +1,5 @@
 -- `capi::count::count_answer` meets its contract. Assumes nothing.
-use mathlib.Core.Path.{_≡_, sym, ap}
+use mathlib.Core.Path.{sym, ap}
 use borrow.Author.Needs.{needs}
 use Rattle.circuit.specs.declared.words.CountAnswer.{CountAnswer}
 use Rattle.circuit.specs.Words.{ofCount}

@@ -1,5 +1,5 @@
 -- `capi::file::cascade_read` meets its contract. Assumes nothing.
-use mathlib.Core.Path.{_≡_, sym, ap, _∙_}
+use mathlib.Core.Path.{sym, ap, _∙_}
 use borrow.Author.Needs.{needs}
 use Rattle.files.specs.File.{ofRead}
 use Rattle.capi.specs.File.{readAnswer}

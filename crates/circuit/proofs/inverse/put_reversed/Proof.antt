@@ -1,7 +1,7 @@
 -- `circuit::inverse::put_reversed` meets its contract. The loop's invariant: the gates from j on stand in reverse order at the buffer's start. Assumes nothing.
 use mathlib.Core.Path.{_≡_, refl, sym, ap, _∙_}
 use mathlib.Core.List.{List}
-use Prim.Native.Nat.{ℕ, _≤_, _-_, _*_, _/_, _+_}
+use Prim.Native.Nat.{ℕ, _-_, _*_, _/_, _+_}
 use native.Mathlib.Omega.{arith}
 use lib.ListN.{length}
 use borrow.Author.Needs.{needs}

@@ -1,6 +1,6 @@
 -- `circuit::words::check_each` meets its contract. The loop's invariant: the gates that were passed are valid, so what is left decides. Assumes nothing.
 use mathlib.Core.Path.{_≡_, refl, sym, ap, _∙_}
-use Prim.Native.Nat.{ℕ, _≤_, _-_, _*_, _/_}
+use Prim.Native.Nat.{_≤_, _-_, _*_, _/_}
 use native.Mathlib.Omega.{arith}
 use lib.ListN.{length, drop}
 use borrow.Author.Needs.{needs}

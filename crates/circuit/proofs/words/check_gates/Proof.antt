@@ -1,5 +1,5 @@
 -- `circuit::words::check_gates` meets its contract. Assumes nothing.
-use mathlib.Core.Path.{_≡_, sym, ap, _∙_}
+use mathlib.Core.Path.{sym, ap, _∙_}
 use borrow.Author.Needs.{needs}
 use Rattle.circuit.specs.Words.{ofCount}
 use Rattle.circuit.proofs.words.Laws.{gates-refused, gates-sized}

@@ -1,5 +1,5 @@
 -- `diagnosis::compare::fewer_gates_refusal` meets its contract. Assumes nothing.
-use mathlib.Core.Path.{_≡_, sym, ap, _∙_}
+use mathlib.Core.Path.{sym, ap, _∙_}
 use borrow.Author.Needs.{needs}
 use Rattle.circuit.specs.Words.{ofPair}
 use Rattle.diagnosis.proofs.compare.Laws.{pick-refused, pick-made}

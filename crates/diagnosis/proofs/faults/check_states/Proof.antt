@@ -1,5 +1,5 @@
 -- `diagnosis::faults::check_states` meets its contract. The loop's invariant: the states that were passed are below 2 ^ n, so what is left decides. Assumes nothing.
-use mathlib.Core.Path.{_≡_, refl, sym, ap, _∙_}
+use mathlib.Core.Path.{_≡_, refl, sym, _∙_}
 use mathlib.Core.Bool.{Bool}
 use Prim.Native.Nat.{ℕ, _≤_, _-_, _^_}
 use native.Mathlib.Omega.{arith}

@@ -1,5 +1,5 @@
 -- `diagnosis::faults::free_lines` meets its contract. Assumes nothing.
-use mathlib.Core.Path.{_≡_, sym, ap₂, _∙_}
+use mathlib.Core.Path.{ap₂, _∙_}
 use Prim.Native.Nat.{ℕ, _-_, _^_, _<_}
 use native.Mathlib.Nat.{one-mul}
 use native.Mathlib.Omega.{arith}
@@ -8,7 +8,7 @@ use lib.Dec.{lit<}
 use lib.Pow.{shl-exact}
 use borrow.Author.Needs.{needs}
 use Rattle.circuit.specs.Gate.{maxLines}
-use Rattle.circuit.proofs.gate.Laws.{Valid, valid-facts}
+use Rattle.circuit.proofs.gate.Laws.{valid-facts}
 use Rattle.diagnosis.proofs.faults.Masks.{free-mask}
 use Rattle.diagnosis.proofs.faults.free_lines.Statement.{statement}
 use Rattle.diagnosis.proofs.faults.free_lines.Tie as tie

@@ -1,5 +1,5 @@
 -- `diagnosis::faults::lines_below` meets its contract. Assumes nothing.
-use mathlib.Core.Path.{_≡_, refl, sym, ap, _∙_}
+use mathlib.Core.Path.{_≡_, ap, _∙_}
 use Prim.Native.Nat.{ℕ, _-_, _^_, _*_, _%_}
 use native.Mathlib.Nat.{one-mul}
 use native.Mathlib.Omega.{arith}

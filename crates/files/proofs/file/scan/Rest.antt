@@ -18,10 +18,9 @@ use Rattle.circuit.specs.Refusal.{wrongForm, badLineCount, lineOutside, targetC
 use Rattle.circuit.specs.Words.{lineCountGood}
 use Rattle.files.specs.Text.{tab, lineFeed, linesWord, gateWord, endWord, numberText}
 use Rattle.files.specs.File.{Line, noLine, firstLine, linesOf, size, longer, fieldsOf, same, numberOf, lineOf, controlOf, controlsFrom, among, risingFrom, maskOf, gateOf, closedGate, gateFields, gateOn, headerFields, headerOn, isEnd}
-use Rattle.files.specs.FileLaws.{ControlField}
-use Rattle.files.specs.Scan.{isStop, fieldAt, lineAt, startsWith, orHundred, width, added, GateNext, HeaderNext, laterFields, headerNext, gateNext, controlsNext}
+use Rattle.files.specs.Scan.{isStop, fieldAt, lineAt, startsWith, orHundred, width, added, laterFields, headerNext, gateNext, controlsNext}
 use Rattle.circuit.proofs.Outcome.{never, demand-met, demand-failed, demanded, then-served, then-refused, then-both}
-use Rattle.files.proofs.file.Lines.{line-more, line-over, lines-none, field-over, fields-none, fields-some, same-self, same-true, Cut, cut-first, tabbed, whole, fields-back}
+use Rattle.files.proofs.file.Lines.{line-more, line-over, lines-none, field-over, fields-none, fields-some, same-self, same-true, cut-first, tabbed, whole, fields-back}
 use Rattle.files.proofs.file.Lines as lines
 use Rattle.files.proofs.file.Numbers.{text-short, text-long, text-number, number-wrong}
 use Rattle.files.proofs.file.Controls.{nextLine, mask-push, among-push, rising-push, next-push}

@@ -5,7 +5,6 @@ use native.Mathlib.Omega.{arith}
 use lib.ListN.{length}
 use borrow.Author.Needs.{needs}
 use Rattle.circuit.specs.Words.{gatesOf}
-use Rattle.reduction.specs.declared.step.Match.{Match}
 use Rattle.reduction.specs.declared.step.Match.the-variants as match
 use Rattle.reduction.specs.declared.step.Search.the-variants as hits
 use Rattle.reduction.specs.Step.{searchFrom}

@@ -1,5 +1,5 @@
 -- `circuit::gate::Gate::apply` meets its contract. Assumes nothing.
-use mathlib.Core.Path.{_≡_, sym, _∙_}
+use mathlib.Core.Path.{sym, _∙_}
 use borrow.Author.Needs.{needs}
 use Rattle.circuit.proofs.gate.Laws.{apply-gate, apply-none}
 use Rattle.circuit.proofs.gate.Gate.apply.Statement.{statement}

@@ -1,5 +1,5 @@
 use borrow.Author.Needs.{needs}
-use mathlib.Core.Path.{_≡_, ap₂}
+use mathlib.Core.Path.{ap₂}
 use Prim.Native.Nat.{_+_}
 use Rattle.circuit.specs.Gate.{controlCount}
 use Rattle.circuit.proofs.gate.Gate.control_count.Statement.{statement}

@@ -1,7 +1,7 @@
 -- `circuit::gate::Gate::invert` meets its contract. Assumes nothing.
 use borrow.Author.Needs.{needs}
 use Rattle.circuit.specs.Gate.{maxLines}
-use Rattle.circuit.proofs.gate.Laws.{Valid, valid-facts, fires-gate, inverted-shifted}
+use Rattle.circuit.proofs.gate.Laws.{valid-facts, fires-gate, inverted-shifted}
 use Rattle.circuit.proofs.gate.Gate.invert.Statement.{statement}
 use Rattle.circuit.proofs.gate.Gate.invert.Tie as tie
 

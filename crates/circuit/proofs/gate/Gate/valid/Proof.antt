@@ -6,11 +6,11 @@ use native.Mathlib.Omega.{arith}
 use lib.Dec.{eqb, ltb}
 use lib.Bits.{bitAnd, bitOr, or-lt}
 use borrow.Author.Needs.{needs}
-use borrow.Author.Tests.{ltb-true, lt-ltb, not-true, not-false}
+use borrow.Author.Tests.{lt-ltb, not-true, not-false}
 use Rattle.bits.proofs.Bools.{refuted}
 use Rattle.circuit.specs.declared.gate.Gate.{Gate}
 use Rattle.circuit.specs.Gate.{valid}
-use Rattle.circuit.proofs.gate.Laws.{Valid, not-valid, valid-last, both-below}
+use Rattle.circuit.proofs.gate.Laws.{not-valid, valid-last, both-below}
 use Rattle.circuit.proofs.gate.Gate.valid.Statement.{statement}
 use Rattle.circuit.proofs.gate.Gate.valid.Tie as tie
 

@@ -1,10 +1,8 @@
 -- `files::file::put::put_gate_line` meets its contract. Assumes nothing.
-use mathlib.Core.List.{List}
 use native.Mathlib.Omega.{arith}
 use borrow.Author.Needs.{needs}
 use Rattle.files.specs.Text.{gateText}
-use Rattle.files.specs.Put.{Put}
-use Rattle.files.proofs.file.put.Laws.{Written, written-first, written-more, written-put, room-after, rest-room, line-length}
+use Rattle.files.proofs.file.put.Laws.{written-first, written-more, written-put, room-after, rest-room, line-length}
 use Rattle.files.proofs.file.put.put_gate_line.Statement.{statement}
 use Rattle.files.proofs.file.put.put_gate_line.Tie as tie
 

@@ -8,8 +8,8 @@ use borrow.Author.Needs.{needs}
 use Rattle.files.specs.Text.{tab, numberText}
 use Rattle.circuit.specs.Gate.{controlsOf}
 use Rattle.files.specs.Text.{controlsText}
-use Rattle.files.specs.Put.{Put, maskGate}
-use Rattle.files.proofs.file.put.Laws.{Written, written-first, written-more, written-put, room-after, rest-room, put-as, text-length, same-controls}
+use Rattle.files.specs.Put.{maskGate}
+use Rattle.files.proofs.file.put.Laws.{written-first, written-more, written-put, room-after, rest-room, put-as, text-length, same-controls}
 use Prim.Native.Nat.{ℕ}
 use Rattle.files.proofs.file.put.put_gate_text.Statement.{statement}
 use Rattle.files.proofs.file.put.put_gate_text.Tie as tie

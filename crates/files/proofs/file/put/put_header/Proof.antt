@@ -1,11 +1,8 @@
 -- `files::file::put::put_header` meets its contract. Assumes nothing.
-use mathlib.Core.List.{List}
 use native.Mathlib.Omega.{arith}
 use borrow.Author.Needs.{needs}
-use Rattle.files.specs.Put.{Put}
 use Rattle.files.proofs.file.Texts.{headerText}
-use Rattle.files.proofs.file.put.Laws.{Written, written-first, written-more, written-put, room-after, rest-room, header-text-length}
-use Prim.Native.Nat.{ℕ}
+use Rattle.files.proofs.file.put.Laws.{written-first, written-more, written-put, room-after, rest-room, header-text-length}
 use Rattle.files.proofs.file.put.put_header.Statement.{statement}
 use Rattle.files.proofs.file.put.put_header.Tie as tie
 

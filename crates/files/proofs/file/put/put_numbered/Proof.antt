@@ -1,7 +1,7 @@
 -- `files::file::put::put_numbered` meets its contract. Assumes nothing.
 use native.Mathlib.Omega.{arith}
 use borrow.Author.Needs.{needs}
-use Rattle.files.proofs.file.put.Laws.{Written, written-first, written-more, written-put}
+use Rattle.files.proofs.file.put.Laws.{written-first, written-more, written-put}
 use Rattle.files.proofs.file.put.put_numbered.Statement.{statement}
 use Rattle.files.proofs.file.put.put_numbered.Tie as tie
 

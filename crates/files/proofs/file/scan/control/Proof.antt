@@ -8,7 +8,6 @@ use lib.Dec.{eqb}
 use lib.ListN.{drop, getD, length-drop}
 use lib.Seq.{drop-drop}
 use borrow.Author.Tests.{not-true, not-false}
-use Rattle.circuit.specs.Gate.{Control}
 use Rattle.files.specs.Text.{plus, minus}
 use Rattle.files.specs.File.{lineOf}
 use Rattle.circuit.specs.Outcome.{served}

@@ -11,8 +11,6 @@ use Rattle.files.specs.Scan.{width, ofControl, ControlEnds}
 use Rattle.circuit.proofs.Outcome.{why}
 use Rattle.files.proofs.file.scan.Laws.{byte-at}
 use Rattle.files.proofs.file.scan.Rest.{Going, going-start, going-room, going-refused, going-below, going-inside, going-on, going-open, going-controlled, going-falls, going-gate}
-use mathlib.Core.List.{List}
-use Rattle.circuit.specs.Outcome.{Outcome}
 use Rattle.files.proofs.file.scan.controls.Statement.{statement}
 use Rattle.files.proofs.file.scan.controls.Tie as tie
 

@@ -10,7 +10,7 @@ use Rattle.circuit.specs.Outcome.{served}
 use Rattle.circuit.specs.Words.{lineCountGood}
 use Rattle.files.specs.Scan.{startsWith, width}
 use Rattle.circuit.proofs.Outcome.{why}
-use Rattle.files.proofs.file.scan.Laws.{default-any, width-two}
+use Rattle.files.proofs.file.scan.Laws.{default-any}
 use Rattle.files.proofs.file.scan.Rest.{header-other, header-room, header-wrong, header-outside, header-missing, header-further, header-good}
 use borrow.Author.Needs.{needs}
 use Rattle.files.proofs.file.scan.header.Statement.{statement}

@@ -1,6 +1,5 @@
 -- `files::file::scan::joined` meets its contract. Assumes nothing.
 use mathlib.Core.Path.{sym, ap, _∙_}
-use mathlib.Core.Bool.{Bool}
 use Prim.Native.Nat.{_^_}
 use lib.Bits.{bitOr, or-zero-r}
 use Rattle.bits.proofs.Bools.{cond-true, cond-false}

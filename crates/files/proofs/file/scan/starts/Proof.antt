@@ -1,6 +1,5 @@
 -- `files::file::scan::starts` meets its contract. The loop's invariant: the bytes that were passed agree, so what is left decides. Assumes nothing.
 use mathlib.Core.Path.{_≡_, sym, ap, _∙_}
-use mathlib.Core.List.{List}
 use Prim.Native.Nat.{ℕ, _+_, _-_, _≤_}
 use native.Mathlib.Omega.{arith}
 use lib.ListN.{length, drop, length-drop}
