@@ -1,6 +1,6 @@
 //! Times the built program `tomiter` against plain Rust doing the same job, each as a process of its
-//! own, on inputs near its limits. Fails where it takes more than `LIMIT` times as long, less the time
-//! of both on an empty input, or where the two write different bytes.
+//! own, on an input near its limits. Fails where it takes more than `LIMIT` times as long, each less its
+//! time on an empty input, or where the two write different bytes.
 
 #[allow(dead_code)]
 #[path = "../tests/random.rs"]
@@ -12,10 +12,11 @@ use std::process::{Command, ExitCode, Stdio};
 use std::time::Instant;
 
 const LIMIT: f64 = 1.3;
-const ROUNDS: usize = 301;
+const ROUNDS: usize = 601;
 const LIBRARY: &str = "target/bin/tomiter";
 const PLAIN: &str = "target/bench/plain_tomiter";
 const INPUT: &str = "target/bench/input";
+const EMPTY: &str = "/dev/null";
 
 /// A cascade file of 1,024 gates on 64 lines, with k controls in each gate for which `controls` gives k.
 fn file(random: &mut Random, controls: impl Fn(usize) -> u32) -> String {
@@ -44,8 +45,8 @@ fn written(program: &str) -> Vec<u8> {
 }
 
 /// Nanoseconds of one run of the program.
-fn time(program: &str) -> f64 {
-    let input = File::open(INPUT).unwrap();
+fn time(program: &str, input: &str) -> f64 {
+    let input = File::open(input).unwrap();
     let started = Instant::now();
     let status = Command::new(program)
         .stdin(input)
@@ -61,8 +62,8 @@ fn median(mut times: Vec<f64>) -> f64 {
     times[times.len() / 2]
 }
 
-/// The times of both programs on an input.
-fn times(name: &str, input: &str, served: bool) -> [f64; 2] {
+/// The ratio of the two programs on an input, each less its own time on an empty one in the same round.
+fn row(name: &str, input: &str) -> f64 {
     std::fs::write(INPUT, input).unwrap();
     let bytes = written(LIBRARY);
     assert_eq!(
@@ -70,53 +71,38 @@ fn times(name: &str, input: &str, served: bool) -> [f64; 2] {
         written(PLAIN),
         "{name}: the two write different bytes"
     );
-    assert_eq!(bytes.starts_with(b"p cnf"), served, "{name}: served or not");
-    let mut times = [Vec::new(), Vec::new()];
+    assert!(bytes.starts_with(b"p cnf"), "{name}: refused");
+    let (mut whole, mut job) = ([vec![], vec![]], [vec![], vec![]]);
     for _ in 0..ROUNDS {
-        times[0].push(time(LIBRARY));
-        times[1].push(time(PLAIN));
+        for (side, program) in [LIBRARY, PLAIN].into_iter().enumerate() {
+            let (start, all) = (time(program, EMPTY), time(program, INPUT));
+            whole[side].push(all);
+            job[side].push(all - start);
+        }
     }
-    times.map(median)
+    let (whole, job) = (whole.map(median), job.map(median));
+    println!(
+        "tomiter   {name:<36} {:>9.0} {:>9.0} {:>6.2} {:>9.0} {:>9.0} {:>6.2}",
+        whole[0],
+        whole[1],
+        whole[0] / whole[1],
+        job[0],
+        job[1],
+        job[0] / job[1]
+    );
+    job[0] / job[1]
 }
 
 fn main() -> ExitCode {
     let mut random = Random::new(20_240_601);
-    // a gate of one control has 5 words, one of two has 18
-    let few = |gate: usize| if gate % 5 == 0 { 2 } else { 1 };
-    let inputs = [
-        (
-            "2 x 1,024 gates, near 16,384 words",
-            file(&mut random, few) + &file(&mut random, few),
-        ),
-        (
-            "2 x 1,024 gates, no controls",
-            file(&mut random, |_| 0) + &file(&mut random, |_| 0),
-        ),
-    ];
     println!(
-        "{:<9} {:<36} {:>9} {:>9} {:>6} {:>15}",
+        "{:<9} {:<36} {:>9} {:>9} {:>6} {:>26}",
         "program", "input", "ns", "plain ns", "ratio", "less its start"
     );
-    let start = times("nothing", "", false);
-    println!(
-        "{:<9} {:<36} {:>9.0} {:>9.0} {:>6.2}",
-        "tomiter",
-        "nothing",
-        start[0],
-        start[1],
-        start[0] / start[1]
-    );
-    let mut worst: f64 = 0.0;
-    for (name, input) in inputs {
-        let [library, plain] = times(name, &input, true);
-        let job = (library - start[0]) / (plain - start[1]);
-        println!(
-            "{:<9} {name:<36} {library:>9.0} {plain:>9.0} {:>6.2} {job:>15.2}",
-            "tomiter",
-            library / plain
-        );
-        worst = worst.max(job);
-    }
-    println!("bench: of the program, less its start, {worst:.2}, the limit {LIMIT}");
-    ExitCode::from((worst > LIMIT) as u8)
+    // a gate of one control has 5 words, one of two has 18
+    let few = |gate: usize| if gate % 5 == 0 { 2 } else { 1 };
+    let pair = file(&mut random, few) + &file(&mut random, few);
+    let ratio = row("2 x 1,024 gates, near 16,384 words", &pair);
+    println!("bench: of the program {ratio:.2}, the limit {LIMIT}");
+    ExitCode::from((ratio > LIMIT) as u8)
 }
