@@ -6,11 +6,10 @@
 mod capi;
 #[allow(dead_code)]
 mod random;
+mod solver;
 
 use random::Random;
 use std::collections::BTreeMap;
-use std::io::Write;
-use std::process::{Command, Stdio};
 
 const SEED: u64 = 20_240_601;
 /// Pairs that are tried by every assignment, and of these the ones that the solver gets too.
@@ -210,34 +209,12 @@ fn text_of(list: &List) -> String {
     text
 }
 
-/// The same from the solver, which gives one model after the other until there is none.
+/// The same from the solver.
 fn solve(lines: u64, list: &List) -> Spelled {
-    let most = (1u64 << lines) + 1;
-    let mut solver = Command::new("cryptominisat5")
-        .args(["--verb", "0", "--maxsol", &most.to_string()])
-        .stdin(Stdio::piped())
-        .stdout(Stdio::piped())
-        .spawn()
-        .expect("cryptominisat5 starts");
-    let mut input = solver.stdin.take().expect("its input is a pipe");
-    input.write_all(text_of(list).as_bytes()).expect("it reads");
-    drop(input);
-    let output = solver.wait_with_output().expect("it ends");
-    let text = String::from_utf8(output.stdout).expect("it writes text");
     let mut spelled = Spelled::new();
-    let mut model: Vec<i64> = Vec::new();
-    for line in text.lines() {
-        let Some(literals) = line.strip_prefix("v ") else {
-            continue;
-        };
-        model.extend(literals.split_whitespace().map(|word| word.parse::<i64>().expect("a literal")));
-        if model.last() == Some(&0) {
-            let input = (0..lines).filter(|&line| model.contains(&(line as i64 + 1))).map(|line| 1 << line).sum();
-            *spelled.entry(input).or_default() += 1;
-            model.clear();
-        }
+    for input in solver::spelled(lines, text_of(list).as_bytes()) {
+        *spelled.entry(input).or_default() += 1;
     }
-    assert!(text.contains("s UNSATISFIABLE"), "the solver did not come to an end:\n{text}");
     spelled
 }
 
@@ -267,10 +244,7 @@ fn example_five() {
 }
 
 fn main() {
-    let with_solver = match Command::new("cryptominisat5").arg("--version").stdout(Stdio::null()).status() {
-        Ok(status) => status.success(),
-        Err(_) => false,
-    };
+    let with_solver = solver::is_there();
     let seed = match std::env::args().nth(1) {
         Some(word) => word.parse().expect("the seed is a number below 2^64"),
         None => SEED,

@@ -11,6 +11,7 @@ mod inputs;
 mod random;
 #[allow(dead_code)]
 mod reference;
+mod solver;
 
 use random::Random;
 use reference::{Clause, ClauseList};
@@ -190,33 +191,6 @@ fn check_all(random: &mut Random, seen: &mut Seen) {
 
 // ---- the solver
 
-/// The inputs that the satisfying assignments spell, one after the other until there is none.
-fn solve(lines: u64, text: &[u8]) -> Vec<u64> {
-    let most = (1u64 << lines) + 1;
-    let mut solver = Command::new("cryptominisat5")
-        .args(["--verb", "0", "--maxsol", &most.to_string()])
-        .stdin(Stdio::piped())
-        .stdout(Stdio::piped())
-        .spawn()
-        .expect("cryptominisat5 starts");
-    let mut pipe = solver.stdin.take().expect("a pipe");
-    pipe.write_all(text).expect("it reads");
-    drop(pipe);
-    let output = solver.wait_with_output().expect("it ends");
-    let answer = String::from_utf8(output.stdout).expect("it writes text");
-    assert!(answer.contains("s UNSATISFIABLE"), "the solver did not come to an end:\n{answer}");
-    let literals = answer.lines().filter_map(|line| line.strip_prefix("v "));
-    let literals: Vec<i64> = literals
-        .flat_map(str::split_whitespace)
-        .map(|word| word.parse().expect("a literal"))
-        .collect();
-    let models = literals.split(|literal| *literal == 0).filter(|model| !model.is_empty());
-    let spell = |model: &[i64]| (0..lines).filter(|line| model.contains(&(*line as i64 + 1))).map(|line| 1 << line).sum();
-    let mut spelled: Vec<u64> = models.map(spell).collect();
-    spelled.sort();
-    spelled
-}
-
 /// Pairs on few lines, of which the second is often the first, or has its gates in another order.
 fn check_solved(random: &mut Random) {
     let (mut equal, mut differ) = (0, 0);
@@ -235,7 +209,7 @@ fn check_solved(random: &mut Random) {
         let output = |words: &[u64], state| reference::run(lines, words, state).expect("a cascade");
         let states = 0..1 << lines;
         let right: Vec<u64> = states.filter(|state| output(&first, *state) != output(&second, *state)).collect();
-        let spelled = solve(lines, &written);
+        let spelled = solver::spelled(lines, &written);
         assert_eq!(spelled, right, "lines {lines}, A {first:?}, B {second:?}");
         *(if right.is_empty() { &mut equal } else { &mut differ }) += 1;
     }
@@ -266,8 +240,7 @@ fn main() {
             std::process::exit(1);
         }
     }
-    let version = Command::new("cryptominisat5").arg("--version").stdout(Stdio::null()).status();
-    if version.is_ok_and(|status| status.success()) {
+    if solver::is_there() {
         check_solved(&mut Random::new(seed));
     } else {
         println!("****************************************************************");

@@ -77,10 +77,6 @@ sign-true : (p : Bool) → (eqb (cond p plus minus) plus || eqb (cond p plus min
 sign-true true = refl
 sign-true false = refl
 
-sign-back : (p : Bool) → eqb (cond p plus minus) plus ≡ p
-sign-back true = refl
-sign-back false = refl
-
 pub data ControlFound (n i : ℕ) (f : List ℕ) : Outcome Control → Type 0 where
   good : (c : Control) → ControlField f c → c .line < n → ControlFound n i f (served c)
   beyond : (c : Control) → ControlField f c → n ≤ c .line → ControlFound n i f (refused lineOutside i)

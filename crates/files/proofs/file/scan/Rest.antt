@@ -505,9 +505,6 @@ module _ (r : List ℕ) (starts : startsWith (108 ∷ 105 ∷ 110 ∷ 101 ∷ 11
     number-length : length (fieldAt (drop 6 r)) ≡ width n
     number-length = ap length (text-number 0 (fieldAt (drop 6 r)) n told .1) ∙ number-width n
 
-    pub header-end : 6 + width n ≤ length r
-    header-end = omega (arith, number-length, parted (drop 6 r) .inside, length-drop 6 r, header-room)
-
     pub header-outside : lineCountGood n ≡ false → headerNext r ≡ refused badLineCount 0
     header-outside e = then-refused _ _ badLineCount 0 (header-parts ∙ then-served _ _ n told ∙ demand-failed {A = ℕ} _ _ _ _ e)
 
