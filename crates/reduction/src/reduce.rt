@@ -43,7 +43,8 @@ fn reduce_gates(words: &mut [u64]) -> Reduction
     let mut merges = 0;
     loop {
         let end = Gate::WORDS * gates;
-        match crate::step::step_gates(&mut words[0..end]) {
+        let found = crate::step::search_gates(&words[0..end]);
+        match crate::step::make_step(&mut words[0..end], found) {
             Stepped::Nothing => {
                 return Reduction {
                     gates,

@@ -162,7 +162,7 @@ fn scan_after(words: &[u64], i: usize) -> Scan
 }
 
 // The lowest i, then the lowest j above it, of two gates that match.
-fn search_gates(words: &[u64]) -> Search
+pub(crate) fn search_gates(words: &[u64]) -> Search
     requires { ⌜ allValid maxLines (gatesOf (now words)) ≡ true ⌝ }
     ensures { λ r. ⌜ r ≡ searchFrom 0 (gatesOf (now (words .entry))) ⌝ }
 {
@@ -238,14 +238,15 @@ fn merge_pair(words: &mut [u64], i: usize, j: usize, r: Gate)
     close_gap(words, Gate::WORDS * i, Gate::WORDS);
 }
 
-// Makes a step on the words of gates.
-pub(crate) fn step_gates(words: &mut [u64]) -> Stepped
+// Makes a step on the words of gates, by what the search found in them.
+pub(crate) fn make_step(words: &mut [u64], found: Search) -> Stepped
     requires { ⌜ length (now words) % 3 ≡ 0 ⌝ }
     requires { ⌜ allValid maxLines (gatesOf (now words)) ≡ true ⌝ }
+    requires { ⌜ found ≡ searchFrom 0 (gatesOf (now words)) ⌝ }
     ensures { λ r. ⌜ Yields (ofStepped r) (now (words .exit)) (counted (stepGates (gatesOf (now (words .entry))))) (stepWords (stepGates (gatesOf (now (words .entry)))) (now (words .entry))) ⌝ }
 {
     let gates = words.len() / Gate::WORDS;
-    match search_gates(words) {
+    match found {
         Search::Nothing => Stepped::Nothing,
         Search::At { i, j, by } => match by {
             Match::Cancel => {
@@ -285,9 +286,12 @@ pub fn step(n: u64, words: &mut [u64]) -> StepAnswer
 {
     match circuit::words::check_cascade(n, words, Gate::MAX_MITER_GATES) {
         CountAnswer::Refused(why) => StepAnswer::Refused(why),
-        CountAnswer::Gates(_) => match step_gates(words) {
-            Stepped::Nothing => StepAnswer::Nothing,
-            Stepped::Found { i, j, kind, gates } => StepAnswer::Found { i, j, kind, gates },
-        },
+        CountAnswer::Gates(_) => {
+            let found = search_gates(words);
+            match make_step(words, found) {
+                Stepped::Nothing => StepAnswer::Nothing,
+                Stepped::Found { i, j, kind, gates } => StepAnswer::Found { i, j, kind, gates },
+            }
+        }
     }
 }

@@ -18,31 +18,35 @@ Inv-loop words₀ gates₀ pairs₀ merges₀ words gates pairs merges = Standin
 abbrev μ-loop : tie.MeasureT-loop
 μ-loop words₀ gates₀ pairs₀ merges₀ words gates pairs merges = gates
 
+-- the turn of a step, and the step that was made
+abbrev turn : tie.After-make-step Inv-loop μ-loop → tie.At-loop Inv-loop μ-loop
+turn s = s .before .before .before .before .before
+
+abbrev made : tie.After-known-told Inv-loop μ-loop → tie.After-make-step Inv-loop μ-loop
+made c = c .before .before .before .before .before
+
 -- what the step found
-hit : (c : tie.After-known-told Inv-loop μ-loop) → ofStepped (c .before .before .before .before .before .step-gates .result)
+hit : (c : tie.After-known-told Inv-loop μ-loop) → ofStepped (made c .make-step .result)
     ≡ found (c .before .kind .given .0 .0) (c .before .kind .given .0 .1 .0) (c .before .kind .given .0 .1 .1 .0) (c .before .kind .given .0 .1 .1 .1 .0)
 hit c = ap ofStepped (c .before .kind .given .1)
 
 -- the turn's numbers, by the match that it was
 less : (c : tie.After-known-told Inv-loop μ-loop) (k : Kind) → c .before .kind .given .0 .1 .1 .0 ≡ k
-    → c .before .kind .given .0 .1 .1 .1 .0 + taken k ≡ c .before .before .before .before .before .before .before .loop .gates
+    → c .before .kind .given .0 .1 .1 .1 .0 + taken k ≡ turn (made c) .loop .gates
 less c k e =
-    let s = c .before .before .before .before .before in
-    let l = s .before .before .loop in
+    let l = turn (made c) .loop in
     ap (λ (x : Kind). c .before .kind .given .0 .1 .1 .1 .0 + taken x) (sym e)
-    ∙ left-less _ (l .words) (l .gates) (l .pairs) (l .merges) (l .inv) _ _ (s .step-gates .ensures) _ _ _ _ (hit c)
+    ∙ left-less _ (l .words) (l .gates) (l .pairs) (l .merges) (l .inv) _ _ (made c .make-step .ensures) _ _ _ _ (hit c)
 
 again : (c : tie.After-known-told Inv-loop μ-loop) (k : Kind) → c .before .kind .given .0 .1 .1 .0 ≡ k → (p m : ℕ)
-    → p ≡ c .before .before .before .before .before .before .before .loop .pairs + pairsOf k
-    → m ≡ c .before .before .before .before .before .before .before .loop .merges + mergesOf k
-    → Standing (c .before .before .before .before .before .before .before .before .before .args .words .now)
-    (putMid 0 (3 * c .before .before .before .before .before .before .before .loop .gates - 0) (c .before .before .before .before .before .before .before .loop .words)
-    (c .before .before .before .before .before .step-gates .last .0)) (c .before .kind .given .0 .1 .1 .1 .0) p m
+    → p ≡ turn (made c) .loop .pairs + pairsOf k
+    → m ≡ turn (made c) .loop .merges + mergesOf k
+    → Standing (turn (made c) .before .before .args .words .now)
+    (putMid 0 (3 * turn (made c) .loop .gates - 0) (turn (made c) .loop .words) (made c .make-step .last .0)) (c .before .kind .given .0 .1 .1 .1 .0) p m
 again c k e p m pe me =
-    let s = c .before .before .before .before .before in
-    let l = s .before .before .loop in
+    let l = turn (made c) .loop in
     let f = c .before .kind .given .0 in
-    onward _ (l .words) (l .gates) (l .pairs) (l .merges) (l .inv) _ _ (s .step-gates .ensures) (f .0) (f .1 .0) k (f .1 .1 .1 .0)
+    onward _ (l .words) (l .gates) (l .pairs) (l .merges) (l .inv) _ _ (made c .make-step .ensures) (f .0) (f .1 .0) k (f .1 .1 .1 .0)
     (hit c ∙ ap (λ (x : Kind). found (f .0) (f .1 .0) x (f .1 .1 .1 .0)) e) p m pe me
 
 loop-holds : tie.Need-loop-holds Inv-loop μ-loop
@@ -51,20 +55,33 @@ loop-holds c = standing-first _ (c .before .pre .0) (c .before .pre .1)
 mul-end : tie.Need-mul-end Inv-loop μ-loop
 mul-end c = omega arith
 
-sub-step-gates : tie.Need-sub-step-gates Inv-loop μ-loop
-sub-step-gates c = search needs
+sub-search-gates : tie.Need-sub-search-gates Inv-loop μ-loop
+sub-search-gates c = search needs
 
-part-step-gates-start : tie.Need-part-step-gates-start Inv-loop μ-loop
-part-step-gates-start c = search needs
+part-search-gates-start : tie.Need-part-search-gates-start Inv-loop μ-loop
+part-search-gates-start c = search needs
 
-part-step-gates-end : tie.Need-part-step-gates-end Inv-loop μ-loop
-part-step-gates-end c = search needs
+part-search-gates-end : tie.Need-part-search-gates-end Inv-loop μ-loop
+part-search-gates-end c = search needs
 
-step-gates-requires : tie.Need-step-gates-requires Inv-loop μ-loop
-step-gates-requires c κs =
-    let l = c .before .loop in (
+search-gates-requires : tie.Need-search-gates-requires Inv-loop μ-loop
+search-gates-requires c κs = let l = c .before .before .loop in lent-valid _ (l .words) (l .gates) (l .pairs) (l .merges) (l .inv)
+
+sub-make-step : tie.Need-sub-make-step Inv-loop μ-loop
+sub-make-step c = search needs
+
+part-make-step-start : tie.Need-part-make-step-start Inv-loop μ-loop
+part-make-step-start c = search needs
+
+part-make-step-end : tie.Need-part-make-step-end Inv-loop μ-loop
+part-make-step-end c = search needs
+
+make-step-requires : tie.Need-make-step-requires Inv-loop μ-loop
+make-step-requires c κs =
+    let s = c .before in
+    let l = s .before .before .before .loop in (
       lent-whole _ (l .words) (l .gates) (l .pairs) (l .merges) (l .inv),
-      lent-valid _ (l .words) (l .gates) (l .pairs) (l .merges) (l .inv),
+      (lent-valid _ (l .words) (l .gates) (l .pairs) (l .merges) (l .inv), s .search-gates .ensures),
     )
 
 enum-told : tie.Need-enum-told Inv-loop μ-loop
@@ -73,14 +90,14 @@ enum-told c = search needs
 same-length : tie.Need-same-length Inv-loop μ-loop
 same-length c =
     let s = c .before .before .before .before in
-    let l = s .before .before .loop in
-    same-len-mid 0 (3 * l .gates - 0) (l .words) (s .step-gates .last .0) (s .step-gates .kept .0) ∙ l .inv .long
+    let l = turn s .loop in
+    same-len-mid 0 (3 * l .gates - 0) (l .words) (s .make-step .last .0) (s .make-step .kept .0) ∙ l .inv .long
 
 returns : tie.Need-returns Inv-loop μ-loop
 returns c =
     let s = c .before .before .before .before in
-    let l = s .before .before .loop in
-    ended _ (l .words) (l .gates) (l .pairs) (l .merges) (l .inv) _ _ (s .step-gates .ensures) (ap ofStepped (c .enum-told .given .1))
+    let l = turn s .loop in
+    ended _ (l .words) (l .gates) (l .pairs) (l .merges) (l .inv) _ _ (s .make-step .ensures) (ap ofStepped (c .enum-told .given .1))
 
 enum-known-kind : tie.Need-enum-known-kind Inv-loop μ-loop
 enum-known-kind c = search needs
@@ -129,10 +146,14 @@ reduce-gates-spec =
     μ-loop
     loop-holds
     mul-end
-    sub-step-gates
-    part-step-gates-start
-    part-step-gates-end
-    step-gates-requires
+    sub-search-gates
+    part-search-gates-start
+    part-search-gates-end
+    search-gates-requires
+    sub-make-step
+    part-make-step-start
+    part-make-step-end
+    make-step-requires
     enum-told
     same-length
     returns

@@ -26,10 +26,14 @@ enum-known-why c = search needs
 enum-told : tie.Need-enum-told
 enum-told c = search needs
 
-step-gates-requires : tie.Need-step-gates-requires
-step-gates-requires c κs =
-    let k = check-served _ _ _ _ (good (c .before)) in
-    (omega (arith, k .size), valid-all-more _ maxLines _ (k .lines-high) (k .gates))
+search-gates-requires : tie.Need-search-gates-requires
+search-gates-requires c κs = let k = check-served _ _ _ _ (good (c .before)) in valid-all-more _ maxLines _ (k .lines-high) (k .gates)
+
+make-step-requires : tie.Need-make-step-requires
+make-step-requires c κs =
+    let s = c .before in
+    let k = check-served _ _ _ _ (good (s .before .before)) in
+    (omega (arith, k .size), (valid-all-more _ maxLines _ (k .lines-high) (k .gates), s .search-gates .ensures))
 
 enum-told-2 : tie.Need-enum-told-2
 enum-told-2 c = search needs
@@ -51,8 +55,8 @@ same-length-2 c = search needs
 returns-2 : tie.Need-returns-2
 returns-2 c =
     let s = c .before .before .before .before in
-    let y = s .step-gates .ensures in
-    step-made _ _ _ (good (s .before .before)) _ _ (record { answer = sym (ap ofStepped (c .enum-told2 .given .1)) ∙ y .answer; buffer = y .buffer })
+    let y = s .make-step .ensures in
+    step-made _ _ _ (good (s .before .before .before .before)) _ _ (record { answer = sym (ap ofStepped (c .enum-told2 .given .1)) ∙ y .answer; buffer = y .buffer })
 
 same-length-3 : tie.Need-same-length-3
 same-length-3 c = search needs
@@ -61,8 +65,8 @@ returns-3 : tie.Need-returns-3
 returns-3 c =
     let f = c .before in
     let s = f .before .before .before .before in
-    let y = s .step-gates .ensures in
-    step-made _ _ _ (good (s .before .before)) _ _ (record { answer = sym (ap ofStepped (f .i .given .1)) ∙ y .answer; buffer = y .buffer })
+    let y = s .make-step .ensures in
+    step-made _ _ _ (good (s .before .before .before .before)) _ _ (record { answer = sym (ap ofStepped (f .i .given .1)) ∙ y .answer; buffer = y .buffer })
 
 pub step-spec : {M : Type 1} → statement M
 step-spec =
@@ -71,7 +75,8 @@ step-spec =
     check-cascade-requires
     enum-known-why
     enum-told
-    step-gates-requires
+    search-gates-requires
+    make-step-requires
     enum-told-2
     enum-known-i
     same-length
