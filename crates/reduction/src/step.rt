@@ -241,7 +241,6 @@ fn merge_pair(words: &mut [u64], i: usize, j: usize, r: Gate)
 // Makes a step on the words of gates, by what the search found in them.
 pub(crate) fn make_step(words: &mut [u64], found: Search) -> Stepped
     requires { ⌜ length (now words) % 3 ≡ 0 ⌝ }
-    requires { ⌜ allValid maxLines (gatesOf (now words)) ≡ true ⌝ }
     requires { ⌜ found ≡ searchFrom 0 (gatesOf (now words)) ⌝ }
     ensures { λ r. ⌜ Yields (ofStepped r) (now (words .exit)) (counted (stepGates (gatesOf (now (words .entry))))) (stepWords (stepGates (gatesOf (now (words .entry)))) (now (words .entry))) ⌝ }
 {

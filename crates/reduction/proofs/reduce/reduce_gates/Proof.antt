@@ -81,7 +81,7 @@ make-step-requires c κs =
     let s = c .before in
     let l = s .before .before .before .loop in (
       lent-whole _ (l .words) (l .gates) (l .pairs) (l .merges) (l .inv),
-      (lent-valid _ (l .words) (l .gates) (l .pairs) (l .merges) (l .inv), s .search-gates .ensures),
+      s .search-gates .ensures,
     )
 
 enum-told : tie.Need-enum-told Inv-loop μ-loop

@@ -16,7 +16,7 @@ use Rattle.reduction.proofs.step.make_step.Tie as tie
 at : (c : tie.After-known-told)
     → searchFrom 0 (gatesOf (c .before .before .before .before .args .words .now))
     ≡ hits.At (c .before .found .given .0 .0) (c .before .found .given .0 .1 .0) (c .before .found .given .0 .1 .1 .0)
-at c = sym (c .before .before .before .before .pre .1 .1) ∙ c .before .found .given .1
+at c = sym (c .before .before .before .before .pre .1) ∙ c .before .found .given .1
 
 inside : (c : tie.After-known-told)
     → (c .before .found .given .0 .0 < c .before .found .given .0 .1 .0)
@@ -63,7 +63,7 @@ sub-t26 : tie.Need-sub-t26
 sub-t26 c = let (a, b) = inside (c .before .before .before .before .before .before .before) in omega arith
 
 returns : tie.Need-returns
-returns c = told-none _ (sym (c .before .before .before .pre .1 .1) ∙ c .enum-told .given .1)
+returns c = told-none _ (sym (c .before .before .before .pre .1) ∙ c .enum-told .given .1)
 
 same-length : tie.Need-same-length
 same-length c = search needs

@@ -33,7 +33,7 @@ make-step-requires : tie.Need-make-step-requires
 make-step-requires c κs =
     let s = c .before in
     let k = check-served _ _ _ _ (good (s .before .before)) in
-    (omega (arith, k .size), (valid-all-more _ maxLines _ (k .lines-high) (k .gates), s .search-gates .ensures))
+    (omega (arith, k .size), s .search-gates .ensures)
 
 enum-told-2 : tie.Need-enum-told-2
 enum-told-2 c = search needs
