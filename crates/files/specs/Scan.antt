@@ -5,8 +5,7 @@ use mathlib.Core.List.{List, [], _∷_}
 use Prim.Native.Nat.{ℕ, _+_, _*_, _^_, _≤_}
 use lib.Dec.{eqb, leb}
 use lib.Bits.{bitOr}
-use lib.ListN.{length}
-use Rattle.bits.specs.Lists.{over}
+use lib.ListN.{length, drop}
 use Rattle.circuit.specs.declared.gate.Gate.{Gate}
 use Rattle.files.specs.declared.file.scan.Seen.{Seen}
 use Rattle.files.specs.declared.file.scan.LineAnswer.{LineAnswer}
@@ -19,9 +18,8 @@ use Rattle.files.specs.declared.file.scan.HeaderAnswer.{HeaderAnswer}
 use Rattle.files.specs.declared.file.scan.HeaderAnswer.the-variants as header
 use Rattle.circuit.specs.Gate.{Control}
 use Rattle.circuit.specs.Outcome.{Outcome, served, refused, andThen}
-use Rattle.circuit.specs.Words.{wordsOf}
 use Rattle.files.specs.Text.{tab, lineFeed}
-use Rattle.files.specs.File.{Line, firstLine, linesOf, size, fieldsOf, controlsFrom, closedGate, gateOn, headerOn, Reading, ReadCounts, countsOf}
+use Rattle.files.specs.File.{Line, firstLine, linesOf, size, fieldsOf, controlsFrom, closedGate, gateOn, headerOn, readFrom, ReadCounts, countsOf}
 
 -- a byte that ends a field
 abbrev pub isStop : ℕ → Bool
@@ -117,7 +115,6 @@ abbrev pub ofHeader : HeaderAnswer → Outcome HeaderNext
 ofHeader (header.Lines n next) = served (record { lines = n; next = next })
 ofHeader (header.Refused r) = refused (r .number) (r .place)
 
--- what a walk over the gate lines owes: the counts of the reading, and its gates' words at the buffer's start where all of them fit
-pub record Walks (told : Outcome ReadCounts) (last : List ℕ) (read : Outcome Reading) (first : List ℕ) : Type 0 where
-  pub answer : told ≡ andThen read (λ c. served (countsOf c))
-  pub buffer : (c : Reading) → read ≡ served c → 3 * length (c .gates) ≤ length first → last ≡ over (wordsOf (c .gates)) first
+-- the counts of the cascade on n lines whose gate lines start at a position
+abbrev pub countsFrom : ℕ → ℕ → List ℕ → Outcome ReadCounts
+countsFrom n start text = andThen (readFrom n [] start (linesOf (drop start text))) (λ c. served (countsOf c))

@@ -7,18 +7,18 @@ use circuit::refusal::Refusal;
 use circuit::words::CountAnswer;
 ghost use mathlib.Core.Path.{_≡_};
 ghost use mathlib.Core.Bool.{true};
-ghost use mathlib.Core.List.{[], _++_};
-ghost use Prim.Native.Nat.{_+_, _*_, _/_, _<_, _≤_};
-ghost use lib.ListN.{length, take, drop};
-ghost use Rattle.bits.specs.Lists.{over};
+ghost use mathlib.Core.List.{_++_};
+ghost use Prim.Native.Nat.{_/_, _<_, _≤_};
+ghost use lib.ListN.{length};
 ghost use Rattle.circuit.specs.Gate.{maxLines, maxGates};
 ghost use Rattle.circuit.specs.Outcome.{Yields};
-ghost use Rattle.circuit.specs.Words.{gatesOf, gateWords, allValid};
+ghost use Rattle.circuit.specs.Words.{gatesOf, allValid};
 ghost use Rattle.files.specs.Text.{gateLines, endLine, textOf};
 ghost use Rattle.files.specs.Put.{Put, TwoDigits};
-ghost use Rattle.files.specs.Scan.{Walks};
-ghost use Rattle.files.specs.File.{linesOf, readFrom, readOutcome, readBuffer, ofRead, writeOutcome, writeBuffer, ofWrite};
+ghost use Rattle.files.specs.Scan.{countsFrom};
+ghost use Rattle.files.specs.File.{readOutcome, readBuffer, ofRead, writeOutcome, writeBuffer, ofWrite};
 
+pub mod fill;
 pub mod put;
 pub mod scan;
 
@@ -43,21 +43,10 @@ pub enum WriteAnswer {
     Refused(Refusal),
 }
 
-// Writes gate i where its words fit.
-fn store_at(out: &mut [u64], i: usize, g: Gate)
-    requires { ⌜ i ≤ maxGates ⌝ }
-    ensures { λ _. ⌜ (3 * i + 3 ≤ length (now (out .entry)) → now (out .exit) ≡ take (3 * i) (now (out .entry)) ++ over (gateWords g) (drop (3 * i) (now (out .entry)))) ⌝ }
-{
-    let to = Gate::WORDS * i;
-    if to < out.len() {
-        circuit::words::put_gate(&mut out[to..], g);
-    }
-}
-
-// The counts of a cascade on n lines whose gate lines start at a position, and its gates' words at the buffer's start where all of them fit; else 1, 3, 4, 5 or 6 by line.
-fn walk(text: &[u8], n: u64, start: usize, out: &mut [u64]) -> ReadAnswer
+// The counts of a cascade on n lines whose gate lines start at a position; else 1, 3, 4, 5 or 6 by line.
+fn judge(text: &[u8], n: u64, start: usize) -> ReadAnswer
     requires { ⌜ (start ≤ length (now text)) × (n ≤ maxLines) ⌝ }
-    ensures { λ r. ⌜ Walks (ofRead r) (now (out .exit)) (readFrom n [] start (linesOf (drop start (now (text .entry))))) (now (out .entry)) ⌝ }
+    ensures { λ r. ⌜ ofRead r ≡ countsFrom n start (now (text .entry)) ⌝ }
 {
     let mut at = start;
     let mut gates = 0;
@@ -66,8 +55,7 @@ fn walk(text: &[u8], n: u64, start: usize, out: &mut [u64]) -> ReadAnswer
             GateAnswer::Refused(why) => {
                 return ReadAnswer::Refused(why);
             }
-            GateAnswer::Gate { gate, next } => {
-                store_at(out, gates, gate);
+            GateAnswer::Gate { gate: _, next } => {
                 at = next;
                 gates += 1;
             }
@@ -80,23 +68,28 @@ fn walk(text: &[u8], n: u64, start: usize, out: &mut [u64]) -> ReadAnswer
     }
 }
 
-// The cascade at the start of a text, its words at the buffer's start; else 1 to 6 by line, or 10. The first walk writes nothing.
+// The cascade at the start of a text, its words at the buffer's start; else 1 to 6 by line, or 10. All of the text is judged before a word is written.
 pub fn read(text: &[u8], out: &mut [u64]) -> ReadAnswer
     ensures { λ r. ⌜ Yields (ofRead r) (now (out .exit)) (readOutcome (now (text .entry)) (length (now (out .entry)))) (readBuffer (now (text .entry)) (now (out .entry))) ⌝ }
 {
     match crate::file::scan::header(text) {
         HeaderAnswer::Refused(why) => ReadAnswer::Refused(why),
-        HeaderAnswer::Lines { lines, next } => match walk(text, lines, next, &mut out[0..0]) {
+        HeaderAnswer::Lines { lines, next } => match judge(text, lines, next) {
             ReadAnswer::Refused(why) => ReadAnswer::Refused(why),
             ReadAnswer::Cascade {
-                header: _,
+                header,
                 gates,
-                taken: _,
+                taken,
             } => {
                 if out.len() / Gate::WORDS < gates {
                     return ReadAnswer::Refused(Refusal::no_room());
                 }
-                walk(text, lines, next, out)
+                crate::file::fill::fill(text, next, gates, out);
+                ReadAnswer::Cascade {
+                    header,
+                    gates,
+                    taken,
+                }
             }
         },
     }

@@ -1,5 +1,5 @@
 -- A reading as the code takes it: one line of the two loops over lines, the header, and what the call owes. Assumes nothing.
-use mathlib.Core.Path.{_≡_, refl, sym, ap, ap₂, _∙_}
+use mathlib.Core.Path.{_≡_, refl, sym, ap, ap₂, _∙_, subst}
 use mathlib.Core.Bool.{true, false, false≢true}
 use mathlib.Core.List.{List, [], _∷_, _++_}
 use Prim.Native.Nat.{ℕ, _+_, _-_, _*_, _≤_, _<_}
@@ -13,14 +13,15 @@ use Rattle.circuit.specs.declared.gate.Gate.{Gate}
 use Rattle.circuit.specs.Gate.{maxLines, maxGates}
 use Rattle.circuit.specs.Outcome.{Outcome, served, refused, andThen, written, Yields}
 use Rattle.circuit.specs.Refusal.{wrongForm}
-use Rattle.files.specs.Text.{lineFeed, endWord}
+use Rattle.files.specs.Text.{lineFeed, endWord, endLine}
 use Rattle.files.specs.File.{Line, noLine, firstLine, laterLines, linesOf, size, fieldsOf, same, gateFields, gateOn, headerOn, isEnd, Reading, readFrom, reading, ReadCounts, countsOf, gatesRead, readOutcome, readBuffer}
 use Rattle.circuit.specs.Words.{gateWords, wordsOf}
-use Rattle.files.specs.Scan.{lineAt, GateNext, gateNext, HeaderNext, headerNext, Walks}
+use Rattle.files.specs.Scan.{lineAt, GateNext, gateNext, HeaderNext, headerNext, countsFrom}
+use Rattle.files.specs.Fill.{GatesAt}
 use Rattle.circuit.proofs.Outcome.{never, then-served, then-refused, then-both, told}
-use Rattle.circuit.proofs.words.Laws.{words-append, words-length}
+use Rattle.circuit.proofs.words.Laws.{valid-all-more}
 use Rattle.files.proofs.file.Lines.{cut-first, same-true}
-use Rattle.files.proofs.file.Offences.{GateFound, gate-found, HeaderFound, header-found}
+use Rattle.files.proofs.file.Offences.{GateFound, gate-found, HeaderFound, header-found, Walked, whole-text, stopped, walked}
 
 -- a gate line that was read
 pub record Stepped (n : ℕ) (text : List ℕ) (gs : List Gate) (at : ℕ) (g : Gate) (next : ℕ) : Type 0 where
@@ -138,9 +139,10 @@ module _ (n : ℕ) (text : List ℕ) (start at gates : ℕ) (j : Judging n text 
   place = ap (λ (k : ℕ). k + 1) (j .count)
 
   module _ (open-line : isEnd (lineAt (drop at text)) ≡ false) where
-    pub judging-refused : (number p : ℕ) → gateNext n (gates + 1) at (drop at text) ≡ refused number p → readFrom n [] start (linesOf (drop start text)) ≡ refused number p
+    pub judging-refused : (number p : ℕ) → gateNext n (gates + 1) at (drop at text) ≡ refused number p → countsFrom n start text ≡ refused number p
     judging-refused number p e =
-        j .left ∙ step-refused n (j .high) text (j .passed) at (j .inside) open-line number p (ap (λ (k : ℕ). gateNext n k at (drop at text)) place ∙ e)
+        then-refused _ _ _ _
+        (j .left ∙ step-refused n (j .high) text (j .passed) at (j .inside) open-line number p (ap (λ (k : ℕ). gateNext n k at (drop at text)) place ∙ e))
 
     module _ (g : Gate) (next : ℕ) (read : gateNext n (gates + 1) at (drop at text) ≡ served (record { gate = g; next = next })) where
       pub judging-step : Stepped n text (j .passed) at g next
@@ -154,61 +156,10 @@ module _ (n : ℕ) (text : List ℕ) (start at gates : ℕ) (j : Judging n text 
           let m = s .few in
           record { passed = j .passed ++ (g ∷ []); count = omega arith; high = j .high; few = omega arith; inside = s .inside; left = j .left ∙ s .left }
 
-  pub judging-end : isEnd (lineAt (drop at text)) ≡ true
-      → (readFrom n [] start (linesOf (drop start text)) ≡ served (record { lines = n; gates = j .passed; taken = at + 4 })) × (at + 4 ≤ length text)
-  judging-end z = let (e, h) = step-end n (j .high) text (j .passed) at (j .inside) z in (j .left ∙ e, h)
-
--- ---- and besides, the words of those gates stand at the buffer's start, where they fit
-
-pub record Walking (n : ℕ) (text : List ℕ) (start : ℕ) (first : List ℕ) (at i : ℕ) (out : List ℕ) : Type 0 where
-  pub judging : Judging n text start at i
-  pub same-length : length out ≡ length first
-  pub put : 3 * i ≤ length first → out ≡ over (wordsOf (judging .passed)) first
-
-pub walking-start : (n : ℕ) (text : List ℕ) (start : ℕ) (out : List ℕ) → n ≤ maxLines → start ≤ length text → Walking n text start out start 0 out
-unfolding wordsOf judging-start
-walking-start n text start out h i = record { judging = judging-start n text start h i; same-length = refl; put = λ r. refl }
-
-module _ (n : ℕ) (text : List ℕ) (start : ℕ) (first : List ℕ) (at i : ℕ) (out : List ℕ) (w : Walking n text start first at i out) where
-  pub walking-turn : isEnd (lineAt (drop at text)) ≡ false → (g : Gate) (next : ℕ) → gateNext n (i + 1) at (drop at text) ≡ served (record { gate = g; next = next })
-      → (last : List ℕ) → length last ≡ length out → (3 * i + 3 ≤ length out → last ≡ take (3 * i) out ++ over (gateWords g) (drop (3 * i) out))
-      → Walking n text start first next (i + 1) last
-  unfolding judging-turn
-  walking-turn open-line g next read last long stores =
-      let j = w .judging in
-      record {
-        judging = judging-turn n text start at i j open-line g next read;
-        same-length = long ∙ w .same-length;
-        put = λ r.
-            stores (omega (arith, w .same-length))
-            ∙ ap (λ (o : List ℕ). take (3 * i) o ++ over (gateWords g) (drop (3 * i) o)) (w .put (omega arith))
-            ∙ over-more (wordsOf (j .passed)) (gateWords g) first (3 * i) (omega (arith, words-length (j .passed), j .count))
-            ∙ ap (λ (x : List ℕ). over x first) (sym (words-push (j .passed) g));
-      }
-    where
-      words-push : (gs : List Gate) (g : Gate) → wordsOf (gs ++ (g ∷ [])) ≡ wordsOf gs ++ gateWords g
-      words-push gs g = words-append gs (g ∷ []) ∙ ap (λ (x : List ℕ). wordsOf gs ++ x) (one g)
-        where
-          one : (g : Gate) → wordsOf (g ∷ []) ≡ gateWords g
-          one g = unfold wordsOf in refl
-
-  pub walking-refused : isEnd (lineAt (drop at text)) ≡ false → (number p : ℕ) → gateNext n (i + 1) at (drop at text) ≡ refused number p
-      → Walks (refused number p) out (readFrom n [] start (linesOf (drop start text))) first
-  walking-refused open-line number p e =
-      let r = judging-refused n text start at i (w .judging) open-line number p e in
-      record { answer = sym (then-refused _ _ _ _ r); buffer = λ c q h. absurd (never q r) }
-
-  pub walking-end : isEnd (lineAt (drop at text)) ≡ true
-      → Walks (served (record { lines = n; gates = i; taken = at + 4 })) out (readFrom n [] start (linesOf (drop start text))) first
-  walking-end z =
-      let j = w .judging in
-      let e = judging-end n text start at i j z .0 in
-      record {
-        answer = sym (then-served _ _ _ e ∙ ap (λ (k : ℕ). served (record { lines = n; gates = k; taken = at + 4 })) (j .count));
-        buffer = λ c q h.
-            let x : j .passed ≡ c .gates = ap gatesRead (sym e ∙ q) in
-            w .put (omega (arith, j .count, ap length x)) ∙ ap (λ (gs : List Gate). over (wordsOf gs) first) x;
-      }
+  pub judging-end : isEnd (lineAt (drop at text)) ≡ true → (countsFrom n start text ≡ served (record { lines = n; gates = gates; taken = at + 4 })) × (at + 4 ≤ length text)
+  judging-end z =
+      let (e, h) = step-end n (j .high) text (j .passed) at (j .inside) z in
+      (then-served _ _ _ (j .left ∙ e) ∙ ap (λ (k : ℕ). served (record { lines = n; gates = k; taken = at + 4 })) (j .count), h)
 
 -- ---- a text from its header on
 
@@ -257,7 +208,7 @@ module _ (text : List ℕ) where
 
   module _ (n next : ℕ) (s : Started text n next) where
     -- what the judging loop told
-    pub judged-bad : (number p : ℕ) → andThen (readFrom n [] next (linesOf (drop next text))) (λ c. served (countsOf c)) ≡ refused number p → reading text ≡ refused number p
+    pub judged-bad : (number p : ℕ) → countsFrom n next text ≡ refused number p → reading text ≡ refused number p
     judged-bad number p e = s .is ∙ bad (readFrom n [] next (linesOf (drop next text))) refl
       where
         bad : (o : Outcome Reading) → readFrom n [] next (linesOf (drop next text)) ≡ o → readFrom n [] next (linesOf (drop next text)) ≡ refused number p
@@ -268,7 +219,7 @@ module _ (text : List ℕ) where
             let j : y ≡ p = cc in
             q ∙ ap₂ (λ (a b : ℕ). refused a b) i j
 
-    pub judged : (k : ReadCounts) → andThen (readFrom n [] next (linesOf (drop next text))) (λ c. served (countsOf c)) ≡ served k
+    pub judged : (k : ReadCounts) → countsFrom n next text ≡ served k
         → (c : Reading) × (reading text ≡ served c) × (countsOf c ≡ k)
     judged k e =
         let (c, a, b) = then-both (readFrom n [] next (linesOf (drop next text))) _ k e in
@@ -276,6 +227,16 @@ module _ (text : List ℕ) where
       where
         unserved : {a b : ReadCounts} → _≡_ {A = Outcome ReadCounts} (served a) (served b) → a ≡ b
         unserved e = cc
+
+    -- a text that was read has the lines of its gates after the header
+    pub judged-good : (c : Reading) → reading text ≡ served c → GatesAt text next (c .gates)
+    judged-good c e = go (readFrom n [] next (linesOf (drop next text))) (walked n (s .high) (linesOf (drop next text)) [] next (drop next text) refl (omega arith)) (sym (s .is) ∙ e)
+      where
+        go : (o : Outcome Reading) → Walked n [] next (drop next text) o → o ≡ served c → GatesAt text next (c .gates)
+        go o (whole-text hs rest is v few) q =
+            let x : hs ≡ c .gates = ap gatesRead q in
+            subst (GatesAt text next) x (record { good = valid-all-more n maxLines hs (s .high) v; stands = record { rest = endLine ++ rest; is = is } })
+        go o (stopped hs rest is v few number x) q = absurd (never q refl)
 
 -- the call owes this where its outcome and the buffer that goes with it are known
 pub read-told : (text out : List ℕ) (r o : Outcome ReadCounts) (last : List ℕ) → r ≡ o → readOutcome text (length out) ≡ o

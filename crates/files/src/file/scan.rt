@@ -64,7 +64,7 @@ pub struct Seen {
     pub apart: bool,
 }
 
-fn wide(b: u8) -> u64
+pub(crate) fn wide(b: u8) -> u64
     ensures { λ r. ⌜ r ≡ b ⌝ }
 {
     b as u64
@@ -216,7 +216,7 @@ fn control(text: &[u8], at: usize, n: u64, place: u64) -> ControlAnswer
 }
 
 // The mask with line k, where it is to be set.
-fn joined(mask: u64, k: u64, set: bool) -> u64
+pub(crate) fn joined(mask: u64, k: u64, set: bool) -> u64
     requires { ⌜ k < maxLines ⌝ }
     ensures { λ r. ⌜ r ≡ bitOr mask (cond set (2 ^ k) 0) ⌝ }
 {

@@ -1,0 +1,2 @@
+-- The laws of `specs/Fill.antt`.
+pub mod Laws
