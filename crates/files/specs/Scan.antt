@@ -2,11 +2,9 @@
 use mathlib.Core.Path.{_≡_}
 use mathlib.Core.Bool.{Bool, true, false, not, cond, _&&_, _||_}
 use mathlib.Core.List.{List, [], _∷_}
-use Prim.Native.Nat.{ℕ, _+_, _*_, _^_, _≤_}
+use Prim.Native.Nat.{ℕ, _+_}
 use lib.Dec.{eqb, leb}
-use lib.Bits.{bitOr}
-use lib.ListN.{length, drop}
-use Rattle.circuit.specs.declared.gate.Gate.{Gate}
+use lib.ListN.{drop}
 use Rattle.files.specs.declared.file.scan.Seen.{Seen}
 use Rattle.files.specs.declared.file.scan.LineAnswer.{LineAnswer}
 use Rattle.files.specs.declared.file.scan.LineAnswer.the-variants as line
@@ -50,20 +48,8 @@ abbrev pub width : ℕ → ℕ
 width k = cond (leb 10 k) 2 1
 
 -- what a gate line's controls come to, one control later
-abbrev pub added : ℕ → Seen → ℕ → Bool → Seen
-added t s k p =
-    record {
-      positive = bitOr (s .positive) (cond p (2 ^ k) 0);
-      negative = bitOr (s .negative) (cond (not p) (2 ^ k) 0);
-      low = k + 1;
-      rising = s .rising && leb (s .low) k;
-      apart = s .apart && not (eqb k t);
-    }
-
--- a gate and the position after its line
-pub record GateNext : Type 0 where
-  pub gate : Gate
-  pub next : ℕ
+abbrev pub added : ℕ → Seen → ℕ → Seen
+added t s k = record { low = k + 1; rising = s .rising && leb (s .low) k; apart = s .apart && not (eqb k t) }
 
 -- a line count and the position after its line
 pub record HeaderNext : Type 0 where
@@ -79,15 +65,14 @@ laterFields (f ∷ fs) = fs
 abbrev pub headerNext : List ℕ → Outcome HeaderNext
 headerNext r = andThen (headerOn (lineAt r)) (λ n. served (record { lines = n; next = size (lineAt r) }))
 
--- the gate of the line at a position, with index i
-abbrev pub gateNext : ℕ → ℕ → ℕ → List ℕ → Outcome GateNext
-gateNext n i at r = andThen (gateOn n i (lineAt r)) (λ g. served (record { gate = g; next = at + size (lineAt r) }))
+-- the position after the gate line at a position, with index i
+abbrev pub gateNext : ℕ → ℕ → ℕ → List ℕ → Outcome ℕ
+gateNext n i at r = andThen (gateOn n i (lineAt r)) (λ g. served (at + size (lineAt r)))
 
 -- the same after its target, t
-abbrev pub controlsNext : ℕ → ℕ → ℕ → ℕ → List ℕ → Outcome GateNext
+abbrev pub controlsNext : ℕ → ℕ → ℕ → ℕ → List ℕ → Outcome ℕ
 controlsNext n i t at r =
-    andThen (andThen (controlsFrom n i [] (laterFields (fieldsOf (lineAt r .bytes)))) (closedGate i (lineAt r .ended) t))
-    (λ g. served (record { gate = g; next = at + size (lineAt r) }))
+    andThen (andThen (controlsFrom n i [] (laterFields (fieldsOf (lineAt r .bytes)))) (closedGate i (lineAt r .ended) t)) (λ g. served (at + size (lineAt r)))
 
 abbrev pub ofLine : LineAnswer → Outcome ℕ
 ofLine (line.Line k next) = served k
@@ -107,8 +92,8 @@ abbrev pub ControlEnds : ℕ → ControlAnswer → Type 0
 ControlEnds at (control.Control k p next) = next ≡ at + 1 + width k
 ControlEnds at (control.Refused r) = Unit
 
-abbrev pub ofGate : GateAnswer → Outcome GateNext
-ofGate (gate.Gate g next) = served (record { gate = g; next = next })
+abbrev pub ofGate : GateAnswer → Outcome ℕ
+ofGate (gate.Next next) = served next
 ofGate (gate.Refused r) = refused (r .number) (r .place)
 
 abbrev pub ofHeader : HeaderAnswer → Outcome HeaderNext

@@ -55,7 +55,7 @@ fn judge(text: &[u8], n: u64, start: usize) -> ReadAnswer
             GateAnswer::Refused(why) => {
                 return ReadAnswer::Refused(why);
             }
-            GateAnswer::Gate { gate: _, next } => {
+            GateAnswer::Next(next) => {
                 at = next;
                 gates += 1;
             }

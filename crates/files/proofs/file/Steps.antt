@@ -2,21 +2,19 @@
 use mathlib.Core.Path.{_≡_, refl, sym, ap, ap₂, _∙_, subst}
 use mathlib.Core.Bool.{true, false, false≢true}
 use mathlib.Core.List.{List, [], _∷_, _++_}
-use Prim.Native.Nat.{ℕ, _+_, _-_, _*_, _≤_, _<_}
+use Prim.Native.Nat.{ℕ, _+_, _-_, _≤_, _<_}
 use native.Mathlib.Omega.{arith}
-use lib.ListN.{length, take, drop, length-drop, length-append}
+use lib.ListN.{length, drop, length-drop, length-append}
 use lib.Seq.{drop-drop}
-use Rattle.bits.specs.Lists.{over}
 use Rattle.bits.proofs.Bools.{and-parts, cond-true, cond-false}
-use Rattle.bits.proofs.Lists.{over-more}
 use Rattle.circuit.specs.declared.gate.Gate.{Gate}
 use Rattle.circuit.specs.Gate.{maxLines, maxGates}
-use Rattle.circuit.specs.Outcome.{Outcome, served, refused, andThen, written, Yields}
+use Rattle.circuit.specs.Outcome.{Outcome, served, refused, written, Yields}
 use Rattle.circuit.specs.Refusal.{wrongForm}
 use Rattle.files.specs.Text.{lineFeed, endWord, endLine}
 use Rattle.files.specs.File.{Line, noLine, firstLine, laterLines, linesOf, size, fieldsOf, same, gateFields, gateOn, headerOn, isEnd, Reading, readFrom, reading, ReadCounts, countsOf, gatesRead, readOutcome, readBuffer}
-use Rattle.circuit.specs.Words.{gateWords, wordsOf}
-use Rattle.files.specs.Scan.{lineAt, GateNext, gateNext, HeaderNext, headerNext, countsFrom}
+use Rattle.circuit.specs.Words.{wordsOf}
+use Rattle.files.specs.Scan.{lineAt, gateNext, HeaderNext, headerNext, countsFrom}
 use Rattle.files.specs.Fill.{GatesAt}
 use Rattle.circuit.proofs.Outcome.{never, then-served, then-refused, then-both, told}
 use Rattle.circuit.proofs.words.Laws.{valid-all-more}
@@ -24,11 +22,12 @@ use Rattle.files.proofs.file.Lines.{cut-first, same-true}
 use Rattle.files.proofs.file.Offences.{GateFound, gate-found, HeaderFound, header-found, Walked, whole-text, stopped, walked}
 
 -- a gate line that was read
-pub record Stepped (n : ℕ) (text : List ℕ) (gs : List Gate) (at : ℕ) (g : Gate) (next : ℕ) : Type 0 where
+pub record Stepped (n : ℕ) (text : List ℕ) (gs : List Gate) (at next : ℕ) : Type 0 where
+  pub gate : Gate
   pub onward : at < next
   pub inside : next ≤ length text
   pub few : length gs + 1 ≤ maxGates
-  pub left : readFrom n gs at (linesOf (drop at text)) ≡ readFrom n (gs ++ (g ∷ [])) next (linesOf (drop next text))
+  pub left : readFrom n gs at (linesOf (drop at text)) ≡ readFrom n (gs ++ (gate ∷ [])) next (linesOf (drop next text))
 
 module _ (n : ℕ) (lines-high : n ≤ maxLines) (text : List ℕ) (gs : List Gate) (at : ℕ) (inside : at ≤ length text) where
   gate-facts : (g : Gate) → gateOn n (length gs + 1) (lineAt (drop at text)) ≡ served g → isEnd (lineAt (drop at text)) ≡ false
@@ -47,20 +46,17 @@ module _ (n : ℕ) (lines-high : n ≤ maxLines) (text : List ℕ) (gs : List Ga
       cond-false (isEnd l) _ _ (sym (ap (λ (x : List Line). isEnd (firstLine x)) q) ∙ z)
       ∙ then-served _ _ g (sym (ap (λ (x : List Line). gateOn n (length gs + 1) (firstLine x)) q) ∙ e)
 
-  pub stepped : isEnd (lineAt (drop at text)) ≡ false → (g : Gate) (next : ℕ) → gateNext n (length gs + 1) at (drop at text) ≡ served (record { gate = g; next = next })
-      → Stepped n text gs at g next
-  stepped z g next e =
-      let (h, a, b) = then-both (gateOn n (length gs + 1) (lineAt (drop at text))) _ (record { gate = g; next = next }) e in
+  pub stepped : isEnd (lineAt (drop at text)) ≡ false → (next : ℕ) → gateNext n (length gs + 1) at (drop at text) ≡ served next → Stepped n text gs at next
+  stepped z next e =
+      let (g, good, b) = then-both (gateOn n (length gs + 1) (lineAt (drop at text))) _ next e in
       let l = lineAt (drop at text) in
-      let x : _≡_ {A = GateNext} (record { gate = h; next = at + size l }) (record { gate = g; next = next }) = unserved b in
-      let p : h ≡ g = ap (λ (y : GateNext). y .gate) x in
-      let q : at + size l ≡ next = ap (λ (y : GateNext). y .next) x in
-      let good : gateOn n (length gs + 1) l ≡ served g = a ∙ ap served p in
+      let q : at + size l ≡ next = unserved b in
       let (d, m) = gate-facts g good z in
       let c = cut-first (drop at text) d in
       let s : length (drop at text) ≡ length (l .bytes) + length (lineFeed ∷ drop (size l) (drop at text)) = ap length (c .text) ∙ length-append (l .bytes) _ in
       let t = length-drop at text in
       record {
+        gate = g;
         onward = omega arith;
         inside = omega arith;
         few = m;
@@ -70,7 +66,7 @@ module _ (n : ℕ) (lines-high : n ≤ maxLines) (text : List ℕ) (gs : List Ga
             (sym (c .later) ∙ ap linesOf (drop-drop (size l) at text ∙ ap (λ (k : ℕ). drop k text) q));
       }
     where
-      unserved : {a b : GateNext} → _≡_ {A = Outcome GateNext} (served a) (served b) → a ≡ b
+      unserved : {a b : ℕ} → _≡_ {A = Outcome ℕ} (served a) (served b) → a ≡ b
       unserved e = cc
 
   pub step-refused : isEnd (lineAt (drop at text)) ≡ false → (number place : ℕ) → gateNext n (length gs + 1) at (drop at text) ≡ refused number place
@@ -81,7 +77,7 @@ module _ (n : ℕ) (lines-high : n ≤ maxLines) (text : List ℕ) (gs : List Ga
       bad : (o : Outcome Gate) → gateOn n (length gs + 1) (lineAt (drop at text)) ≡ o → gateOn n (length gs + 1) (lineAt (drop at text)) ≡ refused number place
       bad (served g) q = absurd (never (then-served _ _ g q) e)
       bad (refused x y) q =
-          let f : _≡_ {A = Outcome GateNext} (refused x y) (refused number place) = sym (then-refused _ _ x y q) ∙ e in
+          let f : _≡_ {A = Outcome ℕ} (refused x y) (refused number place) = sym (then-refused _ _ x y q) ∙ e in
           let i : x ≡ number = cc in
           let j : y ≡ place = cc in
           q ∙ ap₂ (λ (a b : ℕ). refused a b) i j
@@ -144,17 +140,17 @@ module _ (n : ℕ) (text : List ℕ) (start at gates : ℕ) (j : Judging n text 
         then-refused _ _ _ _
         (j .left ∙ step-refused n (j .high) text (j .passed) at (j .inside) open-line number p (ap (λ (k : ℕ). gateNext n k at (drop at text)) place ∙ e))
 
-    module _ (g : Gate) (next : ℕ) (read : gateNext n (gates + 1) at (drop at text) ≡ served (record { gate = g; next = next })) where
-      pub judging-step : Stepped n text (j .passed) at g next
-      judging-step = stepped n (j .high) text (j .passed) at (j .inside) open-line g next (ap (λ (k : ℕ). gateNext n k at (drop at text)) place ∙ read)
+    module _ (next : ℕ) (read : gateNext n (gates + 1) at (drop at text) ≡ served next) where
+      pub judging-step : Stepped n text (j .passed) at next
+      judging-step = stepped n (j .high) text (j .passed) at (j .inside) open-line next (ap (λ (k : ℕ). gateNext n k at (drop at text)) place ∙ read)
 
       pub judging-turn : Judging n text start next (gates + 1)
       judging-turn =
           let s = judging-step in
-          let k = length-append (j .passed) (g ∷ []) in
+          let k = length-append (j .passed) (s .gate ∷ []) in
           let q = j .count in
           let m = s .few in
-          record { passed = j .passed ++ (g ∷ []); count = omega arith; high = j .high; few = omega arith; inside = s .inside; left = j .left ∙ s .left }
+          record { passed = j .passed ++ (s .gate ∷ []); count = omega arith; high = j .high; few = omega arith; inside = s .inside; left = j .left ∙ s .left }
 
   pub judging-end : isEnd (lineAt (drop at text)) ≡ true → (countsFrom n start text ≡ served (record { lines = n; gates = gates; taken = at + 4 })) × (at + 4 ≤ length text)
   judging-end z =

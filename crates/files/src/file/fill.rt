@@ -3,12 +3,14 @@
 use crate::file::scan::Numeral;
 use circuit::gate::Gate;
 ghost use mathlib.Core.Path.{_≡_};
+ghost use mathlib.Core.Bool.{cond};
 ghost use mathlib.Core.List.{List};
-ghost use Prim.Native.Nat.{ℕ, _+_, _*_, _≤_};
+ghost use Prim.Native.Nat.{ℕ, _+_, _*_, _^_, _<_, _≤_};
+ghost use lib.Bits.{bitOr};
 ghost use lib.ListN.{length};
 ghost use Rattle.bits.specs.Lists.{over};
 ghost use Rattle.circuit.specs.declared.gate.Gate.{Gate};
-ghost use Rattle.circuit.specs.Gate.{Control};
+ghost use Rattle.circuit.specs.Gate.{maxLines, Control};
 ghost use Rattle.circuit.specs.Words.{wordsOf};
 ghost use Rattle.files.specs.Text.{numberText, controlsText, gateLine};
 ghost use Rattle.files.specs.File.{gateOf};
@@ -39,6 +41,17 @@ fn number(text: &[u8], at: usize) -> Numeral
     }
 }
 
+// The mask with line k, where it is to be set.
+fn joined(mask: u64, k: u64, set: bool) -> u64
+    requires { ⌜ k < maxLines ⌝ }
+    ensures { λ r. ⌜ r ≡ bitOr mask (cond set (2 ^ k) 0) ⌝ }
+{
+    if set {
+        return mask | (1 << k);
+    }
+    mask
+}
+
 // The gate of a line with this target, whose controls start at a position, and the position after the line.
 fn controls(text: &[u8], first: usize, target: u64) -> GateRead
     requires { ⌜ ((cs : List Control) × ControlsAt (now text) first cs) ⌝ }
@@ -51,8 +64,8 @@ fn controls(text: &[u8], first: usize, target: u64) -> GateRead
         let plus = text[at + 1] == 43;
         let k = number(text, at + 2);
         let line = k.value;
-        positive = crate::file::scan::joined(positive, line, plus);
-        negative = crate::file::scan::joined(negative, line, !plus);
+        positive = joined(positive, line, plus);
+        negative = joined(negative, line, !plus);
         at = k.next;
     }
     GateRead {

@@ -3,11 +3,10 @@
 use circuit::gate::Gate;
 use circuit::refusal::Refusal;
 ghost use mathlib.Core.Path.{_≡_};
-ghost use mathlib.Core.Bool.{true, false, not, cond, _&&_, _||_};
+ghost use mathlib.Core.Bool.{true, false, not, _&&_, _||_};
 ghost use mathlib.Core.List.{[]};
-ghost use Prim.Native.Nat.{_+_, _^_, _<_, _≤_};
+ghost use Prim.Native.Nat.{_+_, _<_, _≤_};
 ghost use lib.Dec.{eqb, leb};
-ghost use lib.Bits.{bitOr};
 ghost use lib.ListN.{length, drop, getD};
 ghost use Rattle.circuit.specs.Gate.{maxLines};
 ghost use Rattle.files.specs.Text.{plus, minus};
@@ -43,9 +42,9 @@ pub enum ControlAnswer {
     Refused(Refusal),
 }
 
-// A gate and the position after its line, or a refusal.
+// The position after a gate line, or a refusal.
 pub enum GateAnswer {
-    Gate { gate: Gate, next: usize },
+    Next(usize),
     Refused(Refusal),
 }
 
@@ -55,10 +54,8 @@ pub enum HeaderAnswer {
     Refused(Refusal),
 }
 
-// What the controls of a gate line come to: their masks, the lowest line that may follow, whether they rise, and whether the target is apart.
+// What the controls of a gate line come to: the lowest line that may follow, whether they rise, and whether the target is apart.
 pub struct Seen {
-    pub positive: u64,
-    pub negative: u64,
     pub low: u64,
     pub rising: bool,
     pub apart: bool,
@@ -215,17 +212,6 @@ fn control(text: &[u8], at: usize, n: u64, place: u64) -> ControlAnswer
     }
 }
 
-// The mask with line k, where it is to be set.
-pub(crate) fn joined(mask: u64, k: u64, set: bool) -> u64
-    requires { ⌜ k < maxLines ⌝ }
-    ensures { λ r. ⌜ r ≡ bitOr mask (cond set (2 ^ k) 0) ⌝ }
-{
-    if set {
-        return mask | (1 << k);
-    }
-    mask
-}
-
 // Whether lines that rose still rise with line k.
 fn rises(rising: bool, low: u64, k: u64) -> bool
     ensures { λ r. ⌜ r ≡ (rising && leb low k) ⌝ }
@@ -249,11 +235,9 @@ fn avoids(apart: bool, target: u64, k: u64) -> bool
 impl Seen {
     // No control yet.
     fn none() -> Seen
-        ensures { λ r. ⌜ r ≡ record { positive = 0; negative = 0; low = 0; rising = true; apart = true } ⌝ }
+        ensures { λ r. ⌜ r ≡ record { low = 0; rising = true; apart = true } ⌝ }
     {
         Seen {
-            positive: 0,
-            negative: 0,
             low: 0,
             rising: true,
             apart: true,
@@ -261,13 +245,11 @@ impl Seen {
     }
 
     // One control more, on line k.
-    fn add(self, target: u64, k: u64, positive: bool) -> Seen
+    fn add(self, target: u64, k: u64) -> Seen
         requires { ⌜ k < maxLines ⌝ }
-        ensures { λ r. ⌜ r ≡ added target self k positive ⌝ }
+        ensures { λ r. ⌜ r ≡ added target self k ⌝ }
     {
         Seen {
-            positive: joined(self.positive, k, positive),
-            negative: joined(self.negative, k, !positive),
             low: k + 1,
             rising: rises(self.rising, self.low, k),
             apart: avoids(self.apart, target, k),
@@ -275,7 +257,7 @@ impl Seen {
     }
 }
 
-// The gate of a line with this target, whose controls start at a position, and the position after the line; else 1, 3, 4 or 5.
+// The position after a gate line with this target, whose controls start at a position; else 1, 3, 4 or 5.
 fn controls(text: &[u8], first: usize, n: u64, place: u64, target: u64) -> GateAnswer
     requires { ⌜ (first ≤ length (now text)) × (n ≤ maxLines) × (fieldAt (drop first (now text)) ≡ []) ⌝ }
     ensures { λ r. ⌜ ofGate r ≡ controlsNext n place target first (drop first (now (text .entry))) ⌝ }
@@ -289,10 +271,10 @@ fn controls(text: &[u8], first: usize, n: u64, place: u64, target: u64) -> GateA
             }
             ControlAnswer::Control {
                 line,
-                positive,
+                positive: _,
                 next,
             } => {
-                seen = seen.add(target, line, positive);
+                seen = seen.add(target, line);
                 at = next;
             }
         }
@@ -306,17 +288,10 @@ fn controls(text: &[u8], first: usize, n: u64, place: u64, target: u64) -> GateA
     if !seen.rising {
         return GateAnswer::Refused(Refusal::not_rising(place));
     }
-    GateAnswer::Gate {
-        gate: Gate {
-            positive: seen.positive,
-            negative: seen.negative,
-            target,
-        },
-        next: at + 1,
-    }
+    GateAnswer::Next(at + 1)
 }
 
-// The gate of the line at a position, and the position after it; else 6, 1, 3, 4 or 5.
+// The position after the gate line at a position; else 6, 1, 3, 4 or 5.
 pub(crate) fn gate_line(text: &[u8], start: usize, n: u64, place: u64) -> GateAnswer
     requires { ⌜ (start ≤ length (now text)) × (n ≤ maxLines) ⌝ }
     ensures { λ r. ⌜ ofGate r ≡ gateNext n place start (drop start (now (text .entry))) ⌝ }

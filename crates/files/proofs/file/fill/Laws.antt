@@ -18,7 +18,7 @@ use Rattle.circuit.specs.Gate.{maxLines, valid, Control, controlsOf}
 use Rattle.circuit.specs.Words.{gateWords, wordsOf, putGate, allValid}
 use Rattle.files.specs.declared.file.scan.Numeral.{Numeral}
 use Rattle.files.specs.declared.file.fill.GateRead.{GateRead}
-use Rattle.files.specs.Text.{tab, lineFeed, plus, minus, digit, gateWord, numberText, controlText, controlsText, gateText, gateLine, gateLines}
+use Rattle.files.specs.Text.{tab, lineFeed, plus, minus, digit, numberText, controlText, controlsText, gateLine, gateLines}
 use Rattle.files.specs.File.{maskOf, gateOf}
 use Rattle.files.specs.FileLaws as laws
 use Rattle.files.specs.FileLaws.{Inside}

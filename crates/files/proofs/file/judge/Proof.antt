@@ -51,7 +51,7 @@ loop-less c =
     let g = w .before .before in
     let t = g .before in
     let l = t .before .before in
-    let s = judging-step _ _ _ _ _ (l .loop .inv) (sym (t .before .ends .ensures) ∙ not-true _ (t .if1 .taken)) _ _ (sym (g .gate-line .ensures) ∙ ap ofGate (w .next .given .1)) in
+    let s = judging-step _ _ _ _ _ (l .loop .inv) (sym (t .before .ends .ensures) ∙ not-true _ (t .if1 .taken)) _ (sym (g .gate-line .ensures) ∙ ap ofGate (w .next .given .1)) in
     omega (arith, s .onward, s .inside)
 
 loop-again : tie.Need-loop-again Inv-loop μ-loop
@@ -60,7 +60,7 @@ loop-again c =
     let g = w .before .before in
     let t = g .before in
     let l = t .before .before in
-    judging-turn _ _ _ _ _ (l .loop .inv) (sym (t .before .ends .ensures) ∙ not-true _ (t .if1 .taken)) _ _ (sym (g .gate-line .ensures) ∙ ap ofGate (w .next .given .1))
+    judging-turn _ _ _ _ _ (l .loop .inv) (sym (t .before .ends .ensures) ∙ not-true _ (t .if1 .taken)) _ (sym (g .gate-line .ensures) ∙ ap ofGate (w .next .given .1))
 
 add-t14 : tie.Need-add-t14 Inv-loop μ-loop
 add-t14 c =

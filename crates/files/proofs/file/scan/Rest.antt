@@ -1,11 +1,10 @@
 -- The laws of the line from a position on: its next field, its end, and the gate or the header that it gives. Assumes nothing.
 use mathlib.Core.Path.{_≡_, refl, sym, ap, ap₂, _∙_, subst}
-use mathlib.Core.Bool.{Bool, true, false, not, cond, _&&_, _||_, Bool·beq, true≢false}
+use mathlib.Core.Bool.{Bool, true, false, not, _&&_, _||_, true≢false}
 use mathlib.Core.List.{List, [], _∷_, _++_, cons≢nil, append-assoc}
-use Prim.Native.Nat.{ℕ, suc, _+_, _-_, _^_, _≤_, _<_}
+use Prim.Native.Nat.{ℕ, suc, _+_, _-_, _≤_, _<_}
 use native.Mathlib.Omega.{arith}
 use lib.Dec.{eqb, ltb}
-use lib.Bits.{bitOr}
 use lib.ListN.{length, drop, getD, length-drop}
 use lib.Seq.{drop-drop, drop-append-seam, append-snoc}
 use borrow.Author.Tests.{eqb-true, eq-eqb, ne-eqb, le-leb, lt-leb, ltb-true, ltb-false}
@@ -17,13 +16,13 @@ use Rattle.circuit.specs.Outcome.{Outcome, served, refused, demand, andThen}
 use Rattle.circuit.specs.Refusal.{wrongForm, badLineCount, lineOutside, targetControlled, notRising, tooManyGates}
 use Rattle.circuit.specs.Words.{lineCountGood}
 use Rattle.files.specs.Text.{tab, lineFeed, linesWord, gateWord, endWord, numberText}
-use Rattle.files.specs.File.{Line, noLine, firstLine, linesOf, size, longer, fieldsOf, same, numberOf, lineOf, controlOf, controlsFrom, among, risingFrom, maskOf, gateOf, closedGate, gateFields, gateOn, headerFields, headerOn, isEnd}
+use Rattle.files.specs.File.{Line, noLine, firstLine, linesOf, size, longer, fieldsOf, same, numberOf, lineOf, controlOf, controlsFrom, among, risingFrom, gateOf, closedGate, gateFields, gateOn, headerFields, headerOn, isEnd}
 use Rattle.files.specs.Scan.{isStop, fieldAt, lineAt, startsWith, orHundred, width, added, laterFields, headerNext, gateNext, controlsNext}
 use Rattle.circuit.proofs.Outcome.{never, demand-met, demand-failed, demanded, then-served, then-refused, then-both}
 use Rattle.files.proofs.file.Lines.{line-more, line-over, lines-none, field-over, fields-none, fields-some, same-self, same-true, cut-first, tabbed, whole, fields-back}
 use Rattle.files.proofs.file.Lines as lines
 use Rattle.files.proofs.file.Numbers.{text-short, text-long, text-number, number-wrong}
-use Rattle.files.proofs.file.Controls.{nextLine, mask-push, among-push, rising-push, next-push}
+use Rattle.files.proofs.file.Controls.{nextLine, among-push, rising-push, next-push}
 use Rattle.files.proofs.file.Offences.{ControlFound, control-found}
 use Rattle.files.proofs.file.scan.Laws.{byte-at, field-more, field-stop, field-none, width-short, width-long, number-told, starts-true, true-starts}
 
@@ -161,30 +160,20 @@ control-field n i f c e = go (controlOf n i f) (control-found n i f) e
 
 abbrev pub seenOf : ℕ → List Control → Seen
 seenOf t cs =
-    record { positive = maskOf true cs; negative = maskOf false cs; low = nextLine 0 cs; rising = risingFrom 0 cs; apart = not (among t cs) }
+    record { low = nextLine 0 cs; rising = risingFrom 0 cs; apart = not (among t cs) }
 
-pub seen-none : (t : ℕ) → record { positive = 0; negative = 0; low = 0; rising = true; apart = true } ≡ seenOf t []
-unfolding maskOf nextLine risingFrom among
+pub seen-none : (t : ℕ) → record { low = 0; rising = true; apart = true } ≡ seenOf t []
+unfolding nextLine risingFrom among
 seen-none t = refl
 
-seen-push : (t : ℕ) (cs : List Control) (c : Control) → seenOf t (cs ++ (c ∷ [])) ≡ added t (seenOf t cs) (c .line) (c .positive)
+seen-push : (t : ℕ) (cs : List Control) (c : Control) → seenOf t (cs ++ (c ∷ [])) ≡ added t (seenOf t cs) (c .line)
 seen-push t cs c =
     λ i. record {
-      positive = (mask-push true cs c ∙ ap (λ (b : Bool). bitOr (maskOf true cs) (cond b (2 ^ c .line) 0)) (is (c .positive))) i;
-      negative = (mask-push false cs c ∙ ap (λ (b : Bool). bitOr (maskOf false cs) (cond b (2 ^ c .line) 0)) (isnt (c .positive))) i;
       low = next-push cs c i;
       rising = rising-push cs c i;
       apart = (ap not (among-push t cs c) ∙ both-not (among t cs) (eqb (c .line) t)) i;
     }
   where
-    is : (p : Bool) → Bool·beq p true ≡ p
-    is true = refl
-    is false = refl
-
-    isnt : (p : Bool) → Bool·beq p false ≡ not p
-    isnt true = refl
-    isnt false = refl
-
     both-not : (a b : Bool) → not (a || b) ≡ (not a && not b)
     both-not true b = refl
     both-not false b = refl
@@ -200,7 +189,7 @@ pub record Going (n i t : ℕ) (text : List ℕ) (first at : ℕ) (seen : Seen) 
   pub sizes : first + size (lineAt (drop first text)) ≡ at + size (lineAt (drop at text))
 
 pub going-start : (n i t : ℕ) (text : List ℕ) (first : ℕ) (seen : Seen) → first ≤ length text → fieldAt (drop first text) ≡ []
-    → seen ≡ record { positive = 0; negative = 0; low = 0; rising = true; apart = true } → Going n i t text first first seen
+    → seen ≡ record { low = 0; rising = true; apart = true } → Going n i t text first first seen
 going-start n i t text first seen h e s =
     record { passed = []; inside = h; stop = e; is = s ∙ seen-none t; left = refl; ended = refl; sizes = refl }
 
@@ -236,7 +225,7 @@ module _ (n i t : ℕ) (text : List ℕ) (first at : ℕ) (seen : Seen) (g : Goi
       pub going-inside : at + (2 + width (c .line)) ≤ length text
       going-inside = omega (arith, field-length, parted (drop (at + 1) text) .inside, length-drop (at + 1) text, going-room)
 
-      pub going-on : (last : Seen) → last ≡ added t seen (c .line) (c .positive) → Going n i t text first (at + (2 + width (c .line))) last
+      pub going-on : (last : Seen) → last ≡ added t seen (c .line) → Going n i t text first (at + (2 + width (c .line))) last
       unfolding controlsFrom
       going-on last e =
           let f : List ℕ = fieldAt (drop (at + 1) text) in
@@ -253,7 +242,7 @@ module _ (n i t : ℕ) (text : List ℕ) (first at : ℕ) (seen : Seen) (g : Goi
             passed = g .passed ++ (c ∷ []);
             inside = going-inside;
             stop = ap fieldAt (sym d) ∙ p .stop;
-            is = e ∙ ap (λ (x : Seen). added t x (c .line) (c .positive)) (g .is) ∙ sym (seen-push t (g .passed) c);
+            is = e ∙ ap (λ (x : Seen). added t x (c .line)) (g .is) ∙ sym (seen-push t (g .passed) c);
             left =
                 g .left
                 ∙ ap (controlsFrom n i (g .passed)) next-field
@@ -271,13 +260,13 @@ module _ (n i t : ℕ) (text : List ℕ) (first at : ℕ) (seen : Seen) (g : Goi
   module _ (none : getD (drop at text) 0 10 ≡ tab → ⊥) where
     -- all controls were passed
     tested : controlsNext n i t first (drop first text)
-        ≡ andThen (closedGate i (lineAt (drop at text) .ended) t (g .passed)) (λ x. served (record { gate = x; next = at + size (lineAt (drop at text)) }))
+        ≡ andThen (closedGate i (lineAt (drop at text) .ended) t (g .passed)) (λ x. served (at + size (lineAt (drop at text))))
     unfolding controlsFrom
     tested =
-        ap (λ (o : Outcome Gate). andThen o (λ x. served (record { gate = x; next = first + size (lineAt (drop first text)) })))
+        ap (λ (o : Outcome Gate). andThen o (λ x. served (first + size (lineAt (drop first text)))))
         (then-served _ _ (g .passed) (g .left ∙ ap (controlsFrom n i (g .passed)) (end-fields (drop at text) (g .stop) none))
         ∙ ap (λ (b : Bool). closedGate i b t (g .passed)) (g .ended))
-        ∙ ap (λ (k : ℕ). andThen (closedGate i (lineAt (drop at text) .ended) t (g .passed)) (λ x. served (record { gate = x; next = k }))) (g .sizes)
+        ∙ ap (λ (k : ℕ). andThen (closedGate i (lineAt (drop at text) .ended) t (g .passed)) (λ x. served k)) (g .sizes)
 
     pub going-open : length text ≤ at → controlsNext n i t first (drop first text) ≡ refused wrongForm i
     unfolding closedGate
@@ -290,10 +279,10 @@ module _ (n i t : ℕ) (text : List ℕ) (first at : ℕ) (seen : Seen) (g : Goi
       there = end-there (drop at text) (g .stop) none (omega (arith, length-drop at text))
 
       closed : controlsNext n i t first (drop first text)
-          ≡ andThen (closedGate i true t (g .passed)) (λ x. served (record { gate = x; next = at + 1 }))
+          ≡ andThen (closedGate i true t (g .passed)) (λ x. served (at + 1))
       closed =
           tested
-          ∙ ap₂ (λ (b : Bool) (k : ℕ). andThen (closedGate i b t (g .passed)) (λ x. served (record { gate = x; next = at + k }))) (there .0) (there .1)
+          ∙ ap₂ (λ (b : Bool) (k : ℕ). andThen (closedGate i b t (g .passed)) (λ x. served (at + k))) (there .0) (there .1)
 
       pub going-controlled : seen .apart ≡ false → controlsNext n i t first (drop first text) ≡ refused targetControlled i
       unfolding closedGate
@@ -310,15 +299,13 @@ module _ (n i t : ℕ) (text : List ℕ) (first at : ℕ) (seen : Seen) (g : Goi
             ∙ demand-failed _ _ _ _ (sym (ap (λ (s : Seen). s .rising) (g .is)) ∙ e))
 
         pub going-gate : seen .rising ≡ true
-            → controlsNext n i t first (drop first text)
-            ≡ served (record { gate = record { positive = seen .positive; negative = seen .negative; target = t }; next = at + 1 })
+            → controlsNext n i t first (drop first text) ≡ served (at + 1)
         unfolding closedGate
         going-gate e =
             closed
             ∙ then-served _ _ (gateOf t (g .passed))
             (demand-met _ _ _ _ (sym (ap (λ (s : Seen). s .apart) (g .is)) ∙ apart)
             ∙ demand-met _ _ _ _ (sym (ap (λ (s : Seen). s .rising) (g .is)) ∙ e))
-            ∙ ap (λ (s : Seen). served (record { gate = record { positive = s .positive; negative = s .negative; target = t }; next = at + 1 })) (sym (g .is))
 
 -- ---- a line that starts with a word and a tab
 
@@ -413,7 +400,7 @@ module _ (r : List ℕ) (starts : startsWith (103 ∷ 9 ∷ []) r ≡ true) wher
         let z : size (lineAt (drop 2 r)) ≡ length (fieldAt (drop 2 r)) + size (lineAt rest) = p .sizes ∙ ap (λ (x : List ℕ). length (fieldAt (drop 2 r)) + size (lineAt x)) (sym q) in
         let d : lineAt r .ended ≡ lineAt rest .ended = gate-word .ended ∙ p .ended ∙ ap (λ (x : List ℕ). lineAt x .ended) (sym q) in
         let t : at + size (lineAt r) ≡ next + size (lineAt rest) = omega arith in
-        ap₂ (λ (o : Outcome Gate) (j : ℕ). andThen o (λ x. served (record { gate = x; next = j })))
+        ap₂ (λ (o : Outcome Gate) (j : ℕ). andThen o (λ x. served j))
         (gate-few
         ∙ then-served _ _ k e
         ∙ ap₂ (λ (x : List ℕ) (b : Bool). andThen (controlsFrom n i [] (laterFields (fieldsOf (lineAt x .bytes)))) (closedGate i b k)) (sym q) d) t

@@ -6,7 +6,6 @@ use Prim.Native.Nat.{ℕ, _-_, _^_, _<_}
 use native.Mathlib.Omega.{arith}
 use lib.Bits.{bitOr}
 use lib.ListN.{length}
-use borrow.Author.Needs.{needs}
 use Rattle.circuit.specs.declared.gate.Gate.{Gate}
 use Rattle.circuit.specs.Gate.{maxLines, Control}
 use Rattle.files.specs.declared.file.scan.Numeral.{Numeral}

@@ -133,8 +133,8 @@ returns-4 c =
     why (c .not-rising .ensures)
     ∙ sym (going-falls _ _ _ _ _ _ _ (l .loop .inv .1) (none e) (e₂ .if2 .left) (not-false _ (e₃ .if3 .left)) (not-true _ (c .before .if4 .taken)))
 
-add-t16 : tie.Need-add-t16 Inv-loop μ-loop
-add-t16 c = search needs
+add-t15 : tie.Need-add-t15 Inv-loop μ-loop
+add-t15 c = search needs
 
 returns-5 : tie.Need-returns-5 Inv-loop μ-loop
 returns-5 c =
@@ -167,5 +167,5 @@ controls-spec =
     returns-3
     not-rising-requires
     returns-4
-    add-t16
+    add-t15
     returns-5)

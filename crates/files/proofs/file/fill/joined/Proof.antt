@@ -1,4 +1,4 @@
--- `files::file::scan::joined` meets its contract. Assumes nothing.
+-- `files::file::fill::joined` meets its contract. Assumes nothing.
 use mathlib.Core.Path.{sym, ap, _∙_}
 use Prim.Native.Nat.{_^_}
 use lib.Bits.{bitOr, or-zero-r}
@@ -8,8 +8,8 @@ use lib.Dec.{lit<}
 use lib.Pow.{shl-exact}
 use native.Mathlib.Omega.{arith}
 use borrow.Author.Needs.{needs}
-use Rattle.files.proofs.file.scan.joined.Statement.{statement}
-use Rattle.files.proofs.file.scan.joined.Tie as tie
+use Rattle.files.proofs.file.fill.joined.Statement.{statement}
+use Rattle.files.proofs.file.fill.joined.Tie as tie
 
 shl-result : tie.Need-shl-result
 shl-result c = search needs
