@@ -1,6 +1,6 @@
--- Tests: the parts of a conjunction, a test that fails, a choice by a test, and two tests that hold together. Assumes nothing.
+-- Tests: the parts of a conjunction and of a disjunction, a test that fails, a choice by a test, and two tests that hold together. Assumes nothing.
 use mathlib.Core.Path.{_≡_, refl, sym, ap, ap₂, _∙_}
-use mathlib.Core.Bool.{Bool, true, false, _&&_, cond, false≢true}
+use mathlib.Core.Bool.{Bool, true, false, _&&_, _||_, xor, cond, false≢true, true≢false}
 
 pub and-parts : (a b : Bool) → (a && b) ≡ true → (a ≡ true) × (b ≡ true)
 and-parts true b e = (refl, e)
@@ -8,6 +8,27 @@ and-parts false b e = absurd (false≢true e)
 
 pub both : {a b : Bool} → a ≡ true → b ≡ true → (a && b) ≡ true
 both p q = ap₂ _&&_ p q
+
+-- the second part does not hold, or not together with the first
+pub and-second : (a : Bool) {b : Bool} → b ≡ false → (a && b) ≡ false
+and-second true e = e
+and-second false e = refl
+
+pub and-apart : (a b : Bool) → (b ≡ true → a ≡ false) → (a && b) ≡ false
+and-apart true true h = h refl
+and-apart true false h = refl
+and-apart false b h = refl
+
+pub or-none : (a b : Bool) → (a || b) ≡ false → (a ≡ false) × (b ≡ false)
+or-none true b e = absurd (true≢false e)
+or-none false b e = (refl, e)
+
+pub xor-false : (a b : Bool) → xor a b ≡ false → a ≡ b
+unfolding xor
+xor-false true true e = refl
+xor-false true false e = e
+xor-false false true e = sym e
+xor-false false false e = refl
 
 pub not-held : (b : Bool) → (b ≡ true → ⊥) → b ≡ false
 not-held true h = absurd (h refl)

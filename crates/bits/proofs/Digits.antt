@@ -1,6 +1,6 @@
 -- The laws of `bit` and `linesIn`: of the operations on masks, of a power of two, of a sum, of a bound, of a count, and that a number is its digits. Assumes nothing.
 use mathlib.Core.Path.{_≡_, refl, sym, ap, ap₂, _∙_, subst}
-use mathlib.Core.Bool.{Bool, true, false, _&&_, _||_, xor, cond}
+use mathlib.Core.Bool.{Bool, false, _&&_, _||_, xor, cond, and-true}
 use Prim.Native.Nat.{ℕ, zero, suc, _+_, _-_, _*_, _/_, _%_, _^_, _≤_, _<_, min, max, suc-le-suc}
 use native.Mathlib.Nat.{div-eq-of-lt, mod-lt, pow-suc, lt-of-lt-of-le, zero-lt-suc, div-lt-iff-lt-mul, le-max-left, le-max-right}
 use native.Mathlib.Numerals.{one-add}
@@ -14,6 +14,7 @@ use lib.ListN.{length, length-append}
 use mathlib.Core.List.{List, [], _∷_, _++_}
 use lib.Bits.{bitAnd, bitOr, bitXor, differ, and-step, or-step, xor-step, and-zero-l, or-zero-l, or-disjoint}
 use Rattle.bits.specs.Digits.{bit, linesIn}
+use Rattle.bits.proofs.Bools.{and-apart}
 
 -- the higher digits are those of the half
 pub bit-suc : (x k : ℕ) → bit x (suc k) ≡ bit (x / 2) k
@@ -138,20 +139,11 @@ below-of-bits n x e =
 
 -- a mask and one line alone
 pub line-clear : (x k : ℕ) → bit x k ≡ false → bitAnd x (2 ^ k) ≡ 0
-line-clear x k e = bits-equal _ _ (λ j. bit-and x (2 ^ k) j ∙ ap (λ (b : Bool). bit x j && b) (bit-pow k j) ∙ other (bit x j) (eqb j k) (λ f. ap (bit x) (eqb-true j k f) ∙ e) ∙ sym (bit-none j))
-  where
-    other : (a b : Bool) → (b ≡ true → a ≡ false) → (a && b) ≡ false
-    other true true h = h refl
-    other true false h = refl
-    other false b h = refl
+line-clear x k e = bits-equal _ _ (λ j. bit-and x (2 ^ k) j ∙ ap (λ (b : Bool). bit x j && b) (bit-pow k j) ∙ and-apart (bit x j) (eqb j k) (λ f. ap (bit x) (eqb-true j k f) ∙ e) ∙ sym (bit-none j))
 
 pub clear-line : (x k : ℕ) → bitAnd x (2 ^ k) ≡ 0 → bit x k ≡ false
 clear-line x k e =
     sym (and-true (bit x k)) ∙ ap (λ (b : Bool). bit x k && b) (sym (bit-pow k k ∙ eq-eqb k k refl)) ∙ sym (bit-and x (2 ^ k) k) ∙ ap (λ (n : ℕ). bit n k) e ∙ bit-none k
-  where
-    and-true : (a : Bool) → (a && true) ≡ a
-    and-true true = refl
-    and-true false = refl
 
 -- ---- counting
 

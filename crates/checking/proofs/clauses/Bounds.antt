@@ -143,15 +143,15 @@ clauses-within n gs few v =
 -- ---- words
 
 -- at most two new variables a gate
+pub new-bound : (used k : ℕ) → newVariable used k ≤ used + 2
+new-bound used zero = omega arith
+new-bound used (suc zero) = omega arith
+new-bound used (suc (suc k)) = omega arith
+
 pub used-bound : (used : ℕ) (gs : List Gate) → usedAfter used gs ≤ used + 2 * length gs
 unfolding usedAfter
 used-bound used [] = omega arith
 used-bound used (g ∷ gs) = omega (arith, new-bound used (length (controlsOf g)), used-bound (usedBy used g) gs)
-  where
-    new-bound : (used k : ℕ) → newVariable used k ≤ used + 2
-    new-bound used zero = omega arith
-    new-bound used (suc zero) = omega arith
-    new-bound used (suc (suc k)) = omega arith
 
 pub variables-bound : (n : ℕ) (gs : List Gate) → variablesOf n gs ≤ 2 * n + 2 * length gs
 unfolding variablesOf

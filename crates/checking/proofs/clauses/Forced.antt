@@ -1,7 +1,7 @@
 -- An assignment satisfies the clause list exactly when it is the one that its own inputs force and the run changes them. Assumes nothing.
 use mathlib.Core.Path.{_≡_, refl, sym, ap, ap₂, _∙_, subst}
 use mathlib.Core.Logic.{_↔_}
-use mathlib.Core.Bool.{Bool, true, false, not, _&&_, _||_, xor, cond, true≢false}
+use mathlib.Core.Bool.{Bool, true, false, not, _&&_, _||_, xor, cond, true≢false, and-assoc, and-true, or-false}
 use mathlib.Core.List.{List, [], _∷_, _++_, map, append-assoc}
 use Prim.Native.Nat.{ℕ, zero, suc, _+_, _^_, _<_, _≤_}
 use native.Mathlib.Omega.{arith}
@@ -10,7 +10,7 @@ use lib.Bits.{bitAnd}
 use lib.ListN.{length, take, length-append, length-map}
 use borrow.Author.Tests.{eqb-true, eqb-false}
 use Rattle.bits.specs.Digits.{bit}
-use Rattle.bits.proofs.Bools.{and-parts, both, either, cond-true, cond-false}
+use Rattle.bits.proofs.Bools.{and-parts, both, either, cond-true, cond-false, or-none, xor-false, and-apart}
 use Rattle.bits.proofs.Digits.{bit-and, bit-pow, bit-sum, bit-none, bits-equal, bits-below, bit-above}
 use Rattle.circuit.specs.declared.gate.Gate.{Gate}
 use Rattle.circuit.specs.Gate.{maxLines, apply, Control, controlsOf}
@@ -19,7 +19,7 @@ use Rattle.circuit.specs.Run.{run}
 use Rattle.circuit.proofs.run.Laws.{run-below}
 use Rattle.checking.specs.Clauses.{OR, plus, minus, inputOf, newVariable, usedBy, gatesClauses, usedAfter, currentAfter, targeted, upFrom, differenceClause, differenceClauses, clausesOf, variablesOf}
 use Rattle.checking.specs.Satisfaction.{variable, holds, satisfies, spelled, gateValues, gatesValues, differences, traced, forced}
-use Rattle.checking.proofs.clauses.Tests.{same, same-self, and-assoc, and-cong, and-true, or-none, xor-self, xor-false, shape-d, someTrue, holds-or, holds-xor, satisfies-append}
+use Rattle.checking.proofs.clauses.Tests.{same, same-self, and-cong, xor-self, shape-d, someTrue, holds-or, holds-xor, satisfies-append}
 use Rattle.checking.proofs.clauses.Gates.{agree, agree-head, agree-tail, agree-gate, Reads, gates-law, after-reads, untouched}
 
 -- ---- the state that the first variables spell
@@ -33,10 +33,10 @@ spelled-below (suc n) σ = let h = spelled-below n σ in let t = top (variable �
     top true p = omega arith
     top false p = omega arith
 
-spelled-bit : (n : ℕ) (σ : List Bool) (k : ℕ) → k < n → bit (spelled n σ) k ≡ variable σ (suc k)
+pub spelled-line : (n : ℕ) (σ : List Bool) (k : ℕ) → k < n → bit (spelled n σ) k ≡ variable σ (suc k)
 unfolding spelled
-spelled-bit zero σ k h = absurd (omega arith)
-spelled-bit (suc n) σ k h =
+spelled-line zero σ k h = absurd (omega arith)
+spelled-line (suc n) σ k h =
     either (variable σ (suc n))
     (λ e.
     ap (λ (b : Bool). bit (spelled n σ + cond b (2 ^ n) 0) k) e
@@ -48,8 +48,8 @@ spelled-bit (suc n) σ k h =
     ∙ sym (ap (λ (i : ℕ). variable σ (suc i)) (eqb-true k n t) ∙ e))
     (λ t.
     ap (λ (b : Bool). bit (spelled n σ) k || b) t
-    ∙ or-no (bit (spelled n σ) k)
-    ∙ spelled-bit n σ k (omega (arith, eqb-false k n t))))
+    ∙ or-false (bit (spelled n σ) k)
+    ∙ spelled-line n σ k (omega (arith, eqb-false k n t))))
     (λ e.
     let z : spelled n σ + 0 ≡ spelled n σ = omega arith in
     ap (λ (b : Bool). bit (spelled n σ + cond b (2 ^ n) 0) k) e
@@ -59,30 +59,18 @@ spelled-bit (suc n) σ k h =
     ap (bit (spelled n σ)) (eqb-true k n t)
     ∙ bit-above n (spelled n σ) n (spelled-below n σ) (omega arith)
     ∙ sym (ap (λ (i : ℕ). variable σ (suc i)) (eqb-true k n t) ∙ e))
-    (λ t. spelled-bit n σ k (omega (arith, eqb-false k n t))))
+    (λ t. spelled-line n σ k (omega (arith, eqb-false k n t))))
   where
-    or-no : (b : Bool) → (b || false) ≡ b
-    or-no true = refl
-    or-no false = refl
-
     apart : (n : ℕ) (σ : List Bool) → bitAnd (spelled n σ) (2 ^ n) ≡ 0
     apart n σ =
         bits-equal _ _ (λ k.
         bit-and (spelled n σ) (2 ^ n) k
         ∙ ap (λ (b : Bool). bit (spelled n σ) k && b) (bit-pow n k)
-        ∙ off (bit (spelled n σ) k) (eqb k n) (λ t. ap (bit (spelled n σ)) (eqb-true k n t) ∙ bit-above n (spelled n σ) n (spelled-below n σ) (omega arith))
+        ∙ and-apart (bit (spelled n σ) k) (eqb k n) (λ t. ap (bit (spelled n σ)) (eqb-true k n t) ∙ bit-above n (spelled n σ) n (spelled-below n σ) (omega arith))
         ∙ sym (bit-none k))
-      where
-        off : (a b : Bool) → (b ≡ true → a ≡ false) → (a && b) ≡ false
-        off true true h = h refl
-        off true false h = refl
-        off false b h = refl
-
-pub spelled-line : (n : ℕ) (σ : List Bool) (k : ℕ) → k < n → bit (spelled n σ) k ≡ variable σ (suc k)
-spelled-line = spelled-bit
 
 pub reads-inputs : (n : ℕ) (σ : List Bool) → Reads n σ inputOf (spelled n σ)
-reads-inputs n σ = record { named = λ k h. omega arith; read = λ k h. sym (spelled-bit n σ k h) }
+reads-inputs n σ = record { named = λ k h. omega arith; read = λ k h. sym (spelled-line n σ k h) }
 
 -- ---- the variables d
 
@@ -224,7 +212,7 @@ digits-take s (x ∷ τ) (suc m) i h f =
 
 front : (n : ℕ) (σ : List Bool) → n ≤ length σ → take n σ ≡ map (bit (spelled n σ)) (upFrom 0 n)
 front n σ h =
-    digits-take (spelled n σ) σ n 0 h (λ k l. let e : 0 + k ≡ k = omega arith in ap (bit (spelled n σ)) e ∙ spelled-bit n σ k l)
+    digits-take (spelled n σ) σ n 0 h (λ k l. let e : 0 + k ≡ k = omega arith in ap (bit (spelled n σ)) e ∙ spelled-line n σ k l)
 
 digits-at : (s : ℕ) (rest : List Bool) (m i k : ℕ) → k < m → variable (map (bit s) (upFrom i m) ++ rest) (suc k) ≡ bit s (i + k)
 unfolding upFrom
@@ -238,7 +226,7 @@ pub spelled-digits : (n x : ℕ) (rest : List Bool) → x < 2 ^ n → spelled n 
 spelled-digits n x rest h =
     let σ = map (bit x) (upFrom 0 n) ++ rest in
     bits-below n (spelled n σ) x (spelled-below n σ) h
-    (λ k l. let e : 0 + k ≡ k = omega arith in spelled-bit n σ k l ∙ digits-at x rest n 0 k l ∙ ap (bit x) e)
+    (λ k l. let e : 0 + k ≡ k = omega arith in spelled-line n σ k l ∙ digits-at x rest n 0 k l ∙ ap (bit x) e)
 
 -- ---- a state that the run changes differs from its output on some line
 

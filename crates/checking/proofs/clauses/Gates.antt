@@ -1,6 +1,6 @@
 -- The clauses of gates hold exactly when their new variables have the values that the state forces. Assumes nothing.
 use mathlib.Core.Path.{_≡_, refl, sym, ap, ap₂, _∙_, subst}
-use mathlib.Core.Bool.{Bool, true, false, not, _&&_, _||_, xor, cond}
+use mathlib.Core.Bool.{Bool, true, false, not, _&&_, _||_, xor, cond, and-assoc, and-true, and-false, or-false, or-true}
 use mathlib.Core.List.{List, [], _∷_, _++_, map}
 use Prim.Native.Nat.{ℕ, zero, suc, _+_, _<_, _≤_}
 use native.Mathlib.Omega.{arith}
@@ -10,7 +10,7 @@ use lib.ListN.{length}
 use borrow.Author.Tests.{eqb-true}
 use Rattle.bits.specs.Lists.{fold}
 use Rattle.bits.specs.Digits.{bit}
-use Rattle.bits.proofs.Bools.{and-parts, either, cond-true, cond-false}
+use Rattle.bits.proofs.Bools.{and-parts, either, cond-true, cond-false, or-none}
 use Rattle.circuit.specs.declared.gate.Gate.{Gate}
 use Rattle.circuit.specs.Gate.{maxLines, valid, fires, apply, Control, controlAt, controlsBelow, controlsOf, met, allMet}
 use Rattle.circuit.specs.Words.{allValid}
@@ -19,7 +19,7 @@ use Rattle.circuit.proofs.gate.Laws.{valid-facts, valid-more, apply-bit}
 use Rattle.circuit.proofs.gate.Controls.{controls-fire, controls-below}
 use Rattle.checking.specs.Clauses.{XOR, plus, minus, literalOf, implied, manyClauses, gateClauses, newVariable, usedBy, moved, clausesOfGate, gatesClauses, currentAfter, targeted}
 use Rattle.checking.specs.Satisfaction.{variable, value, satisfies, size, gateValues, gatesValues}
-use Rattle.checking.proofs.clauses.Tests.{same, same-true, and-assoc, and-cong, and-true, and-false, xor-none, not-and, or-and, or-false, or-true, or-none, shape-0, shape-1, shape-2, someTrue, holds-or, holds-xor, value-neg, satisfies-append}
+use Rattle.checking.proofs.clauses.Tests.{same, same-true, and-cong, xor-none, not-and, or-and, shape-0, shape-1, shape-2, someTrue, holds-or, holds-xor, value-neg, satisfies-append}
 
 -- ---- controls on lines below n
 
@@ -90,7 +90,7 @@ module _ (n : ℕ) (σ : List Bool) (current : ℕ → ℕ) (s : ℕ) (reads : R
   implied-law : (p : ℕ) → 1 ≤ p → (cs : List Control) → Within n cs
       → satisfies σ (implied p (map (literalOf current) cs)) ≡ (not (variable σ p) || allMet s cs)
   unfolding allMet satisfies
-  implied-law p one [] h = or-true (not (variable σ p))
+  implied-law p one [] h = sym (or-true (not (variable σ p)))
   implied-law p one (c ∷ cs) h =
       ap₂ _&&_
       (holds-or σ (minus p ∷ literalOf current c ∷ [])

@@ -1,6 +1,6 @@
 -- What a turn over the gates adds to the totals, and the totals at the end. Assumes nothing.
 use mathlib.Core.Path.{_≡_, refl, sym, ap, ap₂, _∙_}
-use mathlib.Core.Bool.{Bool, true, false, _||_, cond}
+use mathlib.Core.Bool.{Bool, true, false, _||_, cond, or-false}
 use mathlib.Core.List.{List, [], _∷_, _++_}
 use Prim.Native.Nat.{ℕ, zero, suc, _+_, _*_, _/_, _^_, _≤_, _<_}
 use native.Mathlib.Nat.{zero-add}
@@ -27,7 +27,6 @@ use Rattle.checking.specs.declared.clauses.Totals.{Totals}
 use Rattle.checking.specs.Clauses.{targeted, upFrom}
 use Rattle.checking.specs.Sizes.{totals, added, gateSizes, gatesSizes, linesSizes, sizesOf, sizesOutcome}
 use Rattle.checking.proofs.clauses.Bounds.{few-controls}
-use Rattle.checking.proofs.clauses.Tests.{or-false}
 use Rattle.checking.proofs.clauses.Forced.{length-upFrom}
 
 -- ---- the sizes of a gate

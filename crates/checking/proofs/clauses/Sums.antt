@@ -32,7 +32,7 @@ implied-count : (p : ℕ) (ls : List ℤ) → length (implied p ls) ≡ length l
 implied-count p [] = refl
 implied-count p (l ∷ ls) = ap suc (implied-count p ls)
 
-implied-words : (p : ℕ) (ls : List ℤ) → length (stored (implied p ls)) ≡ 4 * length ls
+pub implied-words : (p : ℕ) (ls : List ℤ) → length (stored (implied p ls)) ≡ 4 * length ls
 unfolding stored
 implied-words p [] = refl
 implied-words p (l ∷ ls) = omega (arith, implied-words p ls)

@@ -1,6 +1,6 @@
 -- Truth tables, and the two kinds of clauses as folds over their literals. Assumes nothing.
 use mathlib.Core.Path.{_≡_, refl, sym, ap, _∙_}
-use mathlib.Core.Bool.{Bool, true, false, not, _&&_, _||_, xor, cond, true≢false, false≢true}
+use mathlib.Core.Bool.{Bool, true, false, not, _&&_, _||_, xor, cond, true≢false, false≢true, and-assoc, Bool·not-not}
 use mathlib.Core.List.{List, [], _∷_, _++_}
 use Prim.Native.Nat.{ℕ, zero, suc, _+_, _%_, _<_, _≤_}
 use native.Mathlib.Omega.{arith}
@@ -23,10 +23,6 @@ pub same-self : (a : Bool) → same a a ≡ true
 same-self true = refl
 same-self false = refl
 
-pub and-assoc : (a b c : Bool) → ((a && b) && c) ≡ (a && (b && c))
-and-assoc true b c = refl
-and-assoc false b c = refl
-
 -- the second part is needed only where the first holds
 pub and-cong : (a a′ b b′ : Bool) → a ≡ a′ → (a′ ≡ true → b ≡ b′) → (a && b) ≡ (a′ && b′)
 and-cong true true b b′ e f = f refl
@@ -38,33 +34,9 @@ pub not-and : (a b : Bool) → not (a && b) ≡ (not a || not b)
 not-and true b = refl
 not-and false b = refl
 
-pub not-not : (a : Bool) → not (not a) ≡ a
-not-not true = refl
-not-not false = refl
-
 pub or-and : (p a b : Bool) → ((not p || a) && (not p || b)) ≡ (not p || (a && b))
 or-and true a b = refl
 or-and false a b = refl
-
-pub or-false : (a : Bool) → (a || false) ≡ a
-or-false true = refl
-or-false false = refl
-
-pub or-true : (a : Bool) → true ≡ (a || true)
-or-true true = refl
-or-true false = refl
-
-pub and-true : (a : Bool) → (a && true) ≡ a
-and-true true = refl
-and-true false = refl
-
-pub and-false : (a : Bool) → (a && false) ≡ false
-and-false true = refl
-and-false false = refl
-
-pub or-none : (a b : Bool) → (a || b) ≡ false → (a ≡ false) × (b ≡ false)
-or-none true b h = absurd (true≢false h)
-or-none false b h = (refl, h)
 
 pub xor-self : (a : Bool) → xor a a ≡ false
 unfolding xor
@@ -75,13 +47,6 @@ pub xor-none : (a : Bool) → xor a false ≡ a
 unfolding xor
 xor-none true = refl
 xor-none false = refl
-
-pub xor-false : (a b : Bool) → xor a b ≡ false → a ≡ b
-unfolding xor
-xor-false true true h = refl
-xor-false true false h = h
-xor-false false true h = sym h
-xor-false false false h = refl
 
 -- ---- the shapes of a gate's clauses, and of a line's
 
@@ -175,7 +140,7 @@ holds-xor σ (l ∷ ls) = odd-step (value σ l) (trueCount σ ls) ∙ ap (xor (v
 pub value-neg : (σ : List Bool) (l : ℤ) → 1 ≤ size l → value σ (negℤ l) ≡ not (value σ l)
 value-neg σ (pos zero) h = absurd (omega arith)
 value-neg σ (pos (suc i)) h = refl
-value-neg σ (negsuc i) h = sym (not-not (variable σ (suc i)))
+value-neg σ (negsuc i) h = sym (Bool·not-not (variable σ (suc i)))
 
 pub satisfies-append : (σ : List Bool) (xs ys : List Clause) → satisfies σ (xs ++ ys) ≡ (satisfies σ xs && satisfies σ ys)
 unfolding satisfies

@@ -2,7 +2,7 @@
 use mathlib.Core.Path.{_≡_, refl, sym, ap, ap₂, _∙_, subst}
 use mathlib.Core.Bool.{Bool, true, false, cond}
 use mathlib.Core.List.{List, [], _∷_, _++_, map, append-assoc, append-nil}
-use Prim.Native.Nat.{ℕ, zero, suc, _+_, _*_, _-_, _/_, _≤_, _<_}
+use Prim.Native.Nat.{ℕ, _+_, _*_, _-_, _/_, _≤_, _<_}
 use native.Mathlib.Omega.{arith}
 use lib.Dec.{eqb}
 use lib.IntN.{ℤ}
@@ -29,6 +29,7 @@ use Rattle.checking.proofs.clauses.Gates.{Within, controls-within, new-
 use Rattle.checking.proofs.clauses.Reading.{stored-append}
 use Rattle.checking.proofs.clauses.Sums.{gate-sizes}
 use Rattle.checking.proofs.emitter.Parts.{lent-long}
+use Rattle.checking.proofs.clauses.Bounds.{new-bound}
 
 -- ---- one gate
 
@@ -48,11 +49,6 @@ gate-words n used current g few v =
     let ls = map (literalOf current) (controlsOf g) in
     let k : length ls ≡ controlCount g = length-map (controlsOf g) (literalOf current) ∙ controls-count g (valid-more n maxLines g few v) in
     ap (λ (t : Totals). t .words) (gate-sizes used (current (g .target)) ls) ∙ ap (λ (j : ℕ). gateSizes j .words) k
-
-new-few : (used k : ℕ) → newVariable used k ≤ used + 2
-new-few used zero = omega arith
-new-few used (suc zero) = omega arith
-new-few used (suc (suc k)) = omega arith
 
 -- one current variable is stored
 set-line : (current : List ℕ) (t w k : ℕ) → t < length current → byLine (set current t w) k ≡ cond (eqb k t) w (byLine current k)
@@ -170,7 +166,7 @@ module _ (n : ℕ) (ws start : List ℕ) (first : List ℤ) (current : List ℕ)
         small = λ k l.
             subst (λ (x : ℕ). x ≤ w) (sym (set-line current (g .target) w k target-inside))
             (cond-most (eqb k (g .target)) w (byLine current k) w (omega arith) (omega (arith, e .small k l, new-named used (length (controlsOf g)))));
-        few = omega (arith, e .few, new-few used (length (controlsOf g)));
+        few = omega (arith, e .few, new-bound used (length (controlsOf g)));
         kept = length-set current (g .target) w ∙ e .kept;
         place = omega (arith, front-long, e .place);
         as-long = ap length filled ∙ over-length (e .front ++ new) first (omega (arith, front-long, e .place, room, e .as-long));

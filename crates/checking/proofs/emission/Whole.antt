@@ -1,6 +1,6 @@
 -- The gates', the lines' and the last clauses make the whole list. Assumes nothing.
 use mathlib.Core.Path.{_≡_, refl, sym, ap, ap₂, _∙_}
-use mathlib.Core.Bool.{Bool, true, false, cond, _||_}
+use mathlib.Core.Bool.{Bool, true, false, cond, _||_, or-false, or-true}
 use mathlib.Core.List.{List, [], _∷_, _++_, map, append-assoc}
 use Prim.Native.Nat.{ℕ, suc, _+_, _-_, _≤_, _<_}
 use native.Mathlib.Omega.{arith}
@@ -23,7 +23,6 @@ use Rattle.checking.specs.Emission.{Holds, linesStored, lastStored, Line
 use Rattle.checking.proofs.clauses.Gates.{new-named}
 use Rattle.checking.proofs.clauses.Bounds.{after-named, inputs-named, used-bound}
 use Rattle.checking.proofs.clauses.Forced.{Inside, inside-upFrom, used-more}
-use Rattle.checking.proofs.clauses.Tests.{or-false}
 use Rattle.checking.proofs.clauses.Reading.{stored-append}
 use Rattle.checking.proofs.clauses.Sums.{last-sizes}
 use Rattle.checking.proofs.emitter.Parts.{lent-long}
@@ -31,11 +30,7 @@ use Rattle.checking.proofs.emitter.Parts.{lent-long}
 -- ---- a line is targeted exactly where its last variable is no input
 
 moved-hit : (n used w line : ℕ) (b later : Bool) → n < w → (ltb n (cond b w line) || later) ≡ (ltb n line || (b || later))
-moved-hit n used w line true later h = ap (λ (x : Bool). x || later) (lt-ltb n w h) ∙ shown (ltb n line)
-  where
-    shown : (x : Bool) → true ≡ (x || true)
-    shown true = refl
-    shown false = refl
+moved-hit n used w line true later h = ap (λ (x : Bool). x || later) (lt-ltb n w h) ∙ sym (or-true (ltb n line))
 moved-hit n used w line false later h = refl
 
 hit-after : (n used : ℕ) (current : ℕ → ℕ) (gs : List Gate) (k : ℕ) → n ≤ used → ltb n (currentAfter used current gs k) ≡ (ltb n (current k) || targeted gs k)

@@ -21,6 +21,7 @@ use Rattle.checking.specs.Clauses.{Clause, OR, XOR, plus, minus, implied
 use Rattle.checking.specs.Stored.{stored}
 use Rattle.checking.specs.Emitter.{literalWord, literalAt, literalsIn, controlsStored, byLine, manyStored, Lines, Many}
 use Rattle.checking.proofs.clauses.Reading.{stored-append}
+use Rattle.checking.proofs.clauses.Sums.{implied-words}
 
 -- the lent rest of a buffer has the words that are left
 pub lent-long : (xs : List ℤ) (at : ℕ) → length (take (length xs - at) (drop at xs)) ≡ length xs - at
@@ -31,11 +32,6 @@ lent-long xs at = ap length (rest-lent xs at) ∙ length-drop at xs
 implied-append : (p : ℕ) (xs ys : List ℤ) → implied p (xs ++ ys) ≡ implied p xs ++ implied p ys
 implied-append p [] ys = refl
 implied-append p (x ∷ xs) ys = ap (λ (l : List Clause). OR (minus p ∷ x ∷ []) ∷ l) (implied-append p xs ys)
-
-implied-long : (p : ℕ) (cs : List ℤ) → length (stored (implied p cs)) ≡ 4 * length cs
-unfolding stored
-implied-long p [] = refl
-implied-long p (c ∷ cs) = omega (arith, implied-long p cs)
 
 implied-more : (p : ℕ) (cs : List ℤ) (c : ℤ) → stored (implied p (cs ++ (c ∷ []))) ≡ stored (implied p cs) ++ (pos 0 ∷ pos 2 ∷ minus p ∷ c ∷ [])
 unfolding stored
@@ -107,7 +103,7 @@ module _ (k p : ℕ) (first : List ℤ) (room : 5 * k ≤ length first) where
         let y : List ℤ = stored (implied p cs) in
         let x : List ℤ = negs (cs ++ (c ∷ [])) in
         let f : length (x ++ y) ≡ k + 4 * i =
-        length-append x y ∙ ap₂ _+_ (negs-long (cs ++ (c ∷ [])) (omega (arith, one-long))) (implied-long p cs ∙ ap (λ (m : ℕ). 4 * m) count) in
+        length-append x y ∙ ap₂ _+_ (negs-long (cs ++ (c ∷ [])) (omega (arith, one-long))) (implied-words p cs ∙ ap (λ (m : ℕ). 4 * m) count) in
         lent-over (x ++ y) (pos 0 ∷ pos 2 ∷ a ∷ b ∷ []) first (set out i z) last (k + 4 * i) (ap (set out i) ez ∙ neg-stored out e) f
         (omega (arith, length-set out i z)) l
         ∙ ap₂ (λ (s t : ℤ). over ((x ++ y) ++ (pos 0 ∷ pos 2 ∷ s ∷ t ∷ [])) first) ea eb
@@ -213,7 +209,7 @@ many-filled current positive lines k n used v first m x y a b d ex ey ea eb ed o
     let p : ℕ = used + 1 in
     let mid : List ℤ = controlsStored p cs in
     let count : length cs ≡ k = length-map (linesIn lines n) (literalAt current positive) ∙ sym (m .controls .count) in
-    let long : length mid ≡ 5 * k = omega (arith, length-append (map negℤ cs) (stored (implied p cs)), length-map cs negℤ, implied-long p cs) in
+    let long : length mid ≡ 5 * k = omega (arith, length-append (map negℤ cs) (stored (implied p cs)), length-map cs negℤ, implied-words p cs) in
     filled k (pos 0 ∷ x ∷ y ∷ []) mid (pos 1 ∷ pos 3 ∷ a ∷ b ∷ d ∷ []) first o l₂ l₃ refl long (m .enough) e e₂ o₂ f₂ e₃
     ∙ ap (λ (l : List ℤ). over l first)
     (ap₂ (λ (s t : List ℤ). ((pos 0 ∷ s) ++ mid) ++ (pos 1 ∷ pos 3 ∷ t))

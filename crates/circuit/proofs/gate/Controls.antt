@@ -1,6 +1,6 @@
 -- The laws of the list of controls: it decides whether a gate fires, and has as many as the control count. Assumes nothing.
 use mathlib.Core.Path.{_≡_, refl, sym, ap, ap₂, _∙_}
-use mathlib.Core.Bool.{Bool, true, false, not, cond, _&&_, _||_, false≢true, true≢false}
+use mathlib.Core.Bool.{Bool, true, false, not, cond, _&&_, _||_, false≢true, true≢false, and-assoc}
 use mathlib.Core.List.{List, [], _∷_, _++_, map, map-append, append-nil}
 use Prim.Native.Nat.{ℕ, zero, suc, _+_, _<_, _≤_}
 use native.Mathlib.Decide.{le-ind}
@@ -20,10 +20,6 @@ pub met-append : (s : ℕ) (xs ys : List Control) → allMet s (xs ++ ys) ≡ (a
 unfolding allMet
 met-append s [] ys = refl
 met-append s (x ∷ xs) ys = ap (λ (b : Bool). met s x && b) (met-append s xs ys) ∙ sym (and-assoc (met s x) (allMet s xs) (allMet s ys))
-  where
-    and-assoc : (a b c : Bool) → ((a && b) && c) ≡ (a && (b && c))
-    and-assoc true b c = refl
-    and-assoc false b c = refl
 
 -- a line whose controls are met
 pub record LineMet (g : Gate) (s k : ℕ) : Type 0 where

@@ -14,7 +14,7 @@ use Rattle.circuit.specs.declared.gate.Gate.{Gate}
 use Rattle.bits.specs.Digits.{bit, linesIn}
 use Rattle.circuit.specs.Gate.{maxLines, notGate, fires, valid, inverted, apply, controlCount}
 use Rattle.circuit.specs.Laws.{FiresByLines, ValidByLines}
-use Rattle.bits.proofs.Bools.{and-parts, both, not-held, either, same-test, cond-true, cond-false}
+use Rattle.bits.proofs.Bools.{and-parts, both, not-held, either, same-test, cond-true, cond-false, and-apart}
 use Rattle.bits.proofs.Digits.{bit-and, bit-or, bit-xor, bit-pow, bit-none, bits-equal, bit-above, below-of-bits, lines-ones, ones-both}
 
 -- ---- `valid` as facts
@@ -66,11 +66,6 @@ line-on true b h = refl
 line-on false true h = h refl
 line-on false false h = refl
 
-line-off : (a b : Bool) → (b ≡ true → a ≡ false) → (a && b) ≡ false
-line-off true true h = h refl
-line-off true false h = refl
-line-off false b h = refl
-
 pub fires-lines : (g : Gate) (s : ℕ) → fires g s ≡ true → FiresByLines g s
 unfolding fires
 fires-lines g s e =
@@ -84,7 +79,7 @@ pub lines-fires : (g : Gate) (s : ℕ) → FiresByLines g s → fires g s ≡ tr
 unfolding fires
 lines-fires g s f =
     both (eq-eqb _ _ (bits-equal _ _ (λ k. bit-and s (g .positive) k ∙ line-on _ _ (f .on k))))
-    (eq-eqb _ _ (bits-equal _ _ (λ k. bit-and s (g .negative) k ∙ line-off _ _ (f .off k) ∙ sym (bit-none k))))
+    (eq-eqb _ _ (bits-equal _ _ (λ k. bit-and s (g .negative) k ∙ and-apart _ _ (f .off k) ∙ sym (bit-none k))))
 
 -- ---- the target stands in neither mask, so a gate fires on its output as on its input
 

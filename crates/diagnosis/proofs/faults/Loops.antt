@@ -1,6 +1,6 @@
 -- The laws of the loops over gates and states, and of what the call answers and leaves. Assumes nothing.
 use mathlib.Core.Path.{_≡_, refl, sym, ap, ap₂, subst, _∙_}
-use mathlib.Core.Bool.{Bool, true, false, _&&_}
+use mathlib.Core.Bool.{Bool, true, false, and-true}
 use mathlib.Core.List.{List, [], _∷_, _++_, append-assoc}
 use Prim.Native.Nat.{ℕ, suc, _+_, _*_, _/_, _^_, _<_, _≤_}
 use native.Mathlib.Omega.{arith}
@@ -56,10 +56,6 @@ module _ (out : List ℕ) (at : ℕ) (inside : at + 1 < length out) where
 
 -- ---- the masks before any state
 
-and-none : (a : Bool) → (a && true) ≡ a
-and-none true = refl
-and-none false = refl
-
 -- the free lines of each gate, twice
 abbrev pub freeMasks : ℕ → List Gate → List ℕ
 freeMasks n [] = []
@@ -73,7 +69,7 @@ free-masks n before (g ∷ gs) =
     ∙ ap (λ (ms : List ℕ). maskWhere n (isFree g) ∷ maskWhere n (isFree g) ∷ ms) (free-masks n (before ++ (g ∷ [])) gs)
   where
     alone : (positive : Bool) → maskWhere n (stands positive before g []) ≡ maskWhere n (isFree g)
-    alone positive = same-mask n (stands positive before g []) (isFree g) (λ k h. and-none (isFree g k))
+    alone positive = same-mask n (stands positive before g []) (isFree g) (λ k h. and-true (isFree g k))
 
 -- the gates from i on, and the words of the buffer behind those that are done
 abbrev pub freeLeft : ℕ → List ℕ → List ℕ → ℕ → List ℕ

@@ -1,6 +1,6 @@
 -- The laws of masks: their digits, the free lines of a gate, and the masks after one state more. Assumes nothing.
 use mathlib.Core.Path.{_≡_, refl, sym, ap, ap₂, _∙_}
-use mathlib.Core.Bool.{Bool, true, false, not, xor, cond, _&&_, _||_}
+use mathlib.Core.Bool.{Bool, true, false, not, xor, cond, _&&_, _||_, or-false, and-true, or-true, and-false, and-assoc}
 use mathlib.Core.List.{List, [], _∷_, _++_, append-assoc, append-nil}
 use Prim.Native.Nat.{ℕ, zero, suc, _+_, _-_, _^_, _<_, _≤_}
 use native.Mathlib.Nat.{le-refl}
@@ -21,14 +21,6 @@ use Rattle.diagnosis.specs.Faults.{isFree, missing, everywhere, stands, 
 
 -- ---- digits
 
-or-none : (a : Bool) → (a || false) ≡ a
-or-none true = refl
-or-none false = refl
-
-and-none : (a : Bool) → (a && true) ≡ a
-and-none true = refl
-and-none false = refl
-
 pub mask-below : (n : ℕ) (test : ℕ → Bool) → maskWhere n test < 2 ^ n
 unfolding maskWhere
 mask-below zero test = omega arith
@@ -37,14 +29,6 @@ mask-below (suc n) test = go (test n) (mask-below n test)
     go : (b : Bool) → maskWhere n test < 2 ^ n → maskWhere n test + cond b (2 ^ n) 0 < 2 ^ suc n
     go true h = omega arith
     go false h = omega arith
-
-or-always : (a : Bool) → (a || true) ≡ true
-or-always true = refl
-or-always false = refl
-
-and-never : (a : Bool) → (a && false) ≡ false
-and-never true = refl
-and-never false = refl
 
 -- one line more
 module _ (n : ℕ) (test : ℕ → Bool) (k : ℕ) (now : bit (maskWhere n test) k ≡ (ltb k n && test k)) where
@@ -68,15 +52,15 @@ module _ (n : ℕ) (test : ℕ → Bool) (k : ℕ) (now : bit (maskWhere n test)
       ∙ either (eqb k n)
       (λ t.
       let f : k ≡ n = eqb-true k n t in
-      ap (λ (b : Bool). bit m k || b) t ∙ or-always (bit m k) ∙ sym (ap₂ _&&_ (lt-ltb k (suc n) (omega arith)) (ap test f ∙ e)))
-      (λ t. ap (λ (b : Bool). bit m k || b) t ∙ or-none (bit m k) ∙ other (eqb-false k n t))
+      ap (λ (b : Bool). bit m k || b) t ∙ or-true (bit m k) ∙ sym (ap₂ _&&_ (lt-ltb k (suc n) (omega arith)) (ap test f ∙ e)))
+      (λ t. ap (λ (b : Bool). bit m k || b) t ∙ or-false (bit m k) ∙ other (eqb-false k n t))
 
   line-not-set : test n ≡ false → bit m k ≡ (ltb k (suc n) && test k)
   line-not-set e =
       either (eqb k n)
       (λ t.
       let f : k ≡ n = eqb-true k n t in
-      bit-above n m k (mask-below n test) (omega arith) ∙ sym (ap (λ (b : Bool). ltb k (suc n) && b) (ap test f ∙ e) ∙ and-never (ltb k (suc n))))
+      bit-above n m k (mask-below n test) (omega arith) ∙ sym (ap (λ (b : Bool). ltb k (suc n) && b) (ap test f ∙ e) ∙ and-false (ltb k (suc n))))
       (λ t. other (eqb-false k n t))
 
 -- line k stands in the mask exactly when it is below n and the test holds of it
@@ -113,7 +97,7 @@ all-lines zero = refl
 all-lines (suc n) = omega (arith, all-lines n, pow-pos n)
 
 pub all-bit : (n k : ℕ) → bit (2 ^ n - 1) k ≡ ltb k n
-all-bit n k = ap (λ (x : ℕ). bit x k) (all-lines n) ∙ mask-bit n (λ k. true) k ∙ and-none (ltb k n)
+all-bit n k = ap (λ (x : ℕ). bit x k) (all-lines n) ∙ mask-bit n (λ k. true) k ∙ and-true (ltb k n)
 
 -- ---- the free lines of a gate
 
@@ -179,14 +163,10 @@ kept-mask n positive g s f l =
     (λ k h. bit-and _ _ k ∙ ap₂ _&&_ (mask-bit n f k ∙ ap (λ (b : Bool). b && f k) (lt-ltb k n h)) (kept-bit positive g s k (omega arith)))
     (λ k h. bit-and _ _ k ∙ ap (λ (b : Bool). b && bit (kept positive g s) k) (mask-bit n f k ∙ ap (λ (b : Bool). b && f k) (le-ltb k n h)))
 
-and-assoc : (a b c : Bool) → ((a && b) && c) ≡ (a && (b && c))
-and-assoc true b c = refl
-and-assoc false b c = refl
-
 every-more : (pattern : ℕ → Bool) (before : List Gate) (xs : List ℕ) (x : ℕ)
     → everywhere pattern before (xs ++ (x ∷ [])) ≡ (everywhere pattern before xs && pattern (run before x))
 unfolding everywhere
-every-more pattern before [] x = and-none (pattern (run before x))
+every-more pattern before [] x = and-true (pattern (run before x))
 every-more pattern before (y ∷ xs) x =
     ap (λ (b : Bool). pattern (run before y) && b) (every-more pattern before xs x)
     ∙ sym (and-assoc (pattern (run before y)) (everywhere pattern before xs) (pattern (run before x)))

@@ -9,7 +9,7 @@ use lib.Dec.{eqb, leb, ltb}
 use lib.Bits.{bitOr}
 use borrow.Author.Tests.{eqb-true, eqb-false, eq-eqb, ne-eqb, le-leb, leb-true, ltb-true, ltb-false, lt-ltb, le-ltb}
 use Rattle.bits.specs.Digits.{bit}
-use Rattle.bits.proofs.Bools.{either, and-parts, both}
+use Rattle.bits.proofs.Bools.{either, and-parts, both, or-none}
 use Rattle.bits.proofs.Digits.{bit-or, bit-pow, bit-none, bits-equal, bit-above}
 use Rattle.circuit.specs.declared.gate.Gate.{Gate}
 use Rattle.circuit.specs.Gate.{maxLines, valid, Control, controlAt, controlsBelow, controlsOf}
@@ -17,10 +17,6 @@ use Rattle.files.specs.File.{among, risingFrom, maskOf, gateOf}
 use Rattle.circuit.proofs.gate.Laws.{Valid, valid-facts, valid-apart, valid-by-lines, lines-valid}
 
 -- ---- tests
-
-or-none : (a b : Bool) → (a || b) ≡ false → (a ≡ false) × (b ≡ false)
-or-none true b e = absurd (false≢true (sym e))
-or-none false b e = (refl, e)
 
 none-or : {a b : Bool} → a ≡ false → b ≡ false → (a || b) ≡ false
 none-or p q = ap₂ _||_ p q

@@ -7,7 +7,7 @@ use native.Mathlib.Omega.{arith}
 use lib.Dec.{eqb, leb, ltb}
 use lib.ListN.{length, drop, length-append}
 use borrow.Author.Tests.{le-leb, lt-leb, lt-ltb, ltb-true, ltb-false, leb-true, leb-false, eqb-true}
-use Rattle.bits.proofs.Bools.{either, and-parts, both, not-held, refuted, cond-true, cond-false}
+use Rattle.bits.proofs.Bools.{either, and-parts, both, not-held, refuted, cond-true, cond-false, and-second}
 use Rattle.circuit.specs.declared.gate.Gate.{Gate}
 use Rattle.circuit.specs.Gate.{maxLines, maxGates, valid, Control}
 use Rattle.circuit.specs.Outcome.{Outcome, served, refused, demand, andThen}
@@ -192,15 +192,11 @@ unfolding risingFrom
 not-rising [] e = absurd (true≢false e)
 not-rising (c ∷ cs) e = falls-after c cs (sym (ap (λ (b : Bool). b && risingFrom (c .line + 1) cs) (le-leb 0 (c .line) (omega arith))) ∙ e)
 
-second : (a : Bool) {b : Bool} → b ≡ false → (a && b) ≡ false
-second true e = e
-second false e = refl
-
 pub rising-not : (low : ℕ) (cs : List Control) → NotRising cs → risingFrom low cs ≡ false
 unfolding risingFrom
 rising-not low cs (NotRising.here c d ds l) =
-    second (leb low (c .line)) (ap (λ (b : Bool). b && risingFrom (d .line + 1) ds) (lt-leb (c .line + 1) (d .line) (omega arith)))
-rising-not low cs (NotRising.there c ds x) = second (leb low (c .line)) (rising-not (c .line + 1) ds x)
+    and-second (leb low (c .line)) (ap (λ (b : Bool). b && risingFrom (d .line + 1) ds) (lt-leb (c .line + 1) (d .line) (omega arith)))
+rising-not low cs (NotRising.there c ds x) = and-second (leb low (c .line)) (rising-not (c .line + 1) ds x)
 
 -- ---- a line after the header
 

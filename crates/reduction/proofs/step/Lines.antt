@@ -1,6 +1,6 @@
 -- The laws of two gates by lines: gates that may pass commute, and a match keeps the function and validity. Assumes nothing.
 use mathlib.Core.Path.{_≡_, refl, sym, ap, ap₂, _∙_, subst}
-use mathlib.Core.Bool.{Bool, true, false, not, _&&_, _||_, xor, false≢true, true≢false}
+use mathlib.Core.Bool.{Bool, true, false, not, _&&_, _||_, xor, false≢true, true≢false, and-false}
 use Prim.Native.Nat.{ℕ, _^_, _<_, _≤_}
 use native.Mathlib.Omega.{arith}
 use lib.Dec.{eqb, ltb}
@@ -194,11 +194,7 @@ line-clear p q t a b =
     bits-equal _ _
     (at-line (λ (l : ℕ). bit (bitAnd (bitOr p q) (2 ^ t)) l ≡ bit 0 l) t
     (bit-and _ _ t ∙ ap (λ (x : Bool). x && bit (2 ^ t) t) (bit-or p q t ∙ ap₂ _||_ a b) ∙ sym (bit-none t))
-    (λ l d. bit-and _ _ l ∙ ap (λ (x : Bool). bit (bitOr p q) l && x) (bit-pow t l ∙ ne-eqb l t d) ∙ and-off (bit (bitOr p q) l) ∙ sym (bit-none l)))
-  where
-    and-off : (x : Bool) → (x && false) ≡ false
-    and-off true = refl
-    and-off false = refl
+    (λ l d. bit-and _ _ l ∙ ap (λ (x : Bool). bit (bitOr p q) l && x) (bit-pow t l ∙ ne-eqb l t d) ∙ and-false (bit (bitOr p q) l) ∙ sym (bit-none l)))
 
 pub clear-pass : (g h : Gate) → Uncontrolled h (g .target) → Uncontrolled g (h .target) → mayPass g h ≡ true
 unfolding mayPass controlLines

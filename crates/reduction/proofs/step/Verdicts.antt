@@ -10,6 +10,7 @@ use borrow.Author.Tests.{eqb-true, eqb-false, eq-eqb, ne-eqb}
 use Rattle.bits.specs.Digits.{bit}
 use Rattle.bits.proofs.Digits.{bit-and, bit-or, bit-xor, bit-pow, bit-none, bits-equal}
 use Rattle.bits.proofs.Single.{ones-zero, single-pow, pow-single}
+use Rattle.bits.proofs.Bools.{or-none, xor-false}
 use Rattle.circuit.specs.declared.gate.Gate.{Gate}
 use Rattle.circuit.specs.Gate.{maxLines, valid}
 use Rattle.circuit.proofs.gate.Laws.{valid-by-lines}
@@ -28,13 +29,6 @@ xor-same true true e = refl
 xor-same true false e = absurd (true≢false e)
 xor-same false true e = absurd (false≢true e)
 xor-same false false e = refl
-
-same-xor : (a b : Bool) → xor a b ≡ false → a ≡ b
-unfolding xor
-same-xor true true e = refl
-same-xor true false e = absurd (true≢false e)
-same-xor false true e = absurd (true≢false e)
-same-xor false false e = refl
 
 gate-equal : (g h : Gate) → g .positive ≡ h .positive → g .negative ≡ h .negative → g .target ≡ h .target → g ≡ h
 gate-equal g h p q t =
@@ -101,9 +95,9 @@ module _ (k : ℕ) (g h : Gate) (a : AlikeBut k g h) where
       (λ l d. both-and (g .negative) (h .negative) l (a .negative l d) ∙ sym (b .negative l d))))
       (sym t)
 
-  or-none : (x y : Bool) → y ≡ false → (x || y) ≡ x
-  or-none true y e = refl
-  or-none false y e = e
+  or-first : (x y : Bool) → y ≡ false → (x || y) ≡ x
+  or-first true y e = refl
+  or-first false y e = e
 
   inverted-lines : (r : Gate) → AlikeBut k r h → r .target ≡ h .target
       → ((bit (g .positive) k && bit (h .positive) k) || dn) ≡ bit (r .positive) k → ((bit (g .negative) k && bit (h .negative) k) || dp) ≡ bit (r .negative) k
@@ -113,10 +107,10 @@ module _ (k : ℕ) (g h : Gate) (a : AlikeBut k g h) where
       gate-equal _ r
       (bits-equal _ _ (at-line (λ (l : ℕ). bit (bitOr (bitAnd (g .positive) (h .positive)) (bitXor (g .negative) (h .negative))) l ≡ bit (r .positive) l) k
       (bit-or _ _ k ∙ ap₂ _||_ (bit-and _ _ k) (bit-xor _ _ k) ∙ p)
-      (λ l d. bit-or _ _ l ∙ or-none _ _ (bit-xor _ _ l ∙ xor-same _ _ (a .negative l d)) ∙ both-and (g .positive) (h .positive) l (a .positive l d) ∙ sym (b .positive l d))))
+      (λ l d. bit-or _ _ l ∙ or-first _ _ (bit-xor _ _ l ∙ xor-same _ _ (a .negative l d)) ∙ both-and (g .positive) (h .positive) l (a .positive l d) ∙ sym (b .positive l d))))
       (bits-equal _ _ (at-line (λ (l : ℕ). bit (bitOr (bitAnd (g .negative) (h .negative)) (bitXor (g .positive) (h .positive))) l ≡ bit (r .negative) l) k
       (bit-or _ _ k ∙ ap₂ _||_ (bit-and _ _ k) (bit-xor _ _ k) ∙ q)
-      (λ l d. bit-or _ _ l ∙ or-none _ _ (bit-xor _ _ l ∙ xor-same _ _ (a .positive l d)) ∙ both-and (g .negative) (h .negative) l (a .negative l d) ∙ sym (b .negative l d))))
+      (λ l d. bit-or _ _ l ∙ or-first _ _ (bit-xor _ _ l ∙ xor-same _ _ (a .positive l d)) ∙ both-and (g .negative) (h .negative) l (a .negative l d) ∙ sym (b .negative l d))))
       (sym t)
 
 -- ---- a match by lines is found by masks
@@ -237,11 +231,6 @@ by-cases P true false true true m₁ m₂ a p q r = q refl refl refl
 by-cases P true false true false m₁ m₂ a p q r = r refl refl refl
 by-cases P true false false e m₁ m₂ a p q r = a
 
-none-of : (a b : Bool) → (a || b) ≡ false → (a ≡ false) × (b ≡ false)
-none-of true b e = absurd (true≢false e)
-none-of false true e = absurd (true≢false e)
-none-of false false e = (refl, refl)
-
 module _ (g h : Gate) where
   line-differs : (l : ℕ) → bit (differing g h) l ≡ (xor (bit (g .positive) l) (bit (h .positive) l) || xor (bit (g .negative) l) (bit (h .negative) l))
   unfolding differing
@@ -250,16 +239,16 @@ module _ (g h : Gate) where
   -- no difference, and a difference on line k alone
   pub none-differs : differing g h ≡ 0 → (l : ℕ) → (bit (g .positive) l ≡ bit (h .positive) l) × (bit (g .negative) l ≡ bit (h .negative) l)
   none-differs z l =
-      let (a, b) = none-of _ _ (sym (line-differs l) ∙ ap (λ (x : ℕ). bit x l) z ∙ bit-none l) in
-      (same-xor _ _ a, same-xor _ _ b)
+      let (a, b) = or-none _ _ (sym (line-differs l) ∙ ap (λ (x : ℕ). bit x l) z ∙ bit-none l) in
+      (xor-false _ _ a, xor-false _ _ b)
 
   module _ (k : ℕ) (is : differing g h ≡ 2 ^ k) where
     alike : AlikeBut k g h
     alike =
         let at : (l : ℕ) → (l ≡ k → ⊥) → (bit (g .positive) l ≡ bit (h .positive) l) × (bit (g .negative) l ≡ bit (h .negative) l) =
         λ l d.
-        let (a, b) = none-of _ _ (sym (line-differs l) ∙ ap (λ (x : ℕ). bit x l) is ∙ bit-pow k l ∙ ne-eqb l k d) in
-        (same-xor _ _ a, same-xor _ _ b) in
+        let (a, b) = or-none _ _ (sym (line-differs l) ∙ ap (λ (x : ℕ). bit x l) is ∙ bit-pow k l ∙ ne-eqb l k d) in
+        (xor-false _ _ a, xor-false _ _ b) in
         record { positive = λ l d. at l d .0; negative = λ l d. at l d .1 }
 
     here : (dp k g h alike || dn k g h alike) ≡ true
@@ -323,8 +312,8 @@ module _ (g h : Gate) (vg : valid maxLines g ≡ true) (vh : valid maxLines h �
   unfolding controlInverted
   inverted-alike =
       record {
-        positive = λ l d. bit-or _ _ l ∙ or-none k g h a _ _ (bit-xor _ _ l ∙ xor-same _ _ (a .negative l d)) ∙ both-and k g h a (g .positive) (h .positive) l (a .positive l d);
-        negative = λ l d. bit-or _ _ l ∙ or-none k g h a _ _ (bit-xor _ _ l ∙ xor-same _ _ (a .positive l d)) ∙ both-and k g h a (g .negative) (h .negative) l (a .negative l d);
+        positive = λ l d. bit-or _ _ l ∙ or-first k g h a _ _ (bit-xor _ _ l ∙ xor-same _ _ (a .negative l d)) ∙ both-and k g h a (g .positive) (h .positive) l (a .positive l d);
+        negative = λ l d. bit-or _ _ l ∙ or-first k g h a _ _ (bit-xor _ _ l ∙ xor-same _ _ (a .positive l d)) ∙ both-and k g h a (g .negative) (h .negative) l (a .negative l d);
       }
 
   one-more : (r less : Gate) (b : Bool) → AlikeBut k r less → r .target ≡ less .target → bit (r .positive) k ≡ b → bit (r .negative) k ≡ not b

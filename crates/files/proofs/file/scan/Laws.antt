@@ -8,7 +8,7 @@ use lib.Dec.{eqb, leb, ltb}
 use lib.ListN.{length, drop, getD, drop-of-length-le}
 use lib.Seq.{getD-drop, drop-cons}
 use borrow.Author.Tests.{eqb-true, eq-eqb, ne-eqb, le-leb, lt-leb, leb-true, le-ltb, lt-ltb, ltb-true, ltb-false}
-use Rattle.bits.proofs.Bools.{either, and-parts, both, cond-true, cond-false}
+use Rattle.bits.proofs.Bools.{either, and-parts, both, cond-true, cond-false, and-second}
 use Rattle.circuit.specs.Outcome.{Outcome, served, refused, demand, andThen}
 use Rattle.circuit.specs.Refusal.{wrongForm, lineOutside}
 use Rattle.files.specs.Text.{tab, lineFeed, plus, minus}
@@ -247,11 +247,7 @@ pub starts-short : (w r : List ℕ) → length r < length w → startsWith w r �
 unfolding startsWith
 starts-short [] r h = absurd (omega arith)
 starts-short (a ∷ w) [] h = refl
-starts-short (a ∷ w) (b ∷ r) h = second (eqb b a) (starts-short w r (omega arith))
-  where
-    second : (a : Bool) {b : Bool} → b ≡ false → (a && b) ≡ false
-    second true e = e
-    second false e = refl
+starts-short (a ∷ w) (b ∷ r) h = and-second (eqb b a) (starts-short w r (omega arith))
 
 -- one byte more of both
 pub starts-more : (word text : List ℕ) (i at : ℕ) → i < length word → at + i < length text → getD text (at + i) 0 ≡ getD word i 0

@@ -1,6 +1,6 @@
 -- The laws of the line from a position on: its next field, its end, and the gate or the header that it gives. Assumes nothing.
 use mathlib.Core.Path.{_≡_, refl, sym, ap, ap₂, _∙_, subst}
-use mathlib.Core.Bool.{Bool, true, false, not, _&&_, _||_, true≢false}
+use mathlib.Core.Bool.{Bool, true, false, not, _&&_, _||_}
 use mathlib.Core.List.{List, [], _∷_, _++_, cons≢nil, append-assoc}
 use Prim.Native.Nat.{ℕ, suc, _+_, _-_, _≤_, _<_}
 use native.Mathlib.Omega.{arith}
@@ -8,7 +8,7 @@ use lib.Dec.{eqb, ltb}
 use lib.ListN.{length, drop, getD, length-drop}
 use lib.Seq.{drop-drop, drop-append-seam, append-snoc}
 use borrow.Author.Tests.{eqb-true, eq-eqb, ne-eqb, le-leb, lt-leb, ltb-true, ltb-false}
-use Rattle.bits.proofs.Bools.{either, and-parts, not-held, refuted, same-test}
+use Rattle.bits.proofs.Bools.{either, and-parts, not-held, refuted, same-test, or-none}
 use Rattle.circuit.specs.declared.gate.Gate.{Gate}
 use Rattle.files.specs.declared.file.scan.Seen.{Seen}
 use Rattle.circuit.specs.Gate.{maxGates, Control}
@@ -39,11 +39,7 @@ line-none : lineAt [] ≡ noLine
 line-none = ap firstLine lines-none
 
 stop-parts : (b : ℕ) → isStop b ≡ false → (eqb b tab ≡ false) × (eqb b lineFeed ≡ false)
-stop-parts b e = go (eqb b tab) (eqb b lineFeed) e
-  where
-    go : (x y : Bool) → (x || y) ≡ false → (x ≡ false) × (y ≡ false)
-    go true y e = absurd (true≢false e)
-    go false y e = (refl, e)
+stop-parts b e = or-none (eqb b tab) (eqb b lineFeed) e
 
 -- a tab parts the fields, and stays in the line
 pub record Tabbed (r : List ℕ) : Type 0 where

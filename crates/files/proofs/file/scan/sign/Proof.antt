@@ -1,15 +1,11 @@
 -- `files::file::scan::sign` meets its contract. Assumes nothing.
-use mathlib.Core.Path.{_≡_, refl, sym, ap, ap₂, _∙_}
-use mathlib.Core.Bool.{Bool, true, false, _||_}
+use mathlib.Core.Path.{sym, ap, ap₂, _∙_}
+use mathlib.Core.Bool.{Bool, _||_, or-true}
 use mathlib.Core.Logic.{⊎-elim, inl, inr}
 use lib.Dec.{eqb}
 use borrow.Author.Tests.{eq-eqb, ne-eqb}
 use Rattle.files.proofs.file.scan.sign.Statement.{statement}
 use Rattle.files.proofs.file.scan.sign.Tie as tie
-
-or-true : (a : Bool) → (a || true) ≡ true
-or-true true = refl
-or-true false = refl
 
 returns : tie.Need-returns
 returns c =
