@@ -1,9 +1,10 @@
 -- The laws of a number in decimal. Assumes nothing.
-use mathlib.Core.Path.{_≡_, refl, sym, ap, _∙_}
-use mathlib.Core.List.{List, [], _∷_, _++_}
-use Prim.Native.Nat.{ℕ, zero, suc, _/_, _%_, _≤_, _<_}
+use mathlib.Core.Path.{_≡_, refl, sym, ap, ap₂, _∙_}
+use mathlib.Core.List.{List, [], _∷_, _++_, append-assoc}
+use Prim.Native.Nat.{ℕ, zero, suc, _+_, _/_, _%_, _≤_, _<_}
 use native.Mathlib.Omega.{arith}
 use lib.Dec.{ltb}
+use lib.ListN.{length, length-append}
 use borrow.Author.Tests.{lt-ltb, le-ltb, ltb-true, ltb-false}
 use Rattle.bits.proofs.Bools.{either, cond-true, cond-false}
 use Rattle.files.specs.Text.{digit}
@@ -41,3 +42,24 @@ decimal-long k h =
     within-any k (suc k) k (omega arith) (omega arith)
     ∙ within-long k k h
     ∙ ap (λ (x : List ℕ). x ++ (digit (k % 10) ∷ [])) (within-any k (k / 10) (k / 10) (omega arith) (omega arith))
+
+-- two digits
+pub decimal-two : (k : ℕ) → 10 ≤ k → k < 100 → decimal k ≡ digit (k / 10) ∷ digit (k % 10) ∷ []
+decimal-two k h l =
+    decimal-long k h ∙ ap (λ (x : List ℕ). x ++ (digit (k % 10) ∷ [])) (decimal-short (k / 10) (omega arith))
+
+-- the digits of the hundreds and the last two
+pub decimal-hundreds : (k : ℕ) → 100 ≤ k → decimal k ≡ decimal (k / 100) ++ (digit (k % 100 / 10) ∷ digit (k % 100 % 10) ∷ [])
+decimal-hundreds k h =
+    let a : k / 10 / 10 ≡ k / 100 = omega arith in
+    let b : k / 10 % 10 ≡ k % 100 / 10 = omega arith in
+    let c : k % 10 ≡ k % 100 % 10 = omega arith in
+    decimal-long k (omega arith)
+    ∙ ap (λ (x : List ℕ). x ++ (digit (k % 10) ∷ [])) (decimal-long (k / 10) (omega arith))
+    ∙ append-assoc (decimal (k / 10 / 10)) (digit (k / 10 % 10) ∷ []) (digit (k % 10) ∷ [])
+    ∙ ap (λ (x : ℕ). decimal x ++ (digit (k / 10 % 10) ∷ digit (k % 10) ∷ [])) a
+    ∙ ap₂ (λ (x y : ℕ). decimal (k / 100) ++ (digit x ∷ digit y ∷ [])) b c
+
+pub hundreds-length : (k : ℕ) → 100 ≤ k → length (decimal k) ≡ length (decimal (k / 100)) + 2
+hundreds-length k h =
+    ap length (decimal-hundreds k h) ∙ length-append (decimal (k / 100)) (digit (k % 100 / 10) ∷ digit (k % 100 % 10) ∷ [])

@@ -27,6 +27,9 @@ pub const MAX_TEXT: usize = 98321;
 pub fn tomiter(input: &[u8], out: &mut [u8]) -> TextAnswer
     ensures { λ r. ⌜ Yields (ofText r) (now (out .exit)) (tomiterOutcome (now (input .entry)) (length (now (out .entry)))) (tomiterBuffer (now (input .entry)) (now (out .entry))) ⌝ }
 {
+    if MAX_TEXT <= out.len() {
+        return TextAnswer::Bytes(crate::program::put_text(out, input));
+    }
     let mut text = [0u8; MAX_TEXT];
     let size = crate::program::put_text(&mut text, input);
     if out.len() < size {

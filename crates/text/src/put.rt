@@ -2,7 +2,7 @@
 
 ghost use mathlib.Core.Path.{_≡_};
 ghost use mathlib.Core.List.{[], _∷_, _++_};
-ghost use Prim.Native.Nat.{_+_, _≤_, _<_};
+ghost use Prim.Native.Nat.{_+_, _/_, _%_, _≤_, _<_};
 ghost use lib.ListN.{length};
 ghost use Rattle.files.specs.Put.{Put};
 ghost use Rattle.files.specs.Text.{lineFeed, digit};
@@ -29,18 +29,61 @@ fn digit(k: u64) -> u8
     48 + k as u8
 }
 
-// Writes a number.
-pub(crate) fn put_number(out: &mut [u8], k: u64) -> usize
-    requires { ⌜ length (decimal k) ≤ length (now out) ⌝ }
+// Writes the two digits of a number below 100.
+fn put_two(out: &mut [u8], k: u64) -> usize
+    requires { ⌜ (k < 100) × (2 ≤ length (now out)) ⌝ }
+    ensures { λ r. ⌜ Put r (now (out .exit)) (digit (k / 10) ∷ digit (k % 10) ∷ []) (now (out .entry)) ⌝ }
+{
+    out[0] = digit(k / 10);
+    out[1] = digit(k % 10);
+    2
+}
+
+// Writes a number below 100.
+fn put_short(out: &mut [u8], k: u64) -> usize
+    requires { ⌜ (k < 100) × (length (decimal k) ≤ length (now out)) ⌝ }
     ensures { λ r. ⌜ Put r (now (out .exit)) (decimal k) (now (out .entry)) ⌝ }
 {
     if k < 10 {
         out[0] = digit(k);
         return 1;
     }
-    let at = put_number(out, k / 10);
-    out[at] = digit(k % 10);
-    at + 1
+    put_two(out, k)
+}
+
+// Writes a number below 10,000.
+fn put_middle(out: &mut [u8], k: u64) -> usize
+    requires { ⌜ (k < 10000) × (length (decimal k) ≤ length (now out)) ⌝ }
+    ensures { λ r. ⌜ Put r (now (out .exit)) (decimal k) (now (out .entry)) ⌝ }
+{
+    if k < 100 {
+        return put_short(out, k);
+    }
+    let at = put_short(out, k / 100);
+    at + put_two(&mut out[at..], k % 100)
+}
+
+// Writes a number, two digits a call.
+fn put_long(out: &mut [u8], k: u64) -> usize
+    requires { ⌜ length (decimal k) ≤ length (now out) ⌝ }
+    ensures { λ r. ⌜ Put r (now (out .exit)) (decimal k) (now (out .entry)) ⌝ }
+{
+    if k < 100 {
+        return put_short(out, k);
+    }
+    let at = put_long(out, k / 100);
+    at + put_two(&mut out[at..], k % 100)
+}
+
+// Writes a number.
+pub(crate) fn put_number(out: &mut [u8], k: u64) -> usize
+    requires { ⌜ length (decimal k) ≤ length (now out) ⌝ }
+    ensures { λ r. ⌜ Put r (now (out .exit)) (decimal k) (now (out .entry)) ⌝ }
+{
+    if k < 10000 {
+        return put_middle(out, k);
+    }
+    put_long(out, k)
 }
 
 // Writes a word and a number.

@@ -10,66 +10,77 @@ use Rattle.circuit.specs.Outcome.{served, refused}
 use Rattle.circuit.specs.Refusal.{noRoom}
 use Rattle.circuit.proofs.Outcome.{why}
 use Rattle.text.specs.Tomiter.{tomiterText}
-use Rattle.text.proofs.Sizes.{text-fits}
+use Rattle.text.proofs.Sizes.{room-enough}
 use Rattle.text.proofs.program.Laws.{short, fits, text-told, made}
 use borrow.Author.Needs.{needs}
 use Rattle.text.proofs.tomiter.Statement.{statement}
 use Rattle.text.proofs.tomiter.Tie as tie
 
-slice-aggregate-put-text : tie.Need-slice-aggregate-put-text
-slice-aggregate-put-text c = search needs
-
 put-text-requires : tie.Need-put-text-requires
 put-text-requires c κs = search needs
-
-no-room-requires : tie.Need-no-room-requires
-no-room-requires c κs = search needs
-
-returns : tie.Need-returns
-returns c =
-    let s = c .before .before .before .before .before .before .before in
-    let t = c .before .before .before .put-text in
-    text-told (s .args .input .now) (s .args .out .now) _ (refused noRoom 0) _ (why (c .no-room .ensures))
-    (short (s .args .input .now) (length (s .args .out .now)) (omega (arith, t .ensures .count, c .before .if1 .taken))) refl
-
-array-share-prefix-text : tie.Need-array-share-prefix-text
-array-share-prefix-text c =
-    let t = c .before .before .before .put-text in
-    omega (arith, t .ensures .count, text-fits (c .before .before .before .before .before .before .before .args .input .now), t .kept .0)
-
-slice-aggregate-put-word : tie.Need-slice-aggregate-put-word
-slice-aggregate-put-word c =
-    let t = c .before .before .before .before .put-text in
-    sym (length-take-le _ _ (omega (arith, t .ensures .count, text-fits (c .before .before .before .before .before .before .before .before .args .input .now), t .kept .0)))
-
-put-word-requires : tie.Need-put-word-requires
-put-word-requires c κs =
-    let t = c .before .before .before .before .put-text in
-    let s = c .before .before .before .before .before .before .before .before in
-    omega (arith, ap length (made (t .result) (t .last .0) _ _ (t .ensures)), t .ensures .count, c .before .before .if1 .left)
 
 same-length : tie.Need-same-length
 same-length c = search needs
 
+returns : tie.Need-returns
+returns c =
+    let s = c .before .before .before .before .before .before .before in
+    let t = c .before .before .put-text in
+    text-told (s .args .input .now) (s .args .out .now) _ (served (length (tomiterText (s .args .input .now)))) _ (ap served (t .ensures .count))
+    (room-enough (s .args .input .now) (length (s .args .out .now)) (omega arith)) (t .ensures .buffer)
+
+slice-aggregate-put-text : tie.Need-slice-aggregate-put-text
+slice-aggregate-put-text c = search needs
+
+put-text-requires-2 : tie.Need-put-text-requires-2
+put-text-requires-2 c κs = search needs
+
+no-room-requires : tie.Need-no-room-requires
+no-room-requires c κs = search needs
+
 returns-2 : tie.Need-returns-2
 returns-2 c =
-    let s = c .before .before .before .before .before .before .before .before .before .before .before in
-    let t = c .before .before .before .before .before .before .before .put-text in
+    let s = c .before .before .before .before .before .before .before .before in
+    let t = c .before .before .before .put-text2 in
+    text-told (s .args .input .now) (s .args .out .now) _ (refused noRoom 0) _ (why (c .no-room .ensures))
+    (short (s .args .input .now) (length (s .args .out .now)) (omega (arith, t .ensures .count, c .before .if2 .taken))) refl
+
+array-share-prefix-text : tie.Need-array-share-prefix-text
+array-share-prefix-text c = search needs
+
+slice-aggregate-put-word : tie.Need-slice-aggregate-put-word
+slice-aggregate-put-word c = let t = c .before .before .before .before .put-text2 in sym (length-take-le _ _ (omega (arith, t .kept .0)))
+
+put-word-requires : tie.Need-put-word-requires
+put-word-requires c κs =
+    let t = c .before .before .before .before .put-text2 in
+    omega (arith, ap length (made (t .result) (t .last .0) _ _ (t .ensures)), t .ensures .count, c .before .before .if2 .left)
+
+same-length-2 : tie.Need-same-length-2
+same-length-2 c = search needs
+
+returns-3 : tie.Need-returns-3
+returns-3 c =
+    let s = c .before .before .before .before .before .before .before .before .before .before .before .before in
+    let t = c .before .before .before .before .before .before .before .put-text2 in
     let p = c .before .before .put-word in
     text-told (s .args .input .now) (s .args .out .now) _ (served (length (tomiterText (s .args .input .now)))) _ (ap served (t .ensures .count))
-    (fits (s .args .input .now) (length (s .args .out .now)) (omega (arith, t .ensures .count, c .before .before .before .before .before .if1 .left)))
+    (fits (s .args .input .now) (length (s .args .out .now)) (omega (arith, t .ensures .count, c .before .before .before .before .before .if2 .left)))
     (p .ensures .buffer ∙ ap (λ (l : List ℕ). over l (s .args .out .now)) (made (t .result) (t .last .0) _ _ (t .ensures)))
 
 pub tomiter-spec : {M : Type 1} → statement M
 tomiter-spec =
     tie.close
     (tie.spec
-    slice-aggregate-put-text
     put-text-requires
-    no-room-requires
+    same-length
     returns
+    slice-aggregate-put-text
+    put-text-requires-2
+    no-room-requires
+    returns-2
     array-share-prefix-text
     slice-aggregate-put-word
     put-word-requires
-    same-length
-    returns-2)
+    same-length-2
+    returns-3)
