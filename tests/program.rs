@@ -189,6 +189,20 @@ fn check_all(random: &mut Random, seen: &mut Seen) {
     }
 }
 
+/// Where nothing can be written, the script says so and fails; where all is written, it is as silent as the program.
+fn check_unwritten() {
+    let script = |out: Stdio| {
+        let mut child = Command::new("./tomiter").stdin(Stdio::piped()).stdout(out).stderr(Stdio::piped()).spawn().expect("the script runs");
+        child.stdin.take().expect("a pipe").write_all(b"lines\t1\nend\nlines\t1\nend\n").expect("the input is taken");
+        child.wait_with_output().expect("the script ends")
+    };
+    let written = script(Stdio::piped());
+    assert!(written.status.success() && written.stderr.is_empty() && written.stdout.starts_with(b"p cnf 2 2\n"));
+    let full = std::fs::OpenOptions::new().write(true).open("/dev/full").expect("/dev/full");
+    let unwritten = script(full.into());
+    assert!(unwritten.status.code() == Some(1) && !unwritten.stderr.is_empty(), "an unwritten text was not told");
+}
+
 // ---- the solver
 
 /// Pairs on few lines, of which the second is often the first, or has its gates in another order.
@@ -227,6 +241,7 @@ fn main() {
         outcomes: BTreeMap::new(),
     };
     check_all(&mut Random::new(seed), &mut seen);
+    check_unwritten();
     for (outcome, count) in &seen.outcomes {
         println!("{outcome}: {count}");
     }

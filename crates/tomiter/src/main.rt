@@ -1,4 +1,4 @@
-// Reads two cascade files from standard input, one after the other, and writes the clauses that tell whether they differ, or a refusal.
+// Reads two cascade files from standard input, one after the other, and writes the clauses that tell whether they differ, or a refusal. Says on standard error where it could not write all.
 
 use libc::STDIN_FILENO;
 use libc::STDOUT_FILENO;
@@ -27,5 +27,7 @@ fn main() {
     let taken = io::read_full(STDIN_FILENO, &mut input);
     let mut out = [0u8; text::MAX_TEXT];
     let size = answer(&mut out, &input[..taken]);
-    io::write_all(STDOUT_FILENO, &out[..size]);
+    if !io::write_all(STDOUT_FILENO, &out[..size]) {
+        os::fail(b"tomiter");
+    }
 }
