@@ -8,11 +8,12 @@ use native.Mathlib.Omega.{arith}
 use lib.Dec.{eqb, ltb}
 use lib.IntN.{ℤ, pos, negsuc}
 use lib.ListN.{length}
-use borrow.Author.Tests.{ne-eqb, not-true, le-leb, ltb-true, ltb-false}
+use borrow.Author.Tests.{ne-eqb, not-true, ltb-true, ltb-false}
 use Rattle.bits.proofs.Bools.{either, and-parts, both, cond-true, cond-false, refuted}
 use Rattle.files.specs.Text.{lineFeed, minus, digit}
 use Rattle.files.specs.File.{longer, isDigit, same}
-use Rattle.files.proofs.file.Lines.{free, free-append}
+use Rattle.files.proofs.file.Lines.{free, free-append, longer-some}
+use Rattle.files.proofs.file.Numbers.{is-digit}
 use Rattle.checking.specs.Clauses.{Clause, OR, XOR}
 use Rattle.checking.specs.Satisfaction.{size, LiteralsWithin, ClausesWithin}
 use Rattle.text.specs.Dimacs.{blank, xorSign, problemWord, cnfWord, decimalWithin, decimal, literalText, literalsText, clauseText, clausesText, headerText, dimacsOf, partedBy, bothRead, thenRead, digitsRead, numberRead, signedRead, literalRead, literalsRead, clauseRead, linesRead, header, headerRead, headed, readLines, dimacsRead}
@@ -43,10 +44,6 @@ parts-one s (b ∷ f) p =
     let (x, y) = and-parts (not (eqb b s)) (free s f) p in
     part-more s b f (not-true (eqb b s) x) ∙ ap (longer b) (parts-one s f y)
 
-pub longer-some : (b : ℕ) (fs : List (List ℕ)) → longer b fs ≡ [] → ⊥
-longer-some b [] e = mathlib.Core.List.cons≢nil e
-longer-some b (f ∷ fs) e = mathlib.Core.List.cons≢nil e
-
 pub parts-some : (s : ℕ) (bs : List ℕ) → partedBy s bs ≡ [] → ⊥
 unfolding partedBy
 parts-some s [] e = mathlib.Core.List.cons≢nil e
@@ -66,9 +63,6 @@ digits-append : (xs ys : List ℕ) → allDigits xs ≡ true → allDigits ys �
 unfolding allDigits
 digits-append [] ys p q = q
 digits-append (x ∷ xs) ys p q = let (a, b) = and-parts (isDigit x) (allDigits xs) p in both a (digits-append xs ys b q)
-
-is-digit : (k : ℕ) → k < 10 → isDigit (digit k) ≡ true
-is-digit k h = both (le-leb 48 (digit k) (omega arith)) (le-leb (digit k) 57 (omega arith))
 
 one-digit : (k : ℕ) → k < 10 → allDigits (digit k ∷ []) ≡ true
 unfolding allDigits

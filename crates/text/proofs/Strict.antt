@@ -5,13 +5,14 @@ use mathlib.Core.List.{List, [], _∷_, _++_, append-nil, append-assoc}
 use mathlib.Core.Option.{Option, none, some}
 use Prim.Native.Nat.{ℕ, zero, suc, _+_, _*_, _-_, _/_, _%_, _≤_}
 use native.Mathlib.Omega.{arith}
-use lib.Dec.{eqb, leb}
+use lib.Dec.{eqb}
 use lib.IntN.{ℤ, pos, negsuc}
-use borrow.Author.Tests.{eqb-true, eqb-false, leb-true}
-use Rattle.bits.proofs.Bools.{either, and-parts, cond-true, cond-false}
+use borrow.Author.Tests.{eqb-true, eqb-false}
+use Rattle.bits.proofs.Bools.{either, cond-true, cond-false}
 use Rattle.files.specs.Text.{lineFeed, minus, digit}
 use Rattle.files.specs.File.{longer, isDigit, same}
 use Rattle.files.proofs.file.Lines.{same-true}
+use Rattle.files.proofs.file.Numbers.{digit-bounds}
 use Rattle.checking.specs.Clauses.{Clause, OR, XOR}
 use Rattle.text.specs.Dimacs.{blank, xorSign, problemWord, cnfWord, decimal, literalText, literalsText, clausesText, headerText, partedBy, bothRead, thenRead, digitsRead, numberRead, signedRead, literalRead, literalsRead, clauseRead, linesRead, Dimacs, Header, header, headerRead, headed, readLines, dimacsRead}
 use Rattle.text.proofs.Decimal.{decimal-short, decimal-long}
@@ -72,9 +73,6 @@ parts-back s (b ∷ bs) =
     (λ t. ap (whole s) (part-more s b bs t) ∙ whole-longer s b (partedBy s bs) ∙ ap (λ (l : List ℕ). b ∷ l) (parts-back s bs))
 
 -- ---- a number
-
-digit-bounds : (b : ℕ) → isDigit b ≡ true → (48 ≤ b) × (b ≤ 57)
-digit-bounds b e = let (x, y) = and-parts (leb 48 b) (leb b 57) e in (leb-true 48 b x, leb-true b 57 y)
 
 digits-were : (a : ℕ) (xs : List ℕ) (k : ℕ) → 1 ≤ a → digitsRead a xs ≡ some k → decimal a ++ xs ≡ decimal k
 unfolding digitsRead

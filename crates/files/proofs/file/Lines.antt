@@ -124,7 +124,7 @@ unfolding tabbed
 tabbed-whole [] h = absurd (h refl)
 tabbed-whole (f ∷ fs) h = refl
 
-longer-some : (b : ℕ) (fs : List (List ℕ)) → longer b fs ≡ [] → ⊥
+pub longer-some : (b : ℕ) (fs : List (List ℕ)) → longer b fs ≡ [] → ⊥
 longer-some b [] e = mathlib.Core.List.cons≢nil e
 longer-some b (f ∷ fs) e = mathlib.Core.List.cons≢nil e
 

@@ -24,7 +24,7 @@ pub text-long : (k : ℕ) → 10 ≤ k → numberText k ≡ digit (k / 10) ∷ d
 unfolding numberText
 text-long k h = cond-false (ltb k 10) _ _ (le-ltb k 10 h)
 
-is-digit : (k : ℕ) → k < 10 → isDigit (digit k) ≡ true
+pub is-digit : (k : ℕ) → k < 10 → isDigit (digit k) ≡ true
 is-digit k h = both (le-leb 48 (digit k) (omega arith)) (le-leb (digit k) 57 (omega arith))
 
 -- a byte below the digits does not stand in a number
@@ -59,7 +59,7 @@ number-text i k h =
     (both (is-digit (k % 10) (omega arith)) (ap not (ne-eqb (digit (k / 10)) 48 (λ e. omega arith)))))
     ∙ ap served e)
 
-digit-bounds : (b : ℕ) → isDigit b ≡ true → (48 ≤ b) × (b ≤ 57)
+pub digit-bounds : (b : ℕ) → isDigit b ≡ true → (48 ≤ b) × (b ≤ 57)
 digit-bounds b e = let (x, y) = and-parts (leb 48 b) (leb b 57) e in (leb-true 48 b x, leb-true b 57 y)
 
 -- a number that was read is below 100, and the field is its text
