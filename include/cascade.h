@@ -16,7 +16,7 @@
  *    6  more gates than the limit: 1,024; for step, reduction, sizes and emission 2,048
  *    7  words that form no gate on these lines; the place is the gate's index
  *    8  two line counts that differ
- *    9  a state with a bit above the lines
+ *    9  a state with a bit above the lines; the place is its index in a list of states
  *   10  the buffer is shorter than the answer
  *   11  the number of words is no multiple of three
  *   12  a given input on which the two agree; the place is its index

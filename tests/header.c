@@ -1,6 +1,63 @@
-/* include/cascade.h against the library, on rows of document 01. */
+/* include/cascade.h against the library: the fields of each struct by their places, and rows of
+ * document 01. */
 #include "cascade.h"
 #include <stdio.h>
+
+#define FIELD(name, field, k) \
+    _Static_assert(offsetof(struct cascade_##name, field) == 8 * k, #name ": " #field); \
+    _Static_assert(sizeof(((struct cascade_##name *)0)->field) == 8, #name ": " #field)
+#define WORDS(name, k) _Static_assert(sizeof(struct cascade_##name) == 8 * k, #name)
+#define ANSWER(name, k) \
+    FIELD(name##_answer, number, 0); \
+    FIELD(name##_answer, place, 1); \
+    WORDS(name##_answer, k)
+
+FIELD(gate, positive, 0);
+FIELD(gate, negative, 1);
+FIELD(gate, target, 2);
+WORDS(gate, 3);
+
+ANSWER(run, 3);
+FIELD(run_answer, state, 2);
+
+ANSWER(count, 3);
+FIELD(count_answer, gates, 2);
+
+ANSWER(read, 5);
+FIELD(read_answer, lines, 2);
+FIELD(read_answer, gates, 3);
+FIELD(read_answer, taken, 4);
+
+ANSWER(write, 3);
+FIELD(write_answer, written, 2);
+
+ANSWER(step, 7);
+FIELD(step_answer, found, 2);
+FIELD(step_answer, i, 3);
+FIELD(step_answer, j, 4);
+FIELD(step_answer, kind, 5);
+FIELD(step_answer, gates, 6);
+
+ANSWER(reduce, 5);
+FIELD(reduce_answer, gates, 2);
+FIELD(reduce_answer, pairs, 3);
+FIELD(reduce_answer, merges, 4);
+
+ANSWER(sizes, 5);
+FIELD(sizes_answer, variables, 2);
+FIELD(sizes_answer, clauses, 3);
+FIELD(sizes_answer, words, 4);
+
+ANSWER(state, 4);
+FIELD(state_answer, found, 2);
+FIELD(state_answer, state, 3);
+
+ANSWER(differs, 3);
+FIELD(differs_answer, differs, 2);
+
+ANSWER(fewer, 4);
+FIELD(fewer_answer, second, 2);
+FIELD(fewer_answer, gates, 3);
 
 static int failed;
 
@@ -12,8 +69,88 @@ static void expect(const char *row, uint64_t got, uint64_t right)
     }
 }
 
+/* A call that is refused, made twice. */
+#define REFUSED(call, n, p) (expect(#call " number", (call).number, n), expect(#call " place", (call).place, p))
+
+/* Calls whose answers have different values in different fields. */
+static void fields(void)
+{
+    const uint64_t two[6] = {1, 0, 1, 0, 0, 0};
+    const uint64_t three[9] = {0, 0, 0, 0, 0, 1, 0, 0, 0};
+    const uint64_t toffoli[3] = {3, 0, 2};
+    const uint64_t one_control[3] = {1, 0, 2};
+    struct cascade_sizes_answer sizes = cascade_sizes(2, two, 6);
+    expect("sizes of two gates: variables", sizes.variables, 6);
+    expect("sizes of two gates: clauses", sizes.clauses, 5);
+    expect("sizes of two gates: words", sizes.words, 23);
+    int16_t clauses[23] = {0};
+    sizes = cascade_emit(2, two, 6, clauses, 23);
+    expect("emission of two gates: variables", sizes.variables, 6);
+    expect("emission of two gates: clauses", sizes.clauses, 5);
+    expect("emission of two gates: words", sizes.words, 23);
+    uint64_t turned[18] = {0, 0, 7, 0, 0, 6, 0, 0, 5, 3, 0, 4, 1, 0, 4, 0, 0, 3};
+    struct cascade_step_answer step = cascade_step(8, turned, 18);
+    expect("turn found", step.found, 1);
+    expect("turn i", step.i, 3);
+    expect("turn j", step.j, 4);
+    expect("turn kind", step.kind, 2);
+    expect("turn gates", step.gates, 5);
+    expect("turn positive controls", turned[9], 1);
+    expect("turn negative controls", turned[10], 2);
+    uint64_t reduced[21] = {3, 0, 7, 3, 0, 7, 3, 0, 6, 1, 2, 6, 3, 0, 5, 1, 0, 5, 0, 0, 4};
+    struct cascade_reduce_answer reduce = cascade_reduce(8, reduced, 21);
+    expect("a pair, a drop and a turn: gates", reduce.gates, 3);
+    expect("a pair, a drop and a turn: pairs", reduce.pairs, 1);
+    expect("a pair, a drop and a turn: merges", reduce.merges, 2);
+    struct cascade_state_answer first = cascade_first_difference(3, toffoli, 3, 3, toffoli, 0);
+    expect("first difference to no gate found", first.found, 1);
+    expect("first difference to no gate", first.state, 3);
+    struct cascade_differs_answer differs = cascade_differs(3, toffoli, 3, 3, one_control, 3, 1);
+    expect("differs number", differs.number, 0);
+    expect("differs on 1", differs.differs, 1);
+    struct cascade_fewer_answer fewer = cascade_fewer_gates(2, three, 9, 2, two, 6);
+    expect("two of three and two: second", fewer.second, 1);
+    expect("two of three and two: gates", fewer.gates, 2);
+}
+
+/* Refused calls, most at a place that is not 0. */
+static void refusals(void)
+{
+    const uint64_t good[6] = {1, 0, 1, 0, 0, 0};
+    uint64_t bad[6] = {1, 0, 1, 1, 0, 0};
+    const uint64_t toffoli[3] = {3, 0, 2};
+    const uint64_t one_control[3] = {1, 0, 2};
+    const uint64_t agreeing[2] = {1, 3};
+    const uint64_t outside[2] = {3, 8};
+    const uint8_t text[] = "lines\t3\ng\t3\nend\n";
+    uint64_t out[12];
+    uint8_t bytes[64];
+    int16_t clauses[64];
+    REFUSED(cascade_read(text, sizeof text - 1, out, 12), 3, 1);
+    REFUSED(cascade_write(2, bad, 6, bytes, 64), 7, 1);
+    REFUSED(cascade_run(2, bad, 6, 0), 7, 1);
+    REFUSED(cascade_inverse(2, bad, 6, out, 12), 7, 1);
+    REFUSED(cascade_miter(2, good, 6, 2, bad, 6, out, 12), 7, 1);
+    REFUSED(cascade_miter(2, good, 6, 3, good, 6, out, 12), 8, 0);
+    REFUSED(cascade_step(2, bad, 6), 7, 1);
+    REFUSED(cascade_reduce(2, bad, 6), 7, 1);
+    REFUSED(cascade_sizes(2, bad, 6), 7, 1);
+    REFUSED(cascade_emit(2, bad, 6, clauses, 64), 7, 1);
+    REFUSED(cascade_first_difference(2, good, 6, 2, bad, 6), 7, 1);
+    REFUSED(cascade_first_difference(2, good, 6, 3, good, 6), 8, 0);
+    REFUSED(cascade_differs(2, good, 6, 2, bad, 6, 0), 7, 1);
+    REFUSED(cascade_differs(2, good, 6, 3, good, 6, 0), 8, 0);
+    REFUSED(cascade_fewer_gates(2, good, 6, 2, bad, 6), 7, 1);
+    REFUSED(cascade_fewer_gates(2, good, 6, 3, good, 6), 8, 0);
+    REFUSED(cascade_fault_masks(3, one_control, 3, 4, toffoli, 3, agreeing, 1, out, 12), 8, 0);
+    REFUSED(cascade_fault_masks(3, one_control, 3, 3, toffoli, 3, outside, 2, out, 12), 9, 1);
+    REFUSED(cascade_fault_masks(3, one_control, 3, 3, toffoli, 3, agreeing, 2, out, 12), 12, 1);
+}
+
 int main(void)
 {
+    fields();
+    refusals();
     const uint64_t toffoli[3] = {3, 0, 2};
     uint64_t two[6] = {1, 0, 1, 0, 0, 0};
     uint64_t out[7] = {9, 9, 9, 9, 9, 9, 9};
@@ -24,7 +161,10 @@ int main(void)
     expect("run refused", run.number, 9);
     run = cascade_run(2, toffoli, 3, 0);
     expect("run no gate", run.number, 7);
-    const struct cascade_gate records[2] = {{3, 0, 2}, {1, 2, 0}};
+    const struct cascade_gate records[2] = {
+        {.positive = 3, .negative = 0, .target = 2},
+        {.positive = 1, .negative = 2, .target = 0},
+    };
     run = cascade_run_records(3, records, 1, 3);
     expect("run records number", run.number, 0);
     expect("run records state", run.state, 7);

@@ -124,4 +124,4 @@ pub record FileLaws : Type 0 where
   pub read-served : (text : List ℕ) (room : ℕ) (c : ReadCounts) → (readOutcome text room ≡ served c) ↔ Readable text room c
   pub read-refused : (text : List ℕ) (room number place : ℕ) → (readOutcome text room ≡ refused number place) ↔ ReadFault text room number place
   -- a reader that refuses all does not have the laws
-  pub refuses-all : (number place : ℕ) → ReaderLaws (λ text. refused number place) → ⊥
+  pub refuses-all : (read : List ℕ → Outcome Reading) → ((text : List ℕ) → (number : ℕ) × (place : ℕ) × (read text ≡ refused number place)) → ReaderLaws read → ⊥

@@ -182,7 +182,8 @@ module _ (text : List ℕ) (room : ℕ) where
       read-short (record { lines = n; gates = gs; taken = length (textOf n gs) }) (ap reading t ∙ text-read n gs rest g) l
 
 -- the text of the cascade without gates on one line
-pub refuses-all : (number place : ℕ) → ReaderLaws (λ text. refused number place) → ⊥
+pub refuses-all : (read : List ℕ → Outcome Reading) → ((text : List ℕ) → (number : ℕ) × (place : ℕ) × (read text ≡ refused number place)) → ReaderLaws read → ⊥
 unfolding Rattle.circuit.specs.Words.allValid
-refuses-all number place r =
-    never (r .text-read 1 [] [] (record { lines-low = omega arith; lines-high = omega arith; few = omega arith; gates = refl })) refl
+refuses-all read all r =
+    let (number, place, e) = all (textOf 1 [] ++ []) in
+    never (r .text-read 1 [] [] (record { lines-low = omega arith; lines-high = omega arith; few = omega arith; gates = refl })) e
