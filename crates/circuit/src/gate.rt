@@ -73,6 +73,9 @@ impl Gate {
     // Gates of a miter.
     pub const MAX_MITER_GATES: usize = 2048;
 
+    // The lines of a sweep, at most.
+    pub const MAX_SWEEP_LINES: u64 = 16;
+
     // Words of a gate in memory.
     pub const WORDS: usize = 3;
 

@@ -32,9 +32,6 @@ pub enum RefusalAnswer {
     Refused(Refusal),
 }
 
-// The lines of a sweep.
-const MAX_SWEEP_LINES: u64 = 16;
-
 // Whether two cascades give different outputs on a state.
 pub fn outputs_differ(a: &[u64], b: &[u64], state: u64) -> bool
     ensures { λ r. ⌜ r ≡ outputsDiffer (gatesOf (now (a .entry))) (gatesOf (now (b .entry))) state ⌝ }
@@ -111,7 +108,7 @@ pub fn first_difference(na: u64, a: &[u64], nb: u64, b: &[u64]) -> DifferenceAns
             first: _,
             second: _,
         } => {
-            if MAX_SWEEP_LINES < na {
+            if Gate::MAX_SWEEP_LINES < na {
                 return DifferenceAnswer::Refused(Refusal::too_wide());
             }
             lowest_difference(a, b, 1 << na)
