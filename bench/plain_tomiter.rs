@@ -9,6 +9,7 @@ mod plain_emit;
 #[allow(dead_code)]
 mod plain_file;
 
+use std::hint::black_box;
 use std::io::{Read, Write};
 
 const MOST_BYTES: usize = 65_536;
@@ -103,14 +104,28 @@ fn listed(input: &[u8], out: &mut Vec<u8>) -> Result<(), (u64, u64, u64)> {
     Ok(())
 }
 
+/// An empty buffer whose pages have been written, as those of the library's program are at its start.
+fn buffer(bytes: usize) -> Vec<u8> {
+    let mut buffer = black_box(vec![1; bytes]);
+    buffer.clear();
+    buffer
+}
+
+/// Writes the pages of the stack that the job will use.
+#[inline(never)]
+fn touch_stack() {
+    black_box([1u8; 200_000]);
+}
+
 fn main() {
-    let mut input = Vec::with_capacity(MOST_BYTES + 1);
+    touch_stack();
+    let mut input = buffer(MOST_BYTES + 1);
     std::io::stdin()
         .lock()
         .take(MOST_BYTES as u64 + 1)
         .read_to_end(&mut input)
         .unwrap();
-    let mut out = Vec::with_capacity(131_072);
+    let mut out = buffer(131_072);
     if let Err((number, file, place)) = listed(&input, &mut out) {
         out.extend_from_slice(format!("refused\t{number}\t{file}\t{place}\n").as_bytes());
     }
