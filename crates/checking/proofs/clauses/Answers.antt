@@ -62,6 +62,12 @@ module _ (n : ℕ) (ws : List ℕ) where
     unfolding emitOutcome
     counted-emit t c h = then-served _ _ t (counted-sizes t c) ∙ demand-met _ _ _ _ (le-leb _ _ h)
 
+    fault-emit : (x y : ℕ) → EmitFault n ws room x y → emitOutcome n ws room ≡ refused x y
+    unfolding emitOutcome
+    fault-emit x y (words-fault w) = then-refused _ _ x y (fault-sizes x y w)
+    fault-emit x y (short k c h) =
+        then-served _ _ _ (counted-sizes _ (record { gates = k; good = c; sizes = refl })) ∙ demand-failed _ _ _ _ (lt-leb _ _ h)
+
     emit-fault : (x y : ℕ) → emitOutcome n ws room ≡ refused x y → EmitFault n ws room x y
     unfolding emitOutcome
     emit-fault =
@@ -71,12 +77,6 @@ module _ (n : ℕ) (ws : List ℕ) where
         let c = sizes-counted t p in
         last-failed (EmitFault n ws room) (leb (t .words) room) noRoom 0 t
         (λ h. short (c .gates) (c .good) (omega (arith, leb-false (t .words) room h, ap (λ (x : Totals). x .words) (c .sizes)))))
-
-    fault-emit : (x y : ℕ) → EmitFault n ws room x y → emitOutcome n ws room ≡ refused x y
-    unfolding emitOutcome
-    fault-emit x y (words-fault w) = then-refused _ _ x y (fault-sizes x y w)
-    fault-emit x y (short k c h) =
-        then-served _ _ _ (counted-sizes _ (record { gates = k; good = c; sizes = refl })) ∙ demand-failed _ _ _ _ (lt-leb _ _ h)
 
 pub emit-laws : EmitLaws
 emit-laws =

@@ -1,5 +1,5 @@
 -- The refusals of the sweep, the input check, the pick and the fault call: exactly by what is wrong. Assumes nothing.
-use mathlib.Core.Path.{_≡_, refl, sym, ap, subst₂, _∙_}
+use mathlib.Core.Path.{_≡_, refl, sym, ap, subst, subst₂, _∙_}
 use mathlib.Core.Bool.{Bool, true, false}
 use mathlib.Core.List.{List, [], _∷_}
 use Prim.Native.Nat.{ℕ, zero, suc, _+_, _*_, _^_, _<_}
@@ -58,6 +58,7 @@ module _ (test : ℕ → Bool) (number : ℕ) where
   abbrev Failed : ℕ → Type 0
   Failed x = test x ≡ false
 
+  -- served exactly where every state meets the test
   each-served : (i : ℕ) (xs : List ℕ) (k : ℕ) → eachFrom test number i xs ≡ served k → Every Met xs
   unfolding eachFrom
   each-served i [] k e = λ j h. absurd (omega arith)
@@ -72,19 +73,18 @@ module _ (test : ℕ → Bool) (number : ℕ) where
       let e : i + 1 + length xs ≡ i + suc (length xs) = omega arith in
       demand-met _ _ _ _ (f 0 (omega arith)) ∙ served-each (i + 1) xs (λ j h. f (suc j) (omega arith)) ∙ ap served e
 
-  each-refused : (i : ℕ) (xs : List ℕ) (x y : ℕ) → eachFrom test number i xs ≡ refused x y → (x ≡ number) × (j : ℕ) × (y ≡ i + j) × First Met Failed xs j
+  -- refused exactly at the first that does not
+  each-refused : (F : ℕ → ℕ → Type 0) (i : ℕ) (xs : List ℕ) → ((j : ℕ) → First Met Failed xs j → F number (i + j))
+      → (x y : ℕ) → eachFrom test number i xs ≡ refused x y → F x y
   unfolding eachFrom
-  each-refused i [] x y e = absurd (never refl e)
-  each-refused i (s ∷ xs) x y e =
+  each-refused F i [] f x y e = absurd (never refl e)
+  each-refused F i (s ∷ xs) f x y e =
       either (test s)
-      (λ t.
-      let (a, j, b, f) = each-refused (i + 1) xs x y (sym (demand-met _ _ _ _ t) ∙ e) in
-      (a, suc j, omega arith, record { inside = omega (arith, f .inside); before = before-next Met s xs j t (f .before); here = f .here }))
-      (λ t.
-      let f : _≡_ {A = Outcome ℕ} (refused number i) (refused x y) = sym (demand-failed _ _ _ _ t) ∙ e in
-      let a : x ≡ number = cc in
-      let b : y ≡ i = cc in
-      (a, zero, omega arith, record { inside = omega arith; before = λ j h. absurd (omega arith); here = t }))
+      (λ t. each-refused F (i + 1) xs (λ j w. subst (F number) (omega arith) (f (suc j) (later t j w))) x y (sym (demand-met _ _ _ _ t) ∙ e))
+      (λ t. same-refusal F (sym (demand-failed _ _ _ _ t) ∙ e) (subst (F number) (omega arith) (f 0 (record { inside = omega arith; before = λ j h. absurd (omega arith); here = t }))))
+    where
+      later : Met s → (j : ℕ) → First Met Failed xs j → First Met Failed (s ∷ xs) (suc j)
+      later t j w = record { inside = omega (arith, w .inside); before = before-next Met s xs j t (w .before); here = w .here }
 
   refused-each : (i : ℕ) (xs : List ℕ) (j : ℕ) → First Met Failed xs j → eachFrom test number i xs ≡ refused number (i + j)
   unfolding eachFrom
@@ -108,6 +108,10 @@ module _ (na : ℕ) (a : List ℕ) (nb : ℕ) (b : List ℕ) where
   pair-good : (k m : ℕ) → GoodPair na a nb b k m → pairOutcome na a nb b ≡ served (counts k m)
   pair-good k m g = served-pair na a nb b k m (g .first) (g .second) (g .lines)
 
+  fault-sweep : (x y : ℕ) → SweepFault na a nb b x y → differenceOutcome na a nb b ≡ refused x y
+  fault-sweep x y (sweep-pair w) = difference-refused na a nb b x y (refused-pair na a nb b x y w)
+  fault-sweep x y (wide k m g h) = difference-wide na a nb b (counts k m) (pair-good k m g) h
+
   sweep-fault : (x y : ℕ) → differenceOutcome na a nb b ≡ refused x y → SweepFault na a nb b x y
   unfolding differenceOutcome
   sweep-fault =
@@ -115,25 +119,21 @@ module _ (na : ℕ) (a : List ℕ) (nb : ℕ) (b : List ℕ) where
       (λ x y p. sweep-pair (pair-refused na a nb b x y p))
       (λ c p. last-failed (SweepFault na a nb b) (leb na maxSweepLines) tooWide 0 _ (λ t. wide (c .first) (c .second) (good-pair c p) (leb-false _ _ t)))
 
-  fault-sweep : (x y : ℕ) → SweepFault na a nb b x y → differenceOutcome na a nb b ≡ refused x y
-  fault-sweep x y (sweep-pair w) = difference-refused na a nb b x y (refused-pair na a nb b x y w)
-  fault-sweep x y (wide k m g h) = difference-wide na a nb b (counts k m) (pair-good k m g) h
-
   pick-fault : (x y : ℕ) → pickOutcome na a nb b ≡ refused x y → PairFault na a nb b x y
   unfolding pickOutcome
   pick-fault x y e = pair-refused na a nb b x y (then-fails (pairOutcome na a nb b) _ x y e)
 
   module _ (s : ℕ) where
+    fault-input : (x y : ℕ) → InputFault na a nb b s x y → differsOutcome na a nb b s ≡ refused x y
+    fault-input x y (input-pair w) = differs-refused na a nb b s x y (refused-pair na a nb b x y w)
+    fault-input x y (outside k m g h) = differs-outside na a nb b (counts k m) (pair-good k m g) s (le-ltb _ _ h)
+
     input-fault : (x y : ℕ) → differsOutcome na a nb b s ≡ refused x y → InputFault na a nb b s x y
     unfolding differsOutcome
     input-fault =
         then-either (InputFault na a nb b s) (pairOutcome na a nb b) _
         (λ x y p. input-pair (pair-refused na a nb b x y p))
         (λ c p. last-failed (InputFault na a nb b s) (ltb s (2 ^ na)) badState 0 _ (λ t. outside (c .first) (c .second) (good-pair c p) (ltb-false _ _ t)))
-
-    fault-input : (x y : ℕ) → InputFault na a nb b s x y → differsOutcome na a nb b s ≡ refused x y
-    fault-input x y (input-pair w) = differs-refused na a nb b s x y (refused-pair na a nb b x y w)
-    fault-input x y (outside k m g h) = differs-outside na a nb b (counts k m) (pair-good k m g) s (le-ltb _ _ h)
 
   module _ (xs : List ℕ) (room : ℕ) where
     abbrev inside : ℕ → Bool
@@ -151,41 +151,6 @@ module _ (na : ℕ) (a : List ℕ) (nb : ℕ) (b : List ℕ) where
     all-differing : (k : ℕ) → eachFrom differing agreeingState 0 xs ≡ served k → Every (λ x. run (gatesOf a) x ≡ run (gatesOf b) x → ⊥) xs
     all-differing k e = λ j h. differ-yes _ _ _ (each-served differing agreeingState 0 xs k e j h)
 
-    masks-fault : (x y : ℕ) → faultOutcome na a nb b xs room ≡ refused x y → Fault x y
-    unfolding faultOutcome faultCheck
-    masks-fault =
-        then-either Fault (faultCheck na a nb b xs) _
-        (then-either Fault (pairOutcome na a nb b) _
-        (λ x y p. masks-pair (pair-refused na a nb b x y p))
-        (λ c p.
-        then-either Fault (eachFrom inside badState 0 xs) _
-        (λ x y q. first-outside c p x y (each-refused inside badState 0 xs x y q))
-        (λ k q.
-        then-either Fault (eachFrom differing agreeingState 0 xs) _
-        (λ x y r. first-agreeing c p k q x y (each-refused differing agreeingState 0 xs x y r))
-        (λ m r x y e. absurd (never refl e)))))
-        (λ gates g. last-failed Fault (leb (2 * gates) room) noRoom 0 gates (λ t. too-short gates g (leb-false _ _ t)))
-      where
-        first-outside : (c : Counts) → pairOutcome na a nb b ≡ served c → (x y : ℕ)
-            → (x ≡ badState) × (j : ℕ) × (y ≡ 0 + j) × First (λ s. inside s ≡ true) (λ s. inside s ≡ false) xs j → Fault x y
-        first-outside c p x y (n, j, l, f) =
-            let q : j ≡ y = omega arith in
-            subst₂ Fault (sym n) q (outside-at (c .first) (c .second) (good-pair c p) j (other-words xs j (λ s. ltb-true _ _) (λ s. ltb-false _ _) f))
-
-        first-agreeing : (c : Counts) → pairOutcome na a nb b ≡ served c → (k : ℕ) → eachFrom inside badState 0 xs ≡ served k → (x y : ℕ)
-            → (x ≡ agreeingState) × (j : ℕ) × (y ≡ 0 + j) × First (λ s. differing s ≡ true) (λ s. differing s ≡ false) xs j → Fault x y
-        first-agreeing c p k i x y (n, j, l, f) =
-            let q : j ≡ y = omega arith in
-            subst₂ Fault (sym n) q (agreeing-at (c .first) (c .second) (good-pair c p) (all-inside k i) j (other-words xs j (differ-yes _ _) (differ-no _ _) f))
-
-        too-short : (gates : ℕ) → faultCheck na a nb b xs ≡ served gates → room < 2 * gates → Fault noRoom 0
-        too-short gates e h =
-            let (c, p, f) = then-both (pairOutcome na a nb b) _ gates e in
-            let (k, q, g) = then-both (eachFrom inside badState 0 xs) _ gates f in
-            let (m, r, l) = then-both (eachFrom differing agreeingState 0 xs) _ gates g in
-            let n : c .first ≡ gates = cc in
-            short (c .first) (c .second) (good-pair c p) (all-inside k q) (all-differing m r) (omega arith)
-
     fault-masks : (x y : ℕ) → Fault x y → faultOutcome na a nb b xs room ≡ refused x y
     fault-masks x y (masks-pair w) = fault-refused na a nb b xs room x y (fault-pair na a nb b xs x y (refused-pair na a nb b x y w))
     fault-masks x y (outside-at k m g i f) =
@@ -201,6 +166,31 @@ module _ (na : ℕ) (a : List ℕ) (nb : ℕ) (b : List ℕ) where
         (fault-good na a nb b xs (counts k m) (pair-good k m g) _ (served-each inside badState 0 xs (λ j h. lt-ltb _ _ (e j h))) _
         (served-each differing agreeingState 0 xs (λ j h. yes-differ _ _ _ (f j h))))
         h
+
+    masks-fault : (x y : ℕ) → faultOutcome na a nb b xs room ≡ refused x y → Fault x y
+    unfolding faultOutcome faultCheck
+    masks-fault =
+        then-either Fault (faultCheck na a nb b xs) _
+        (then-either Fault (pairOutcome na a nb b) _
+        (λ x y p. masks-pair (pair-refused na a nb b x y p))
+        (λ c p.
+        then-either Fault (eachFrom inside badState 0 xs) _
+        (each-refused inside badState Fault 0 xs (λ j f.
+        subst (Fault badState) (omega arith) (outside-at (c .first) (c .second) (good-pair c p) j (other-words xs j (λ s. ltb-true _ _) (λ s. ltb-false _ _) f))))
+        (λ k q.
+        then-either Fault (eachFrom differing agreeingState 0 xs) _
+        (each-refused differing agreeingState Fault 0 xs (λ j f.
+        subst (Fault agreeingState) (omega arith) (agreeing-at (c .first) (c .second) (good-pair c p) (all-inside k q) j (other-words xs j (differ-yes _ _) (differ-no _ _) f))))
+        (λ m r x y e. absurd (never refl e)))))
+        (λ gates g. last-failed Fault (leb (2 * gates) room) noRoom 0 gates (λ t. too-short gates g (leb-false _ _ t)))
+      where
+        too-short : (gates : ℕ) → faultCheck na a nb b xs ≡ served gates → room < 2 * gates → Fault noRoom 0
+        too-short gates e h =
+            let (c, p, f) = then-both (pairOutcome na a nb b) _ gates e in
+            let (k, q, g) = then-both (eachFrom inside badState 0 xs) _ gates f in
+            let (m, r, l) = then-both (eachFrom differing agreeingState 0 xs) _ gates g in
+            let n : c .first ≡ gates = cc in
+            short (c .first) (c .second) (good-pair c p) (all-inside k q) (all-differing m r) (omega arith)
 
 pub refusal-laws : RefusalLaws
 refusal-laws =

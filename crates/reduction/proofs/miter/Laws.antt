@@ -93,6 +93,10 @@ module _ (na : ℕ) (a : List ℕ) (nb : ℕ) (b : List ℕ) where
       record { first = c .first; second = c .second; first-good = p; second-good = q; lines = l; fits = leb-true _ _ t; count = sym n }
 
   -- refused exactly by what is wrong
+  pub fault-miter : (room number place : ℕ) → MiterFault na a nb b room number place → miterOutcome na a nb b room ≡ refused number place
+  fault-miter room number place (pair-fault w) = miter-refused room number place (refused-pair na a nb b number place w)
+  fault-miter room number place (short k m c d l h) = miter-short room (record { first = k; second = m }) (served-pair na a nb b k m c d l) h
+
   pub miter-fault : (room number place : ℕ) → miterOutcome na a nb b room ≡ refused number place → MiterFault na a nb b room number place
   miter-fault room number place e = go (pairOutcome na a nb b) refl
     where
@@ -106,10 +110,6 @@ module _ (na : ℕ) (a : List ℕ) (nb : ℕ) (b : List ℕ) where
           either (leb (length a + length b) room)
           (λ t. absurd (never (miter-made room c p (leb-true _ _ t)) e))
           (λ t. is noRoom 0 (sym (miter-short room c p (leb-false _ _ t)) ∙ e) (short (c .first) (c .second) k m l (leb-false _ _ t)))
-
-  pub fault-miter : (room number place : ℕ) → MiterFault na a nb b room number place → miterOutcome na a nb b room ≡ refused number place
-  fault-miter room number place (pair-fault w) = miter-refused room number place (refused-pair na a nb b number place w)
-  fault-miter room number place (short k m c d l h) = miter-short room (record { first = k; second = m }) (served-pair na a nb b k m c d l) h
 
   -- what stands in the buffer
   module _ (out : List ℕ) (k : ℕ) (good : miterOutcome na a nb b (length out) ≡ served k) where
