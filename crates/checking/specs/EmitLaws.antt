@@ -28,6 +28,6 @@ pub record EmitLaws : Type 0 where
   -- sizes: served exactly for a cascade, else refused by what is wrong
   pub sizes-served : (n : ℕ) (ws : List ℕ) (t : Totals) → (sizesOutcome n ws ≡ served t) ↔ Counted n ws t
   pub sizes-refused : (n : ℕ) (ws : List ℕ) (number place : ℕ) → (sizesOutcome n ws ≡ refused number place) ↔ WordsFault n ws maxMiterGates number place
-  -- emission: served exactly where there is room besides
+  -- emission: served exactly where the buffer has room besides, else refused by what is wrong
   pub emit-served : (n : ℕ) (ws : List ℕ) (room : ℕ) (t : Totals) → (emitOutcome n ws room ≡ served t) ↔ ((Counted n ws t) × (t .words ≤ room))
   pub emit-refused : (n : ℕ) (ws : List ℕ) (room number place : ℕ) → (emitOutcome n ws room ≡ refused number place) ↔ EmitFault n ws room number place
