@@ -15,7 +15,7 @@ use Rattle.checking.specs.Clauses.{Clause, OR, plus, inputOf, gatesClaus
 use Rattle.checking.specs.Satisfaction.{variable, satisfies, spelled, traced, forced, Tells}
 use Rattle.checking.specs.Stored.{stored, clausesIn, clausesRead, badRecord, BadAt, AllFit}
 use Rattle.checking.specs.Sizes.{totals, sizesOf}
-use Rattle.checking.specs.ClauseRows.{RowsHold, clauseRows}
+use Rattle.checking.specs.ClauseRows.{RowsHold, clauseRows, WordsHold, wordsRows}
 
 -- a clause list for each cascade tells on which states its run is not the identity
 abbrev pub ListsTell : (ℕ → List Gate → ℕ) → (ℕ → List Gate → List Clause) → Type 0
@@ -64,5 +64,6 @@ pub record ClauseLaws : Type 0 where
   -- the sums gate by gate are the variables, clauses and words of the list
   pub sizes-list : (n : ℕ) (gs : List Gate) → n ≤ maxLines → allValid n gs ≡ true
       → sizesOf n gs ≡ totals (variablesOf n gs) (length (clausesOf n gs)) (length (stored (clausesOf n gs)))
-  -- the rows by full literals
+  -- the rows by full literals, and by words
   pub rows : RowsHold clauseRows
+  pub words-rows : WordsHold wordsRows

@@ -1,10 +1,12 @@
--- Rows by full literals: cascades with the sizes and the clauses that document 01 gives them. A pair's clause list is that of its miter; against the empty cascade that is the cascade itself.
+-- Rows by full literals: cascades with the sizes, the clauses and the stored words that document 01 gives them. A pair's clause list is that of its miter; against the empty cascade that is the cascade itself.
 use mathlib.Core.Path.{_≡_}
 use mathlib.Core.List.{List, [], _∷_}
 use Prim.Native.Nat.{ℕ}
+use lib.IntN.{ℤ}
 use Rattle.circuit.specs.declared.gate.Gate.{Gate}
 use Rattle.checking.specs.declared.clauses.Totals.{Totals}
 use Rattle.checking.specs.Clauses.{Clause, OR, XOR, plus, minus, clausesOf}
+use Rattle.checking.specs.Stored.{stored}
 use Rattle.checking.specs.Sizes.{totals, sizesOf}
 
 pub record ClauseRow : Type 0 where
@@ -98,3 +100,29 @@ RowsHold (r ∷ rs) = ((sizesOf (r .lines) (r .gates) ≡ r .sizes) × (clausesO
 
 abbrev pub clauseRows : List ClauseRow
 clauseRows = emptyRow ∷ twoRow ∷ printedRow ∷ notRow ∷ negativeRow ∷ bothRow ∷ longRow ∷ []
+
+-- a cascade with the words in which its clauses are stored
+pub record WordsRow : Type 0 where
+  pub lines : ℕ
+  pub gates : List Gate
+  pub words : List ℤ
+
+-- 01's printed example, t1+0 against empty, n = 2: XOR of three, OR of one, XOR of three, OR of two
+abbrev pub printedWords : WordsRow
+printedWords =
+    record {
+      lines = 2;
+      gates = gate 1 1 0 ∷ [];
+      words =
+          plus 1 ∷ plus 3 ∷ minus 3 ∷ plus 2 ∷ plus 1
+          ∷ plus 0 ∷ plus 1 ∷ minus 4
+          ∷ plus 1 ∷ plus 3 ∷ minus 5 ∷ plus 2 ∷ plus 3
+          ∷ plus 0 ∷ plus 2 ∷ plus 4 ∷ plus 5 ∷ [];
+    }
+
+abbrev pub WordsHold : List WordsRow → Type 0
+WordsHold [] = Unit {0}
+WordsHold (r ∷ rs) = (stored (clausesOf (r .lines) (r .gates)) ≡ r .words) × WordsHold rs
+
+abbrev pub wordsRows : List WordsRow
+wordsRows = printedWords ∷ []

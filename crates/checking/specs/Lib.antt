@@ -10,5 +10,6 @@ pub mod Equality
 pub mod Check
 pub mod ClauseLaws
 pub mod EqualityLaws
+pub mod EmitLaws
 pub mod Rows
 pub mod Laws

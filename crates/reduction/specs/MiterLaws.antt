@@ -2,12 +2,12 @@
 use mathlib.Core.Path.{_≡_}
 use mathlib.Core.Logic.{_↔_}
 use mathlib.Core.List.{List}
-use Prim.Native.Nat.{ℕ, _+_, _*_, _≤_}
+use Prim.Native.Nat.{ℕ, _+_, _*_, _≤_, _<_}
 use lib.ListN.{length, take, drop}
 use Rattle.circuit.specs.declared.gate.Gate.{Gate}
 use Rattle.circuit.specs.Gate.{maxGates, maxMiterGates}
-use Rattle.circuit.specs.Outcome.{served}
-use Rattle.circuit.specs.Words.{gatesOf, Cascade}
+use Rattle.circuit.specs.Outcome.{served, refused}
+use Rattle.circuit.specs.Words.{gatesOf, Cascade, PairFault}
 use Rattle.circuit.specs.Run.{run}
 use Rattle.reduction.specs.Miter.{miterGates, miterOutcome, miterBuffer}
 
@@ -21,6 +21,11 @@ pub record MiterServed (na : ℕ) (a : List ℕ) (nb : ℕ) (b : List ℕ) (room
   pub fits : length a + length b ≤ room
   pub count : k ≡ first + second
 
+-- what is wrong with a miter's call: with the two cascades, or 10 where they are good and the buffer has fewer words than both together
+pub data MiterFault (na : ℕ) (a : List ℕ) (nb : ℕ) (b : List ℕ) (room : ℕ) : ℕ → ℕ → Type 0 where
+  pair-fault : {number place : ℕ} → PairFault na a nb b number place → MiterFault na a nb b room number place
+  short : (k m : ℕ) → Cascade na a maxGates k → Cascade nb b maxGates m → na ≡ nb → room < length a + length b → MiterFault na a nb b room 10 0
+
 -- what stands in the buffer after a served miter of k gates: the miter, a cascade that steps and reductions take, and the rest as it was
 pub record MiterStands (na : ℕ) (a : List ℕ) (nb : ℕ) (b out : List ℕ) (k : ℕ) : Type 0 where
   pub gates : gatesOf (take (3 * k) (miterBuffer na a nb b out)) ≡ miterGates (gatesOf a) (gatesOf b)
@@ -32,4 +37,6 @@ pub record MiterLaws : Type 0 where
   pub identity : (a b : List Gate) (s : ℕ) → (run (miterGates a b) s ≡ s) ↔ (run a s ≡ run b s)
   -- served exactly for valid pairs with room
   pub miter-served : (na : ℕ) (a : List ℕ) (nb : ℕ) (b : List ℕ) (room k : ℕ) → (miterOutcome na a nb b room ≡ served k) ↔ MiterServed na a nb b room k
+  -- and refused exactly by what is wrong
+  pub miter-refused : (na : ℕ) (a : List ℕ) (nb : ℕ) (b : List ℕ) (room number place : ℕ) → (miterOutcome na a nb b room ≡ refused number place) ↔ MiterFault na a nb b room number place
   pub miter-stands : (na : ℕ) (a : List ℕ) (nb : ℕ) (b out : List ℕ) (k : ℕ) → miterOutcome na a nb b (length out) ≡ served k → MiterStands na a nb b out k

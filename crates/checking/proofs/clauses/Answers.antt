@@ -1,25 +1,93 @@
--- What emission answers and leaves. Assumes nothing.
+-- What sizes and emission answer, and what emission leaves. Assumes nothing.
 use mathlib.Core.Path.{_≡_, refl, sym, ap, _∙_}
 use mathlib.Core.List.{List}
 use Prim.Native.Nat.{ℕ, _≤_, _<_}
 use native.Mathlib.Omega.{arith}
+use lib.Dec.{leb}
 use lib.IntN.{ℤ}
 use lib.ListN.{length}
-use borrow.Author.Tests.{le-leb, lt-leb}
+use borrow.Author.Tests.{le-leb, lt-leb, leb-true, leb-false}
 use Rattle.bits.specs.Lists.{over}
 use Rattle.circuit.specs.Gate.{maxMiterGates}
 use Rattle.circuit.specs.Outcome.{Outcome, served, refused, Yields}
 use Rattle.circuit.specs.Refusal.{noRoom}
-use Rattle.circuit.specs.Words.{gatesOf, checkOutcome}
-use Rattle.circuit.proofs.Outcome.{told, then-served, then-refused, then-both, demand-met, demand-failed}
-use Rattle.circuit.proofs.words.Laws.{check-served}
+use Rattle.circuit.specs.Words.{gatesOf, checkOutcome, WordsFault}
+use Rattle.circuit.proofs.Outcome.{told, then-served, then-refused, then-both, then-fails, demand-met, demand-failed, demanded}
+use Rattle.circuit.proofs.words.Laws.{check-served, served-check, check-refused, refused-check}
+use Rattle.diagnosis.proofs.faults.Refusals.{then-either, last-failed}
 use Rattle.checking.specs.declared.clauses.Totals.{Totals}
 use Rattle.checking.specs.Clauses.{clausesOf}
 use Rattle.checking.specs.Stored.{stored}
 use Rattle.checking.specs.Sizes.{sizesOf, sizesOutcome}
 use Rattle.checking.specs.Emit.{emitOutcome, emitBuffer}
 use Rattle.checking.specs.Emission.{ListReady}
+use Rattle.checking.specs.EmitLaws.{Counted, EmitFault, words-fault, short, EmitLaws}
 use Rattle.checking.proofs.clauses.Sums.{sizes-list}
+
+-- ---- served exactly for a cascade, and refused exactly by what is wrong
+
+module _ (n : ℕ) (ws : List ℕ) where
+  sizes-counted : (t : Totals) → sizesOutcome n ws ≡ served t → Counted n ws t
+  unfolding sizesOutcome
+  sizes-counted t e =
+      let (k, checked, sum) = then-both (checkOutcome n ws maxMiterGates) (λ k. served (sizesOf n (gatesOf ws))) t e in
+      let good = check-served n ws maxMiterGates k checked in
+      let same : sizesOf n (gatesOf ws) ≡ t = cc in
+      record { gates = k; good = good; sizes = sym same ∙ sizes-list n (gatesOf ws) (good .lines-high) (good .gates) }
+
+  counted-sizes : (t : Totals) → Counted n ws t → sizesOutcome n ws ≡ served t
+  unfolding sizesOutcome
+  counted-sizes t c =
+      then-served _ _ (c .gates) (served-check n ws maxMiterGates (c .gates) (c .good))
+      ∙ ap served (sizes-list n (gatesOf ws) (c .good .lines-high) (c .good .gates) ∙ sym (c .sizes))
+
+  sizes-fault : (x y : ℕ) → sizesOutcome n ws ≡ refused x y → WordsFault n ws maxMiterGates x y
+  unfolding sizesOutcome
+  sizes-fault x y e = check-refused n ws maxMiterGates x y (then-fails (checkOutcome n ws maxMiterGates) _ x y e)
+
+  fault-sizes : (x y : ℕ) → WordsFault n ws maxMiterGates x y → sizesOutcome n ws ≡ refused x y
+  unfolding sizesOutcome
+  fault-sizes x y w = then-refused _ _ x y (refused-check n ws maxMiterGates x y w)
+
+  module _ (room : ℕ) where
+    emit-counted : (t : Totals) → emitOutcome n ws room ≡ served t → (Counted n ws t) × (t .words ≤ room)
+    unfolding emitOutcome
+    emit-counted t e =
+        let (u, p, f) = then-both (sizesOutcome n ws) _ t e in
+        let (h, g) = demanded (leb (u .words) room) noRoom 0 (served u) t f in
+        let same : u ≡ t = cc in
+        (sizes-counted t (p ∙ g), leb-true (t .words) room (ap (λ (x : Totals). leb (x .words) room) (sym same) ∙ h))
+
+    counted-emit : (t : Totals) → Counted n ws t → t .words ≤ room → emitOutcome n ws room ≡ served t
+    unfolding emitOutcome
+    counted-emit t c h = then-served _ _ t (counted-sizes t c) ∙ demand-met _ _ _ _ (le-leb _ _ h)
+
+    fault-emit : (x y : ℕ) → EmitFault n ws room x y → emitOutcome n ws room ≡ refused x y
+    unfolding emitOutcome
+    fault-emit x y (words-fault w) = then-refused _ _ x y (fault-sizes x y w)
+    fault-emit x y (short k c h) =
+        then-served _ _ _ (counted-sizes _ (record { gates = k; good = c; sizes = refl })) ∙ demand-failed _ _ _ _ (lt-leb _ _ h)
+
+    emit-fault : (x y : ℕ) → emitOutcome n ws room ≡ refused x y → EmitFault n ws room x y
+    unfolding emitOutcome
+    emit-fault =
+        then-either (EmitFault n ws room) (sizesOutcome n ws) _
+        (λ x y p. words-fault (sizes-fault x y p))
+        (λ t p.
+        let c = sizes-counted t p in
+        last-failed (EmitFault n ws room) (leb (t .words) room) noRoom 0 t
+        (λ h. short (c .gates) (c .good) (omega (arith, leb-false (t .words) room h, ap (λ (x : Totals). x .words) (c .sizes)))))
+
+pub emit-laws : EmitLaws
+emit-laws =
+    record {
+      sizes-served = λ n ws t. (sizes-counted n ws t, counted-sizes n ws t);
+      sizes-refused = λ n ws x y. (sizes-fault n ws x y, fault-sizes n ws x y);
+      emit-served = λ n ws room t. (emit-counted n ws room t, (λ c. counted-emit n ws room t (c .0) (c .1)));
+      emit-refused = λ n ws room x y. (emit-fault n ws room x y, fault-emit n ws room x y);
+    }
+
+-- ---- what emission answers and leaves
 
 module _ (n : ℕ) (ws : List ℕ) (out : List ℤ) where
   abbrev Owes : Outcome Totals → List ℤ → Type 0
@@ -45,10 +113,8 @@ module _ (n : ℕ) (ws : List ℕ) (out : List ℤ) where
 
     -- a cascade whose clauses fit
     pub list-ready : t .words ≤ length out → ListReady n ws (length out)
-    unfolding sizesOutcome
     list-ready h =
-        let (k, checked, sum) = then-both (checkOutcome n ws maxMiterGates) (λ k. served (sizesOf n (gatesOf ws))) t sized in
-        let good = check-served n ws maxMiterGates k checked in
-        let same : sizesOf n (gatesOf ws) ≡ t = cc in
-        let words : t .words ≡ length front = ap (λ (x : Totals). x .words) (sym same ∙ sizes-list n (gatesOf ws) (good .lines-high) (good .gates)) in
+        let c = sizes-counted n ws t sized in
+        let good = c .good in
+        let words : t .words ≡ length front = ap (λ (x : Totals). x .words) (c .sizes) in
         record { lines = good .lines-high; few = omega (arith, good .size, good .few); gates = good .gates; enough = omega arith }

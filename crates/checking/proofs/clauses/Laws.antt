@@ -6,7 +6,7 @@ use Rattle.checking.proofs.clauses.StandIns.{contradiction-fails, witho
 use Rattle.checking.proofs.clauses.Reading.{read-back, read-stored, read-bad}
 use Rattle.checking.proofs.clauses.Bounds.{variables-counted, variables-few, words-fit}
 use Rattle.checking.proofs.clauses.Sums.{sizes-list}
-use Rattle.checking.proofs.clauses.Rows.{rows-hold}
+use Rattle.checking.proofs.clauses.Rows.{rows-hold, words-hold}
 
 pub clause-laws : ClauseLaws
 clause-laws =
@@ -27,4 +27,5 @@ clause-laws =
       words-fit = words-fit;
       sizes-list = sizes-list;
       rows = rows-hold;
+      words-rows = words-hold;
     }

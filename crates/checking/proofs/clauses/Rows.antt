@@ -1,4 +1,4 @@
--- The rows by full literals, computed; the sizes of 63 controls are counted on the list. Assumes nothing.
+-- The rows by full literals and by words, computed; the sizes of 63 controls are counted on the list. Assumes nothing.
 use mathlib.Core.Path.{_≡_, refl, _∙_}
 use mathlib.Core.Bool.{true}
 use native.Mathlib.Omega.{arith}
@@ -10,7 +10,7 @@ use Rattle.circuit.specs.Words.{allValid}
 use Rattle.checking.specs.Clauses.{moved, gatesClauses, usedAfter, currentAfter, targeted, upFrom, differenceClauses, clausesOf, variablesOf}
 use Rattle.checking.specs.Stored.{stored}
 use Rattle.checking.specs.Sizes.{totals, gatesSizes, linesSizes, sizesOf}
-use Rattle.checking.specs.ClauseRows.{RowsHold, clauseRows, longRow}
+use Rattle.checking.specs.ClauseRows.{RowsHold, clauseRows, longRow, WordsHold, wordsRows}
 use Rattle.checking.proofs.clauses.Sums.{sizes-list}
 
 long-valid : allValid (longRow .lines) (longRow .gates) ≡ true
@@ -28,3 +28,7 @@ long-sizes = sizes-list (longRow .lines) (longRow .gates) (omega arith) long-val
 pub rows-hold : RowsHold clauseRows
 unfolding moved gatesClauses usedAfter currentAfter targeted upFrom differenceClauses clausesOf gatesSizes linesSizes sizesOf controlCount controlsBelow bit ones onesIn
 rows-hold = ((refl, refl), ((refl, refl), ((refl, refl), ((refl, refl), ((refl, refl), ((refl, refl), ((long-sizes, refl), tt)))))))
+
+pub words-hold : WordsHold wordsRows
+unfolding moved gatesClauses usedAfter currentAfter targeted upFrom differenceClauses clausesOf stored controlsBelow bit
+words-hold = (refl, tt)

@@ -1,6 +1,7 @@
 -- `checking::laws` meets its contract: the record of the laws. Assumes nothing.
 use Rattle.checking.proofs.clauses.Laws.{clause-laws}
 use Rattle.checking.proofs.EqualityLaws.{equality-laws}
+use Rattle.checking.proofs.clauses.Answers.{emit-laws}
 use Rattle.checking.proofs.Rows.{row-laws}
 use Rattle.checking.proofs.laws.Statement.{statement}
 use Rattle.checking.proofs.laws.Tie as tie
@@ -10,6 +11,7 @@ returns c =
     record {
       clauses = clause-laws;
       equality = equality-laws;
+      emission = emit-laws;
       rows = row-laws;
     }
 

@@ -1,11 +1,11 @@
 -- The laws of comparing two cascades: the search for the lowest difference, and what the calls answer. Assumes nothing.
 use mathlib.Core.Path.{_≡_, sym, ap, subst, _∙_}
-use mathlib.Core.Bool.{Bool, true, false}
+use mathlib.Core.Bool.{Bool, true, false, not}
 use mathlib.Core.List.{List, []}
 use Prim.Native.Nat.{ℕ, zero, suc, _+_, _-_, _^_, _<_, _≤_}
 use native.Mathlib.Omega.{arith}
 use lib.Dec.{eqb, ltb}
-use borrow.Author.Tests.{eqb-true, eqb-false, not-true, not-false, le-leb, lt-leb, ltb-true, ltb-false}
+use borrow.Author.Tests.{eqb-true, eqb-false, eq-eqb, ne-eqb, not-true, not-false, le-leb, lt-leb, ltb-true, ltb-false}
 use Rattle.bits.proofs.Bools.{either, cond-true, cond-false}
 use Rattle.circuit.specs.declared.gate.Gate.{Gate}
 use Rattle.circuit.specs.Gate.{maxLines}
@@ -20,8 +20,14 @@ use Rattle.diagnosis.specs.Compare.{outputsDiffer, maxSweepLines, Differ
 pub differ-no : (a b : List Gate) (x : ℕ) → outputsDiffer a b x ≡ false → run a x ≡ run b x
 differ-no a b x e = eqb-true _ _ (not-false (eqb (run a x) (run b x)) e)
 
+pub no-differ : (a b : List Gate) (x : ℕ) → run a x ≡ run b x → outputsDiffer a b x ≡ false
+no-differ a b x h = ap not (eq-eqb _ _ h)
+
 pub differ-yes : (a b : List Gate) (x : ℕ) → outputsDiffer a b x ≡ true → run a x ≡ run b x → ⊥
 differ-yes a b x e = eqb-false _ _ (not-true (eqb (run a x) (run b x)) e)
+
+pub yes-differ : (a b : List Gate) (x : ℕ) → (run a x ≡ run b x → ⊥) → outputsDiffer a b x ≡ true
+yes-differ a b x h = ap not (ne-eqb _ _ h)
 
 -- the gates of two cascades that were tested
 pub pair-gates : (na : ℕ) (a : List ℕ) (nb : ℕ) (b : List ℕ) (c : Counts) → pairOutcome na a nb b ≡ served c

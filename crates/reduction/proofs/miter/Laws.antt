@@ -1,5 +1,5 @@
 -- The laws of the miter: what its call answers and leaves, and that it is the identity where the two cascades agree. Assumes nothing.
-use mathlib.Core.Path.{_≡_, refl, sym, ap, _∙_}
+use mathlib.Core.Path.{_≡_, refl, sym, ap, subst₂, _∙_}
 use mathlib.Core.Bool.{true}
 use mathlib.Core.List.{List, _++_}
 use Prim.Native.Nat.{ℕ, _+_, _-_, _*_, _%_, _≤_, _<_}
@@ -7,9 +7,10 @@ use native.Mathlib.Omega.{arith}
 use lib.Dec.{leb}
 use lib.ListN.{length, take, drop, length-drop, length-append}
 use lib.Seq.{take-at, drop-at}
-use borrow.Author.Tests.{le-leb, lt-leb, leb-true}
+use borrow.Author.Tests.{le-leb, lt-leb, leb-true, leb-false}
 use borrow.Rule.Slice.PartMut.{putMid}
 use Rattle.bits.specs.Lists.{over}
+use Rattle.bits.proofs.Bools.{either}
 use Rattle.bits.proofs.Lists.{lent-over, over-length, rest-lent}
 use Rattle.circuit.specs.declared.gate.Gate.{Gate}
 use Rattle.circuit.specs.Gate.{maxGates}
@@ -18,12 +19,12 @@ use Rattle.circuit.specs.Refusal.{noRoom}
 use Rattle.circuit.specs.Words.{gatesOf, wordsOf, allValid, Counts, pairOutcome}
 use Rattle.circuit.specs.Run.{run}
 use Rattle.circuit.specs.Inverse.{inverse, inverseBuffer}
-use Rattle.circuit.proofs.Outcome.{told, demand-met, demand-failed, demanded, then-served, then-refused, then-both}
-use Rattle.circuit.proofs.words.Laws.{gates-length, gates-words, words-gates, words-append, words-length, valid-append, served-check, pair-served, served-pair}
+use Rattle.circuit.proofs.Outcome.{never, told, demand-met, demand-failed, demanded, then-served, then-refused, then-both}
+use Rattle.circuit.proofs.words.Laws.{gates-length, gates-words, words-gates, words-append, words-length, valid-append, served-check, pair-served, served-pair, pair-refused, refused-pair}
 use Rattle.circuit.proofs.run.Laws.{run-append}
 use Rattle.circuit.proofs.inverse.Laws.{run-inverse, inverse-run, inverse-valid, inverse-written}
 use Rattle.reduction.specs.Miter.{miterGates, miterOutcome, miterBuffer}
-use Rattle.reduction.specs.MiterLaws.{MiterServed, MiterStands, MiterLaws}
+use Rattle.reduction.specs.MiterLaws.{MiterServed, MiterFault, pair-fault, short, MiterStands, MiterLaws}
 
 -- ---- the identity exactly where the two agree
 
@@ -91,6 +92,25 @@ module _ (na : ℕ) (a : List ℕ) (nb : ℕ) (b : List ℕ) where
       let n : c .first + c .second ≡ k = cc in
       record { first = c .first; second = c .second; first-good = p; second-good = q; lines = l; fits = leb-true _ _ t; count = sym n }
 
+  -- refused exactly by what is wrong
+  pub fault-miter : (room number place : ℕ) → MiterFault na a nb b room number place → miterOutcome na a nb b room ≡ refused number place
+  fault-miter room number place (pair-fault w) = miter-refused room number place (refused-pair na a nb b number place w)
+  fault-miter room number place (short k m c d l h) = miter-short room (record { first = k; second = m }) (served-pair na a nb b k m c d l) h
+
+  pub miter-fault : (room number place : ℕ) → miterOutcome na a nb b room ≡ refused number place → MiterFault na a nb b room number place
+  miter-fault room number place e = go (pairOutcome na a nb b) refl
+    where
+      is : (x y : ℕ) → _≡_ {A = Outcome ℕ} (refused x y) (refused number place) → MiterFault na a nb b room x y → MiterFault na a nb b room number place
+      is x y f w = let p : x ≡ number = cc in let q : y ≡ place = cc in subst₂ (MiterFault na a nb b room) p q w
+
+      go : (o : Outcome Counts) → pairOutcome na a nb b ≡ o → MiterFault na a nb b room number place
+      go (refused x y) p = is x y (sym (miter-refused room x y p) ∙ e) (pair-fault (pair-refused na a nb b x y p))
+      go (served c) p =
+          let (k, m, l) = pair-served na a nb b c p in
+          either (leb (length a + length b) room)
+          (λ t. absurd (never (miter-made room c p (leb-true _ _ t)) e))
+          (λ t. is noRoom 0 (sym (miter-short room c p (leb-false _ _ t)) ∙ e) (short (c .first) (c .second) k m l (leb-false _ _ t)))
+
   -- what stands in the buffer
   module _ (out : List ℕ) (k : ℕ) (good : miterOutcome na a nb b (length out) ≡ served k) where
     abbrev m : MiterServed na a nb b (length out) k
@@ -143,5 +163,6 @@ miter-laws =
     record {
       identity = λ a b s. (identity-agree a b s, agree-identity a b s);
       miter-served = λ na a nb b room k. (miter-served na a nb b room k, served-miter na a nb b room k);
+      miter-refused = λ na a nb b room number place. (miter-fault na a nb b room number place, fault-miter na a nb b room number place);
       miter-stands = miter-stands;
     }

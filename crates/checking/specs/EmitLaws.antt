@@ -1,0 +1,33 @@
+-- What is proved of the answers of sizes and emission, in document 01's words.
+use mathlib.Core.Path.{_≡_}
+use mathlib.Core.Logic.{_↔_}
+use mathlib.Core.List.{List}
+use Prim.Native.Nat.{ℕ, _<_, _≤_}
+use lib.ListN.{length}
+use Rattle.circuit.specs.Gate.{maxMiterGates}
+use Rattle.circuit.specs.Outcome.{served, refused}
+use Rattle.circuit.specs.Words.{gatesOf, Cascade, WordsFault}
+use Rattle.checking.specs.declared.clauses.Totals.{Totals}
+use Rattle.checking.specs.Clauses.{clausesOf, variablesOf}
+use Rattle.checking.specs.Stored.{stored}
+use Rattle.checking.specs.Sizes.{totals, sizesOutcome}
+use Rattle.checking.specs.Emit.{emitOutcome}
+
+-- a cascade of at most 2,048 gates; t has the variables, clauses and words of its list
+pub record Counted (n : ℕ) (ws : List ℕ) (t : Totals) : Type 0 where
+  pub gates : ℕ
+  pub good : Cascade n ws maxMiterGates gates
+  pub sizes : t ≡ totals (variablesOf n (gatesOf ws)) (length (clausesOf n (gatesOf ws))) (length (stored (clausesOf n (gatesOf ws))))
+
+-- what is wrong with an emission: with the words, or 10 for a cascade and a buffer of fewer words than its list has
+pub data EmitFault (n : ℕ) (ws : List ℕ) (room : ℕ) : ℕ → ℕ → Type 0 where
+  words-fault : {number place : ℕ} → WordsFault n ws maxMiterGates number place → EmitFault n ws room number place
+  short : (k : ℕ) → Cascade n ws maxMiterGates k → room < length (stored (clausesOf n (gatesOf ws))) → EmitFault n ws room 10 0
+
+pub record EmitLaws : Type 0 where
+  -- sizes: served exactly for a cascade, else refused by what is wrong
+  pub sizes-served : (n : ℕ) (ws : List ℕ) (t : Totals) → (sizesOutcome n ws ≡ served t) ↔ Counted n ws t
+  pub sizes-refused : (n : ℕ) (ws : List ℕ) (number place : ℕ) → (sizesOutcome n ws ≡ refused number place) ↔ WordsFault n ws maxMiterGates number place
+  -- emission: served exactly where the buffer has room besides, else refused by what is wrong
+  pub emit-served : (n : ℕ) (ws : List ℕ) (room : ℕ) (t : Totals) → (emitOutcome n ws room ≡ served t) ↔ ((Counted n ws t) × (t .words ≤ room))
+  pub emit-refused : (n : ℕ) (ws : List ℕ) (room number place : ℕ) → (emitOutcome n ws room ≡ refused number place) ↔ EmitFault n ws room number place
