@@ -1,6 +1,6 @@
 -- A reduction's answer in C.
 use Prim.Native.Nat.{ℕ}
-use Rattle.circuit.specs.Outcome.{Outcome, served, refused}
+use Rattle.gates.specs.Outcome.{Outcome, served, refused}
 use Rattle.reduction.specs.Reduce.{Reduced}
 use Rattle.capi.specs.declared.reduce.CascadeReduceAnswer.{CascadeReduceAnswer}
 

@@ -1,11 +1,11 @@
 // cascade_first_difference, cascade_differs, cascade_fewer_gates.
 
+use checking::compare::DifferenceAnswer;
+use checking::compare::DiffersAnswer;
+use checking::compare::RefusalAnswer;
 use circuit::gate::Gate;
-use diagnosis::compare::DifferenceAnswer;
-use diagnosis::compare::DiffersAnswer;
-use diagnosis::compare::RefusalAnswer;
 ghost use mathlib.Core.Path.{_≡_};
-ghost use Rattle.circuit.specs.Words.{pairOutcome};
+ghost use Rattle.gates.specs.Words.{pairOutcome};
 ghost use Rattle.diagnosis.specs.Compare.{differenceOutcome, differsOutcome};
 ghost use Rattle.capi.specs.Compare.{stateAnswer, differsAnswer, fewerAnswer};
 
@@ -41,7 +41,7 @@ pub extern "C" fn cascade_first_difference(
 ) -> CascadeStateAnswer
     ensures { λ r. ⌜ r ≡ stateAnswer (differenceOutcome na (now (a .entry)) nb (now (b .entry))) ⌝ }
 {
-    match diagnosis::compare::first_difference(na, a, nb, b) {
+    match checking::compare::first_difference(na, a, nb, b) {
         DifferenceAnswer::State(state) => CascadeStateAnswer {
             number: 0,
             place: 0,
@@ -73,7 +73,7 @@ pub extern "C" fn cascade_differs(
 ) -> CascadeDiffersAnswer
     ensures { λ r. ⌜ r ≡ differsAnswer (differsOutcome na (now (a .entry)) nb (now (b .entry)) state) ⌝ }
 {
-    match diagnosis::compare::differs(na, a, nb, b, state) {
+    match checking::compare::differs(na, a, nb, b, state) {
         DiffersAnswer::Differ => CascadeDiffersAnswer {
             number: 0,
             place: 0,
@@ -102,7 +102,7 @@ pub extern "C" fn cascade_fewer_gates<'a>(
 ) -> CascadeFewerAnswer
     ensures { λ r. ⌜ r ≡ fewerAnswer (pairOutcome na (now (a .entry)) nb (now (b .entry))) ⌝ }
 {
-    match diagnosis::compare::fewer_gates_refusal(na, a, nb, b) {
+    match checking::compare::fewer_gates_refusal(na, a, nb, b) {
         RefusalAnswer::Refused(why) => CascadeFewerAnswer {
             number: why.number,
             place: why.place,
@@ -110,7 +110,7 @@ pub extern "C" fn cascade_fewer_gates<'a>(
             gates: 0,
         },
         RefusalAnswer::Nothing => {
-            let words = diagnosis::compare::fewer_gates(na, a, nb, b).len();
+            let words = checking::compare::fewer_gates(na, a, nb, b).len();
             let gates = (words / Gate::WORDS) as u64;
             if words < a.len() {
                 return CascadeFewerAnswer {

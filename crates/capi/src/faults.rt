@@ -2,7 +2,7 @@
 
 use crate::count::CascadeCountAnswer;
 ghost use lib.ListN.{length};
-ghost use Rattle.circuit.specs.Outcome.{Yields};
+ghost use Rattle.gates.specs.Outcome.{Yields};
 ghost use Rattle.diagnosis.specs.Faults.{faultOutcome, faultBuffer};
 ghost use Rattle.capi.specs.Count.{countAnswer};
 
@@ -17,7 +17,7 @@ pub extern "C" fn cascade_fault_masks(
 ) -> CascadeCountAnswer
     ensures { λ r. ⌜ Yields r (now (out .exit)) (countAnswer (faultOutcome na (now (suspect .entry)) nb (now (reference .entry)) (now (states .entry)) (length (now (out .entry))))) (faultBuffer na (now (suspect .entry)) nb (now (reference .entry)) (now (states .entry)) (now (out .entry))) ⌝ }
 {
-    crate::count::count_answer(diagnosis::faults::fault_masks(
+    crate::count::count_answer(checking::faults::fault_masks(
         na,
         suspect,
         nb,

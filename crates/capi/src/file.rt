@@ -1,10 +1,10 @@
 // cascade_read and cascade_write.
 
-use files::file::ReadAnswer;
-use files::file::WriteAnswer;
+use circuit::file::ReadAnswer;
+use circuit::file::WriteAnswer;
 ghost use lib.ListN.{length};
-ghost use Rattle.circuit.specs.Outcome.{Yields};
-ghost use Rattle.files.specs.File.{readOutcome, readBuffer, writeOutcome, writeBuffer};
+ghost use Rattle.gates.specs.Outcome.{Yields};
+ghost use Rattle.circuit.specs.File.{readOutcome, readBuffer, writeOutcome, writeBuffer};
 ghost use Rattle.capi.specs.File.{readAnswer, writeAnswer};
 
 #[repr(C)]
@@ -27,7 +27,7 @@ pub struct CascadeWriteAnswer {
 pub extern "C" fn cascade_read(text: &[u8], out: &mut [u64]) -> CascadeReadAnswer
     ensures { λ r. ⌜ Yields r (now (out .exit)) (readAnswer (readOutcome (now (text .entry)) (length (now (out .entry))))) (readBuffer (now (text .entry)) (now (out .entry))) ⌝ }
 {
-    match files::file::read(text, out) {
+    match circuit::file::read(text, out) {
         ReadAnswer::Cascade {
             header,
             gates,
@@ -53,7 +53,7 @@ pub extern "C" fn cascade_read(text: &[u8], out: &mut [u64]) -> CascadeReadAnswe
 pub extern "C" fn cascade_write(lines: u64, words: &[u64], out: &mut [u8]) -> CascadeWriteAnswer
     ensures { λ r. ⌜ Yields r (now (out .exit)) (writeAnswer (writeOutcome lines (now (words .entry)) (length (now (out .entry))))) (writeBuffer lines (now (words .entry)) (now (out .entry))) ⌝ }
 {
-    match files::file::write(lines, words, out) {
+    match circuit::file::write(lines, words, out) {
         WriteAnswer::Bytes(written) => CascadeWriteAnswer {
             number: 0,
             place: 0,

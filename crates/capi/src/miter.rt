@@ -2,7 +2,7 @@
 
 use crate::count::CascadeCountAnswer;
 ghost use lib.ListN.{length};
-ghost use Rattle.circuit.specs.Outcome.{Yields};
+ghost use Rattle.gates.specs.Outcome.{Yields};
 ghost use Rattle.reduction.specs.Miter.{miterOutcome, miterBuffer};
 ghost use Rattle.capi.specs.Count.{countAnswer};
 
@@ -16,5 +16,5 @@ pub extern "C" fn cascade_miter(
 ) -> CascadeCountAnswer
     ensures { λ r. ⌜ Yields r (now (out .exit)) (countAnswer (miterOutcome na (now (a .entry)) nb (now (b .entry)) (length (now (out .entry))))) (miterBuffer na (now (a .entry)) nb (now (b .entry)) (now (out .entry))) ⌝ }
 {
-    crate::count::count_answer(reduction::miter::miter(na, a, nb, b, out))
+    crate::count::count_answer(checking::miter::miter(na, a, nb, b, out))
 }

@@ -1,7 +1,7 @@
 // cascade_reduce.
 
-use reduction::reduce::ReduceAnswer;
-ghost use Rattle.circuit.specs.Outcome.{Yields};
+use checking::reduce::ReduceAnswer;
+ghost use Rattle.gates.specs.Outcome.{Yields};
 ghost use Rattle.reduction.specs.Reduce.{reduceOutcome, reduceBuffer};
 ghost use Rattle.capi.specs.Reduce.{reduceAnswer};
 
@@ -18,7 +18,7 @@ pub struct CascadeReduceAnswer {
 pub extern "C" fn cascade_reduce(lines: u64, words: &mut [u64]) -> CascadeReduceAnswer
     ensures { λ r. ⌜ Yields r (now (words .exit)) (reduceAnswer (reduceOutcome lines (now (words .entry)))) (reduceBuffer lines (now (words .entry))) ⌝ }
 {
-    match reduction::reduce::reduce(lines, words) {
+    match checking::reduce::reduce(lines, words) {
         ReduceAnswer::Reduced {
             gates,
             pairs,

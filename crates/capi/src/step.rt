@@ -1,9 +1,9 @@
 // cascade_step.
 
-use reduction::step::Kind;
-use reduction::step::StepAnswer;
+use checking::step::Kind;
+use checking::step::StepAnswer;
 ghost use mathlib.Core.Path.{_≡_};
-ghost use Rattle.circuit.specs.Outcome.{Yields};
+ghost use Rattle.gates.specs.Outcome.{Yields};
 ghost use Rattle.reduction.specs.Step.{stepOutcome, stepBuffer};
 ghost use Rattle.capi.specs.Step.{kindNumber, stepAnswer};
 
@@ -33,7 +33,7 @@ fn kind_number(kind: Kind) -> u64
 pub extern "C" fn cascade_step(lines: u64, words: &mut [u64]) -> CascadeStepAnswer
     ensures { λ r. ⌜ Yields r (now (words .exit)) (stepAnswer (stepOutcome lines (now (words .entry)))) (stepBuffer lines (now (words .entry))) ⌝ }
 {
-    match reduction::step::step(lines, words) {
+    match checking::step::step(lines, words) {
         StepAnswer::Found { i, j, kind, gates } => CascadeStepAnswer {
             number: 0,
             place: 0,

@@ -9,13 +9,13 @@ use lib.IntN.{ℤ}
 use lib.ListN.{length, take, drop}
 use borrow.Author.Tests.{le-leb}
 use Rattle.bits.specs.Lists.{over}
-use Rattle.circuit.specs.declared.gate.Gate.{Gate}
-use Rattle.circuit.specs.Gate.{maxLines, maxMiterGates}
-use Rattle.circuit.specs.Outcome.{Outcome, served, refused, written}
-use Rattle.circuit.specs.Words.{gatesOf, allValid, checkOutcome, Cascade}
-use Rattle.circuit.specs.Run.{run}
-use Rattle.circuit.proofs.Outcome.{demand-met, then-served, then-refused}
-use Rattle.circuit.proofs.words.Laws.{check-served, served-check, valid-all-more}
+use Rattle.gates.specs.declared.gate.Gate.{Gate}
+use Rattle.gates.specs.Gate.{maxLines, maxMiterGates}
+use Rattle.gates.specs.Outcome.{Outcome, served, refused, written}
+use Rattle.gates.specs.Words.{gatesOf, allValid, checkOutcome, Cascade}
+use Rattle.gates.specs.Run.{run}
+use Rattle.gates.proofs.Outcome.{demand-met, then-served, then-refused}
+use Rattle.gates.proofs.words.Laws.{check-served, served-check, valid-all-more}
 use Rattle.checking.specs.declared.clauses.Totals.{Totals}
 use Rattle.reduction.specs.Miter.{miterGates, miterOutcome, miterBuffer}
 use Rattle.reduction.specs.Step.{Step, found, none, stepGates, counted, stepOutcome, stepBuffer}

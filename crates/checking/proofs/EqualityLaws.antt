@@ -8,12 +8,12 @@ use lib.IntN.{ℤ, pos}
 use lib.ListN.{length, take, drop, replicate, length-replicate}
 use borrow.Author.Tests.{le-leb}
 use Rattle.bits.specs.Lists.{fold, over}
-use Rattle.circuit.specs.declared.gate.Gate.{Gate}
-use Rattle.circuit.specs.Gate.{maxGates}
-use Rattle.circuit.specs.Outcome.{Outcome, served, written}
-use Rattle.circuit.specs.Words.{gatesOf, allValid, Cascade}
-use Rattle.circuit.specs.Run.{run}
-use Rattle.circuit.proofs.Outcome.{demand-met}
+use Rattle.gates.specs.declared.gate.Gate.{Gate}
+use Rattle.gates.specs.Gate.{maxGates}
+use Rattle.gates.specs.Outcome.{Outcome, served, written}
+use Rattle.gates.specs.Words.{gatesOf, allValid, Cascade}
+use Rattle.gates.specs.Run.{run}
+use Rattle.gates.proofs.Outcome.{demand-met}
 use Rattle.checking.specs.declared.clauses.Totals.{Totals}
 use Rattle.checking.specs.Clauses.{Clause, clausesOf, variablesOf}
 use Rattle.checking.specs.Stored.{stored, clausesIn, clausesRead}

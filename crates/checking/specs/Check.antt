@@ -5,9 +5,9 @@ use Prim.Native.Nat.{ℕ, zero, suc, _+_, _*_, _≤_}
 use lib.IntN.{ℤ}
 use lib.ListN.{length, take}
 use Rattle.bits.specs.Lists.{over}
-use Rattle.circuit.specs.Gate.{maxGates}
-use Rattle.circuit.specs.Outcome.{Outcome, served, refused, andThen}
-use Rattle.circuit.specs.Words.{Cascade}
+use Rattle.gates.specs.Gate.{maxGates}
+use Rattle.gates.specs.Outcome.{Outcome, served, refused, andThen}
+use Rattle.gates.specs.Words.{Cascade}
 use Rattle.checking.specs.declared.clauses.Totals.{Totals}
 use Rattle.reduction.specs.Miter.{miterOutcome, miterBuffer}
 use Rattle.reduction.specs.Step.{Step, found, none, stepOutcome, stepBuffer}

@@ -5,7 +5,7 @@ use circuit::gate::Gate;
 use circuit::words::CountAnswer;
 ghost use Prim.Native.Nat.{_*_, _≤_};
 ghost use lib.ListN.{length};
-ghost use Rattle.circuit.specs.Outcome.{Yields};
+ghost use Rattle.gates.specs.Outcome.{Yields};
 ghost use Rattle.checking.specs.Check.{callOf, callsOf, called, calledAll, Checks};
 ghost use Rattle.checking.specs.Sizes.{ofSizes};
 use reduction::reduce::ReduceAnswer;

@@ -1,7 +1,6 @@
-pub mod Refusal
-pub mod Outcome
-pub mod Gate
-pub mod Words
-pub mod Run
-pub mod Inverse
-pub mod Laws
+pub mod Text
+pub mod File
+pub mod FileLaws
+pub mod Scan
+pub mod Fill
+pub mod Put

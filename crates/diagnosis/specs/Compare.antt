@@ -4,11 +4,11 @@ use mathlib.Core.Bool.{Bool, true, false, not, cond}
 use mathlib.Core.List.{List, []}
 use Prim.Native.Nat.{ℕ, zero, suc, _+_, _^_, _<_}
 use lib.Dec.{eqb, leb, ltb}
-use Rattle.circuit.specs.declared.gate.Gate.{Gate}
-use Rattle.circuit.specs.Outcome.{Outcome, served, refused, demand, andThen}
-use Rattle.circuit.specs.Refusal.{badState, tooWide}
-use Rattle.circuit.specs.Words.{gatesOf, Counts, pairOutcome}
-use Rattle.circuit.specs.Run.{run, Equal, Differs}
+use Rattle.gates.specs.declared.gate.Gate.{Gate}
+use Rattle.gates.specs.Outcome.{Outcome, served, refused, demand, andThen}
+use Rattle.gates.specs.Refusal.{badState, tooWide}
+use Rattle.gates.specs.Words.{gatesOf, Counts, pairOutcome}
+use Rattle.gates.specs.Run.{run, Equal, Differs}
 use Rattle.diagnosis.specs.declared.compare.DifferenceAnswer.{DifferenceAnswer}
 use Rattle.diagnosis.specs.declared.compare.DifferenceAnswer.the-variants as difference
 use Rattle.diagnosis.specs.declared.compare.DiffersAnswer.{DiffersAnswer}

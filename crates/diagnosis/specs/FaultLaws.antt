@@ -7,11 +7,11 @@ use Prim.Native.Nat.{ℕ, _+_, _*_, _-_, _^_, _<_, _≤_}
 use lib.Bits.{bitOr}
 use lib.ListN.{length, take, drop, getD}
 use Rattle.bits.specs.Digits.{bit}
-use Rattle.circuit.specs.declared.gate.Gate.{Gate}
-use Rattle.circuit.specs.Gate.{maxLines, notGate, valid, fires, apply}
-use Rattle.circuit.specs.Outcome.{served}
-use Rattle.circuit.specs.Words.{allValid}
-use Rattle.circuit.specs.Run.{run, Differs}
+use Rattle.gates.specs.declared.gate.Gate.{Gate}
+use Rattle.gates.specs.Gate.{maxLines, notGate, valid, fires, apply}
+use Rattle.gates.specs.Outcome.{served}
+use Rattle.gates.specs.Words.{allValid}
+use Rattle.gates.specs.Run.{run, Differs}
 use Rattle.diagnosis.specs.Compare.{Difference, none, lowestFrom, Says}
 use Rattle.diagnosis.specs.Faults.{isFree, missing, maskWhere, faultMasks}
 

@@ -6,12 +6,12 @@ use lib.Dec.{eqb, leb, ltb}
 use lib.Bits.{bitAnd, bitXor}
 use lib.ListN.{length}
 use Rattle.bits.specs.Digits.{bit}
-use Rattle.circuit.specs.declared.gate.Gate.{Gate}
-use Rattle.circuit.specs.Gate.{maxLines, fires, apply}
-use Rattle.circuit.specs.Outcome.{Outcome, served, demand, andThen, written}
-use Rattle.circuit.specs.Refusal.{badState, agreeingState, noRoom}
-use Rattle.circuit.specs.Words.{gatesOf, pairOutcome}
-use Rattle.circuit.specs.Run.{run}
+use Rattle.gates.specs.declared.gate.Gate.{Gate}
+use Rattle.gates.specs.Gate.{maxLines, fires, apply}
+use Rattle.gates.specs.Outcome.{Outcome, served, demand, andThen, written}
+use Rattle.gates.specs.Refusal.{badState, agreeingState, noRoom}
+use Rattle.gates.specs.Words.{gatesOf, pairOutcome}
+use Rattle.gates.specs.Run.{run}
 use Rattle.diagnosis.specs.Compare.{outputsDiffer}
 
 -- line k is neither target nor control

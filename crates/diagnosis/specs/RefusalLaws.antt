@@ -4,10 +4,10 @@ use mathlib.Core.Logic.{_↔_}
 use mathlib.Core.List.{List}
 use Prim.Native.Nat.{ℕ, _*_, _^_, _<_, _≤_}
 use lib.ListN.{length, getD}
-use Rattle.circuit.specs.Gate.{maxGates}
-use Rattle.circuit.specs.Outcome.{refused}
-use Rattle.circuit.specs.Words.{gatesOf, Cascade, PairFault}
-use Rattle.circuit.specs.Run.{run}
+use Rattle.gates.specs.Gate.{maxGates}
+use Rattle.gates.specs.Outcome.{refused}
+use Rattle.gates.specs.Words.{gatesOf, Cascade, PairFault}
+use Rattle.gates.specs.Run.{run}
 use Rattle.diagnosis.specs.Compare.{differenceOutcome, differsOutcome, pickOutcome}
 use Rattle.diagnosis.specs.Faults.{faultOutcome}
 

@@ -6,10 +6,10 @@ use circuit::words::PairAnswer;
 ghost use mathlib.Core.Bool.{true};
 ghost use mathlib.Core.Path.{_≡_};
 ghost use denote.Ref.{ptr};
-ghost use Rattle.circuit.specs.Gate.{maxLines, valid, fires, apply};
-ghost use Rattle.circuit.specs.Words.{gatesOf, allValid, pairOutcome};
-ghost use Rattle.circuit.specs.Run.{run};
-ghost use Rattle.circuit.specs.Outcome.{served};
+ghost use Rattle.gates.specs.Gate.{maxLines, valid, fires, apply};
+ghost use Rattle.gates.specs.Words.{gatesOf, allValid, pairOutcome};
+ghost use Rattle.gates.specs.Run.{run};
+ghost use Rattle.gates.specs.Outcome.{served};
 ghost use Rattle.diagnosis.specs.Compare.{lowestFrom, outputsDiffer, Sweeps, Picks, differsOutcome, pickOutcome, ofDifference, ofDiffers, ofRefusal};
 
 // The lowest state on which two cascades differ (01: sweep), none, or a refusal.

@@ -11,10 +11,10 @@ ghost use Prim.Native.Nat.{_*_, _-_, _≤_, _^_};
 ghost use lib.Dec.{ltb};
 ghost use lib.ListN.{length};
 ghost use Rattle.bits.specs.Lists.{over};
-ghost use Rattle.circuit.specs.Gate.{maxLines, valid};
-ghost use Rattle.circuit.specs.Outcome.{Yields};
-ghost use Rattle.circuit.specs.Refusal.{badState, agreeingState};
-ghost use Rattle.circuit.specs.Words.{gatesOf, allValid, ofCount};
+ghost use Rattle.gates.specs.Gate.{maxLines, valid};
+ghost use Rattle.gates.specs.Outcome.{Yields};
+ghost use Rattle.gates.specs.Refusal.{badState, agreeingState};
+ghost use Rattle.gates.specs.Words.{gatesOf, allValid, ofCount};
 ghost use Rattle.diagnosis.specs.Compare.{outputsDiffer};
 ghost use Rattle.diagnosis.specs.Faults.{isFree, maskWhere, masksFrom, eachFrom, faultCheck, faultOutcome, faultBuffer, kept, narrowed, narrowedBy};
 

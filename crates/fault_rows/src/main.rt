@@ -1,8 +1,8 @@
 // Faults and differences of the network 3_17: a line for each answer, and a line for the masks.
 
+use checking::compare::DifferenceAnswer;
+use checking::compare::DiffersAnswer;
 use circuit::words::CountAnswer;
-use diagnosis::compare::DifferenceAnswer;
-use diagnosis::compare::DiffersAnswer;
 use libc::STDOUT_FILENO;
 
 fn print_pair(name: &[u8], number: u64, place: u64) {
@@ -26,7 +26,7 @@ fn print_words(words: &[u64]) {
 }
 
 fn print_first_difference(lines: u64, a: &[u64], b: &[u64]) {
-    match diagnosis::compare::first_difference(lines, a, lines, b) {
+    match checking::compare::first_difference(lines, a, lines, b) {
         DifferenceAnswer::State(state) => print_pair(b"first difference ", state, 0),
         DifferenceAnswer::Nothing => {
             io::write_all(STDOUT_FILENO, b"none\n");
@@ -36,7 +36,7 @@ fn print_first_difference(lines: u64, a: &[u64], b: &[u64]) {
 }
 
 fn print_differs(lines: u64, a: &[u64], b: &[u64], state: u64) {
-    match diagnosis::compare::differs(lines, a, lines, b, state) {
+    match checking::compare::differs(lines, a, lines, b, state) {
         DiffersAnswer::Differ => print_pair(b"differ ", state, 0),
         DiffersAnswer::Agree => print_pair(b"agree ", state, 0),
         DiffersAnswer::Refused(why) => print_pair(b"refused ", why.number, why.place),
@@ -46,7 +46,7 @@ fn print_differs(lines: u64, a: &[u64], b: &[u64], state: u64) {
 // The answer, and then the buffer of thirteen words that held 9.
 fn print_masks(lines: u64, suspect: &[u64], reference: &[u64], states: &[u64]) {
     let mut out = [9u64; 13];
-    match diagnosis::faults::fault_masks(lines, suspect, lines, reference, states, &mut out) {
+    match checking::faults::fault_masks(lines, suspect, lines, reference, states, &mut out) {
         CountAnswer::Gates(gates) => print_pair(b"gates ", gates as u64, 0),
         CountAnswer::Refused(why) => print_pair(b"refused ", why.number, why.place),
     }

@@ -1,7 +1,7 @@
 // Runs of rows on cascade files: a line for each, with what was read or the refusal's number and place.
 
-use files::file::ReadAnswer;
-use files::file::WriteAnswer;
+use circuit::file::ReadAnswer;
+use circuit::file::WriteAnswer;
 use libc::STDOUT_FILENO;
 ghost use Prim.Native.Nat.{_≤_};
 ghost use lib.ListN.{length};
@@ -16,7 +16,7 @@ fn print_pair(name: &[u8], first: u64, second: u64) {
 // Lines, gates and bytes taken.
 fn print_read(text: &[u8]) {
     let mut out = [0u64; 3072];
-    match files::file::read(text, &mut out) {
+    match circuit::file::read(text, &mut out) {
         ReadAnswer::Cascade {
             header,
             gates,
@@ -87,7 +87,7 @@ fn print_long(gates: usize, last: &[u8]) {
 // The text of a cascade in a buffer of 32 bytes.
 fn print_write(lines: u64, words: &[u64]) {
     let mut out = [0u8; 32];
-    match files::file::write(lines, words, &mut out) {
+    match circuit::file::write(lines, words, &mut out) {
         WriteAnswer::Bytes(written) => {
             if written <= 32 {
                 io::write_all(STDOUT_FILENO, &out[0..written]);

@@ -5,9 +5,9 @@ use mathlib.Core.List.{List, [], _∷_}
 use Prim.Native.Nat.{ℕ}
 use native.Mathlib.Omega.{arith}
 use lib.ListN.{length}
-use Rattle.circuit.specs.declared.gate.Gate.{Gate}
-use Rattle.circuit.specs.Gate.{maxLines, notGate, valid}
-use Rattle.circuit.specs.Words.{allValid}
+use Rattle.gates.specs.declared.gate.Gate.{Gate}
+use Rattle.gates.specs.Gate.{maxLines, notGate, valid}
+use Rattle.gates.specs.Words.{allValid}
 use Rattle.reduction.specs.declared.step.Kind.the-variants.{Cancel}
 use Rattle.reduction.specs.Step.{differing, matchOf, scanFrom, searchFrom, replaced, found, none, stepGates}
 use Rattle.reduction.specs.Reduce.{Reduced, reduceBy, reduceGates}

@@ -3,11 +3,11 @@ use mathlib.Core.List.{List, _++_}
 use Prim.Native.Nat.{ℕ, _+_}
 use lib.Dec.{leb}
 use lib.ListN.{length}
-use Rattle.circuit.specs.declared.gate.Gate.{Gate}
-use Rattle.circuit.specs.Outcome.{Outcome, served, demand, andThen, written}
-use Rattle.circuit.specs.Refusal.{noRoom}
-use Rattle.circuit.specs.Words.{gatesOf, wordsOf, pairOutcome}
-use Rattle.circuit.specs.Inverse.{inverse}
+use Rattle.gates.specs.declared.gate.Gate.{Gate}
+use Rattle.gates.specs.Outcome.{Outcome, served, demand, andThen, written}
+use Rattle.gates.specs.Refusal.{noRoom}
+use Rattle.gates.specs.Words.{gatesOf, wordsOf, pairOutcome}
+use Rattle.gates.specs.Inverse.{inverse}
 
 abbrev pub miterGates : List Gate → List Gate → List Gate
 miterGates a b = a ++ inverse b

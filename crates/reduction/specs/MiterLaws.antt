@@ -4,11 +4,11 @@ use mathlib.Core.Logic.{_↔_}
 use mathlib.Core.List.{List}
 use Prim.Native.Nat.{ℕ, _+_, _*_, _≤_, _<_}
 use lib.ListN.{length, take, drop}
-use Rattle.circuit.specs.declared.gate.Gate.{Gate}
-use Rattle.circuit.specs.Gate.{maxGates, maxMiterGates}
-use Rattle.circuit.specs.Outcome.{served, refused}
-use Rattle.circuit.specs.Words.{gatesOf, Cascade, PairFault}
-use Rattle.circuit.specs.Run.{run}
+use Rattle.gates.specs.declared.gate.Gate.{Gate}
+use Rattle.gates.specs.Gate.{maxGates, maxMiterGates}
+use Rattle.gates.specs.Outcome.{served, refused}
+use Rattle.gates.specs.Words.{gatesOf, Cascade, PairFault}
+use Rattle.gates.specs.Run.{run}
 use Rattle.reduction.specs.Miter.{miterGates, miterOutcome, miterBuffer}
 
 -- two cascades on as many lines, and room for the words of both; k gates in all

@@ -2,10 +2,10 @@
 use mathlib.Core.List.{List}
 use Prim.Native.Nat.{ℕ, zero, suc, _+_}
 use lib.ListN.{length}
-use Rattle.circuit.specs.declared.gate.Gate.{Gate}
-use Rattle.circuit.specs.Gate.{maxMiterGates}
-use Rattle.circuit.specs.Outcome.{Outcome, served, refused, andThen}
-use Rattle.circuit.specs.Words.{gatesOf, checkOutcome}
+use Rattle.gates.specs.declared.gate.Gate.{Gate}
+use Rattle.gates.specs.Gate.{maxMiterGates}
+use Rattle.gates.specs.Outcome.{Outcome, served, refused, andThen}
+use Rattle.gates.specs.Words.{gatesOf, checkOutcome}
 use Rattle.reduction.specs.declared.step.Kind.{Kind}
 use Rattle.reduction.specs.declared.step.Kind.the-variants.{Cancel, RemoveControl, InvertControl}
 use Rattle.reduction.specs.declared.reduce.Reduction.{Reduction}

@@ -5,10 +5,10 @@ use mathlib.Core.Bool.{true}
 use mathlib.Core.List.{List}
 use Prim.Native.Nat.{ℕ, _+_, _*_, _≤_}
 use lib.ListN.{length}
-use Rattle.circuit.specs.declared.gate.Gate.{Gate}
-use Rattle.circuit.specs.Gate.{maxLines, maxMiterGates}
-use Rattle.circuit.specs.Outcome.{served, refused}
-use Rattle.circuit.specs.Words.{gatesOf, allValid, Cascade, WordsFault}
+use Rattle.gates.specs.declared.gate.Gate.{Gate}
+use Rattle.gates.specs.Gate.{maxLines, maxMiterGates}
+use Rattle.gates.specs.Outcome.{served, refused}
+use Rattle.gates.specs.Words.{gatesOf, allValid, Cascade, WordsFault}
 use Rattle.reduction.specs.declared.step.Kind.the-variants.{Cancel, RemoveControl, InvertControl}
 use Rattle.reduction.specs.Step.{found, none}
 use Rattle.reduction.specs.Reduce.{Reduced, reduceGates, numbered, reduceOutcome, reduceBuffer}

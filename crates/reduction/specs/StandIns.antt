@@ -3,9 +3,9 @@ use mathlib.Core.Path.{_≡_}
 use mathlib.Core.Bool.{true}
 use mathlib.Core.List.{List}
 use Prim.Native.Nat.{ℕ}
-use Rattle.circuit.specs.declared.gate.Gate.{Gate}
-use Rattle.circuit.specs.Gate.{maxLines}
-use Rattle.circuit.specs.Words.{allValid}
+use Rattle.gates.specs.declared.gate.Gate.{Gate}
+use Rattle.gates.specs.Gate.{maxLines}
+use Rattle.gates.specs.Words.{allValid}
 use Rattle.reduction.specs.Step.{Step, found, none, stepGates}
 use Rattle.reduction.specs.StepLaws.{Steps}
 use Rattle.reduction.specs.Reduce.{Reduced, continued, reduceGates}

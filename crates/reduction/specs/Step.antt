@@ -6,10 +6,10 @@ use lib.Dec.{eqb}
 use lib.Bits.{bitAnd, bitOr, bitXor}
 use lib.Count.{ones}
 use lib.ListN.{length, take, drop, replicate}
-use Rattle.circuit.specs.declared.gate.Gate.{Gate}
-use Rattle.circuit.specs.Gate.{maxMiterGates}
-use Rattle.circuit.specs.Outcome.{Outcome, served, refused, andThen}
-use Rattle.circuit.specs.Words.{gatesOf, wordsOf, checkOutcome}
+use Rattle.gates.specs.declared.gate.Gate.{Gate}
+use Rattle.gates.specs.Gate.{maxMiterGates}
+use Rattle.gates.specs.Outcome.{Outcome, served, refused, andThen}
+use Rattle.gates.specs.Words.{gatesOf, wordsOf, checkOutcome}
 use Rattle.reduction.specs.declared.step.Kind.{Kind}
 use Rattle.reduction.specs.declared.step.Kind.the-variants as kind
 use Rattle.reduction.specs.declared.step.Match.{Match}

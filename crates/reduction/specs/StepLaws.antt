@@ -6,11 +6,11 @@ use mathlib.Core.List.{List, [], _∷_}
 use Prim.Native.Nat.{ℕ, _+_, _*_, _<_, _≤_}
 use lib.ListN.{length, take, getD}
 use Rattle.bits.specs.Digits.{bit}
-use Rattle.circuit.specs.declared.gate.Gate.{Gate}
-use Rattle.circuit.specs.Gate.{maxLines, maxMiterGates, notGate, valid, apply}
-use Rattle.circuit.specs.Outcome.{served, refused}
-use Rattle.circuit.specs.Words.{gatesOf, allValid, Cascade, WordsFault}
-use Rattle.circuit.specs.Run.{run}
+use Rattle.gates.specs.declared.gate.Gate.{Gate}
+use Rattle.gates.specs.Gate.{maxLines, maxMiterGates, notGate, valid, apply}
+use Rattle.gates.specs.Outcome.{served, refused}
+use Rattle.gates.specs.Words.{gatesOf, allValid, Cascade, WordsFault}
+use Rattle.gates.specs.Run.{run}
 use Rattle.reduction.specs.declared.step.Kind.{Kind}
 use Rattle.reduction.specs.declared.step.Kind.the-variants as kind
 use Rattle.reduction.specs.declared.step.Match.{Match}

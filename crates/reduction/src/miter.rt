@@ -7,8 +7,8 @@ ghost use mathlib.Core.Path.{_≡_};
 ghost use Prim.Native.Nat.{_≤_};
 ghost use lib.ListN.{length};
 ghost use Rattle.bits.specs.Lists.{over};
-ghost use Rattle.circuit.specs.Outcome.{Yields};
-ghost use Rattle.circuit.specs.Words.{ofCount};
+ghost use Rattle.gates.specs.Outcome.{Yields};
+ghost use Rattle.gates.specs.Words.{ofCount};
 ghost use Rattle.reduction.specs.Miter.{miterOutcome, miterBuffer};
 
 // Writes the words at the buffer's start.

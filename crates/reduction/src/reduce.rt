@@ -9,9 +9,9 @@ ghost use mathlib.Core.Path.{_≡_};
 ghost use mathlib.Core.Bool.{true};
 ghost use Prim.Native.Nat.{_%_};
 ghost use lib.ListN.{length};
-ghost use Rattle.circuit.specs.Outcome.{Yields};
-ghost use Rattle.circuit.specs.Gate.{maxLines};
-ghost use Rattle.circuit.specs.Words.{gatesOf, allValid};
+ghost use Rattle.gates.specs.Outcome.{Yields};
+ghost use Rattle.gates.specs.Gate.{maxLines};
+ghost use Rattle.gates.specs.Words.{gatesOf, allValid};
 ghost use Rattle.reduction.specs.Step.{filled};
 ghost use Rattle.reduction.specs.Reduce.{reduceGates, numbered, reduceOutcome, reduceBuffer, ofReduction, ofReduce};
 

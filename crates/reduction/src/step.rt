@@ -11,9 +11,9 @@ ghost use lib.Count.{ones};
 ghost use lib.ListN.{length, take, drop, replicate};
 ghost use mathlib.Core.List.{[], _∷_, _++_};
 ghost use Rattle.bits.specs.Lists.{over};
-ghost use Rattle.circuit.specs.Outcome.{Yields};
-ghost use Rattle.circuit.specs.Gate.{maxLines};
-ghost use Rattle.circuit.specs.Words.{gatesOf, gateAt, allValid};
+ghost use Rattle.gates.specs.Outcome.{Yields};
+ghost use Rattle.gates.specs.Gate.{maxLines};
+ghost use Rattle.gates.specs.Words.{gatesOf, gateAt, allValid};
 ghost use Rattle.reduction.specs.Step.{mayPass, matchOf, scanFrom, searchFrom, replaced, filled, stepGates, counted, stepWords, stepOutcome, stepBuffer, ofStepped, ofStep};
 
 // Which match it was (01: pair, drop, turn).

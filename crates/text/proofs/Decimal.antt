@@ -7,7 +7,7 @@ use lib.Dec.{ltb}
 use lib.ListN.{length, length-append}
 use borrow.Author.Tests.{lt-ltb, le-ltb, ltb-true, ltb-false}
 use Rattle.bits.proofs.Bools.{either, cond-true, cond-false}
-use Rattle.files.specs.Text.{digit}
+use Rattle.circuit.specs.Text.{digit}
 use Rattle.text.specs.Dimacs.{decimalWithin, decimal}
 
 pub within-short : (most k : ℕ) → k < 10 → decimalWithin most k ≡ digit k ∷ []

@@ -10,10 +10,10 @@ use lib.IntN.{ℤ, pos, negsuc}
 use lib.ListN.{length}
 use borrow.Author.Tests.{ne-eqb, not-true, ltb-true, ltb-false}
 use Rattle.bits.proofs.Bools.{either, and-parts, both, cond-true, cond-false, refuted}
-use Rattle.files.specs.Text.{lineFeed, minus, digit}
-use Rattle.files.specs.File.{longer, isDigit, same}
-use Rattle.files.proofs.file.Lines.{free, free-append, longer-some}
-use Rattle.files.proofs.file.Numbers.{is-digit}
+use Rattle.circuit.specs.Text.{lineFeed, minus, digit}
+use Rattle.circuit.specs.File.{longer, isDigit, same}
+use Rattle.circuit.proofs.file.Lines.{free, free-append, longer-some}
+use Rattle.circuit.proofs.file.Numbers.{is-digit}
 use Rattle.checking.specs.Clauses.{Clause, OR, XOR}
 use Rattle.checking.specs.Satisfaction.{size, LiteralsWithin, ClausesWithin}
 use Rattle.text.specs.Dimacs.{blank, xorSign, problemWord, cnfWord, decimalWithin, decimal, literalText, literalsText, clauseText, clausesText, headerText, dimacsOf, partedBy, bothRead, thenRead, digitsRead, numberRead, signedRead, literalRead, literalsRead, clauseRead, linesRead, header, headerRead, headed, readLines, dimacsRead}

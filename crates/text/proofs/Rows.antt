@@ -1,8 +1,8 @@
 -- The fact about the table of rows. Assumes nothing.
 use mathlib.Core.Path.{refl}
 use Rattle.bits.specs.Digits.{bit}
-use Rattle.circuit.specs.Gate.{controlsBelow}
-use Rattle.files.specs.File.{linesOf, fieldsOf, same, numberOf, lineOf, controlOf, controlsFrom, among, risingFrom, maskOf, closedGate, gateFields, headerFields, readFrom, reading}
+use Rattle.gates.specs.Gate.{controlsBelow}
+use Rattle.circuit.specs.File.{linesOf, fieldsOf, same, numberOf, lineOf, controlOf, controlsFrom, among, risingFrom, maskOf, closedGate, gateFields, headerFields, readFrom, reading}
 use Rattle.checking.specs.Clauses.{moved, gatesClauses, usedAfter, currentAfter, targeted, upFrom, differenceClauses, clausesOf, variablesOf}
 use Rattle.checking.specs.Stored.{stored}
 use Rattle.text.specs.Dimacs.{decimalWithin, decimal, literalsText, clausesText, headerText, dimacsOf}

@@ -9,10 +9,10 @@ use lib.Dec.{eqb}
 use lib.IntN.{ℤ, pos, negsuc}
 use borrow.Author.Tests.{eqb-true, eqb-false}
 use Rattle.bits.proofs.Bools.{either, cond-true, cond-false}
-use Rattle.files.specs.Text.{lineFeed, minus, digit}
-use Rattle.files.specs.File.{longer, isDigit, same}
-use Rattle.files.proofs.file.Lines.{same-true}
-use Rattle.files.proofs.file.Numbers.{digit-bounds}
+use Rattle.circuit.specs.Text.{lineFeed, minus, digit}
+use Rattle.circuit.specs.File.{longer, isDigit, same}
+use Rattle.circuit.proofs.file.Lines.{same-true}
+use Rattle.circuit.proofs.file.Numbers.{digit-bounds}
 use Rattle.checking.specs.Clauses.{Clause, OR, XOR}
 use Rattle.text.specs.Dimacs.{blank, xorSign, problemWord, cnfWord, decimal, literalText, literalsText, clausesText, headerText, partedBy, bothRead, thenRead, digitsRead, numberRead, signedRead, literalRead, literalsRead, clauseRead, linesRead, Dimacs, Header, header, headerRead, headed, readLines, dimacsRead}
 use Rattle.text.proofs.Decimal.{decimal-short, decimal-long}

@@ -6,8 +6,8 @@ use Prim.Native.Nat.{ℕ, zero, suc, _+_, _*_, _-_, _/_, _%_}
 use lib.Dec.{eqb, ltb}
 use lib.IntN.{ℤ, pos, negsuc}
 use lib.ListN.{length}
-use Rattle.files.specs.Text.{lineFeed, minus, digit}
-use Rattle.files.specs.File.{longer, same, isDigit}
+use Rattle.circuit.specs.Text.{lineFeed, minus, digit}
+use Rattle.circuit.specs.File.{longer, same, isDigit}
 use Rattle.checking.specs.Clauses.{Clause, OR, XOR}
 
 -- ---- the text

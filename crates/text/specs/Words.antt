@@ -3,7 +3,7 @@ use mathlib.Core.Path.{_≡_}
 use mathlib.Core.List.{List, [], _∷_, _++_}
 use Prim.Native.Nat.{ℕ, zero, suc}
 use lib.IntN.{ℤ, pos, negsuc}
-use Rattle.files.specs.Text.{minus}
+use Rattle.circuit.specs.Text.{minus}
 use Rattle.checking.specs.Clauses.{Clause}
 use Rattle.checking.specs.Stored.{stored, Reading, clausesRead, badRecord, clausesIn}
 use Rattle.text.specs.Dimacs.{xorSign, literalsText, closing, clausesText}

@@ -2,13 +2,13 @@
 
 use checking::clauses::SizesAnswer;
 use checking::clauses::Totals;
+use circuit::file::ReadAnswer;
 use circuit::gate::Gate;
 use circuit::refusal::Refusal;
 use circuit::words::CountAnswer;
-use files::file::ReadAnswer;
 ghost use mathlib.Core.Path.{_≡_};
 ghost use lib.ListN.{length};
-ghost use Rattle.circuit.specs.Words.{gatesOf};
+ghost use Rattle.gates.specs.Words.{gatesOf};
 ghost use Rattle.text.specs.Tomiter.{maxWords, pairVerdict, secondVerdict, verdict};
 ghost use Rattle.text.specs.Answers.{FileWords, Says};
 
@@ -31,7 +31,7 @@ fn list_pair(na: u64, a: &[u64], nb: u64, b: &[u64], clauses: &mut [i16]) -> Lis
     ensures { λ r. ⌜ Says r (now (clauses .exit)) (pairVerdict na (gatesOf (now (a .entry))) nb (gatesOf (now (b .entry)))) ⌝ }
 {
     let mut room = [0u64; MITER_WORDS];
-    match reduction::miter::miter(na, a, nb, b, &mut room) {
+    match checking::miter::miter(na, a, nb, b, &mut room) {
         CountAnswer::Refused(why) => ListAnswer::Refused { why, file: 0 },
         CountAnswer::Gates(gates) => {
             let end = Gate::WORDS * gates;
@@ -50,7 +50,7 @@ fn list_second(n: u64, a: &[u64], text: &[u8], clauses: &mut [i16]) -> ListAnswe
     ensures { λ r. ⌜ Says r (now (clauses .exit)) (secondVerdict n (gatesOf (now (a .entry))) (now (text .entry))) ⌝ }
 {
     let mut b = [0u64; FILE_WORDS];
-    match files::file::read(text, &mut b) {
+    match circuit::file::read(text, &mut b) {
         ReadAnswer::Refused(why) => ListAnswer::Refused { why, file: 2 },
         ReadAnswer::Cascade {
             header,
@@ -79,7 +79,7 @@ pub(crate) fn list(input: &[u8], clauses: &mut [i16]) -> ListAnswer
         };
     }
     let mut a = [0u64; FILE_WORDS];
-    match files::file::read(input, &mut a) {
+    match circuit::file::read(input, &mut a) {
         ReadAnswer::Refused(why) => ListAnswer::Refused { why, file: 1 },
         ReadAnswer::Cascade {
             header,

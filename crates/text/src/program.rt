@@ -4,8 +4,8 @@ use crate::list::ListAnswer;
 ghost use mathlib.Core.List.{[], _∷_, _++_};
 ghost use Prim.Native.Nat.{_+_, _≤_};
 ghost use lib.ListN.{length};
-ghost use Rattle.files.specs.Text.{tab, lineFeed};
-ghost use Rattle.files.specs.Put.{Put};
+ghost use Rattle.circuit.specs.Text.{tab, lineFeed};
+ghost use Rattle.circuit.specs.Put.{Put};
 ghost use Rattle.text.specs.Dimacs.{decimal};
 ghost use Rattle.text.specs.Tomiter.{maxText, refusalText, tomiterText};
 

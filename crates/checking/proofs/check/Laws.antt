@@ -8,11 +8,11 @@ use lib.ListN.{length, take, drop, getD, length-drop}
 use lib.Seq.{length-take-le, take-append-le, take-at}
 use Rattle.bits.specs.Lists.{over}
 use Rattle.bits.proofs.Lists.{over-length}
-use Rattle.circuit.specs.declared.gate.Gate.{Gate}
-use Rattle.circuit.specs.Gate.{maxLines, maxMiterGates}
-use Rattle.circuit.specs.Outcome.{Outcome, served, refused, Yields}
-use Rattle.circuit.specs.Words.{gatesOf, checkOutcome, Cascade}
-use Rattle.circuit.proofs.words.Laws.{check-served, valid-all-more, gates-length}
+use Rattle.gates.specs.declared.gate.Gate.{Gate}
+use Rattle.gates.specs.Gate.{maxLines, maxMiterGates}
+use Rattle.gates.specs.Outcome.{Outcome, served, refused, Yields}
+use Rattle.gates.specs.Words.{gatesOf, checkOutcome, Cascade}
+use Rattle.gates.proofs.words.Laws.{check-served, valid-all-more, gates-length}
 use Rattle.reduction.specs.Step.{Step, found, none, stepGates, counted, stepOutcome, stepBuffer}
 use Rattle.reduction.specs.StepLaws.{Stands}
 use Rattle.reduction.specs.Reduce.{Reduced, reduceGates, reduceOutcome, reduceBuffer}

@@ -7,14 +7,14 @@ use native.Mathlib.Omega.{arith}
 use lib.Dec.{eqb, ltb}
 use borrow.Author.Tests.{eqb-true, eqb-false, eq-eqb, ne-eqb, not-true, not-false, le-leb, lt-leb, ltb-true, ltb-false}
 use Rattle.bits.proofs.Bools.{either, cond-true, cond-false}
-use Rattle.circuit.specs.declared.gate.Gate.{Gate}
-use Rattle.circuit.specs.Gate.{maxLines}
-use Rattle.circuit.specs.Outcome.{Outcome, served, refused}
-use Rattle.circuit.specs.Refusal.{badState, tooWide}
-use Rattle.circuit.specs.Words.{gatesOf, allValid, Counts, pairOutcome}
-use Rattle.circuit.specs.Run.{run}
-use Rattle.circuit.proofs.Outcome.{demand-met, demand-failed, then-served, then-refused}
-use Rattle.circuit.proofs.words.Laws.{valid-all-more, pair-served}
+use Rattle.gates.specs.declared.gate.Gate.{Gate}
+use Rattle.gates.specs.Gate.{maxLines}
+use Rattle.gates.specs.Outcome.{Outcome, served, refused}
+use Rattle.gates.specs.Refusal.{badState, tooWide}
+use Rattle.gates.specs.Words.{gatesOf, allValid, Counts, pairOutcome}
+use Rattle.gates.specs.Run.{run}
+use Rattle.gates.proofs.Outcome.{demand-met, demand-failed, then-served, then-refused}
+use Rattle.gates.proofs.words.Laws.{valid-all-more, pair-served}
 use Rattle.diagnosis.specs.Compare.{outputsDiffer, maxSweepLines, Difference, none, lowest, lowestFrom, differenceOutcome, Says, differsOutcome, picked, pickOutcome, Picks}
 
 pub differ-no : (a b : List Gate) (x : ℕ) → outputsDiffer a b x ≡ false → run a x ≡ run b x

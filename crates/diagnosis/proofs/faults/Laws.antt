@@ -15,12 +15,12 @@ use Rattle.bits.specs.Digits.{bit}
 use Rattle.bits.specs.Lists.{fold}
 use Rattle.bits.proofs.Bools.{and-parts, both, either, same-test, not-held}
 use Rattle.bits.proofs.Digits.{bit-or, bit-pow}
-use Rattle.circuit.specs.declared.gate.Gate.{Gate}
-use Rattle.circuit.specs.Gate.{maxLines, notGate, valid, fires}
-use Rattle.circuit.specs.Words.{allValid}
-use Rattle.circuit.specs.Run.{run, Differs}
-use Rattle.circuit.proofs.gate.Laws.{fires-lines, lines-fires, valid-by-lines, lines-valid, valid-more, apply-gate, inverted-fired, inverted-idle}
-use Rattle.circuit.proofs.run.Laws.{run-append}
+use Rattle.gates.specs.declared.gate.Gate.{Gate}
+use Rattle.gates.specs.Gate.{maxLines, notGate, valid, fires}
+use Rattle.gates.specs.Words.{allValid}
+use Rattle.gates.specs.Run.{run, Differs}
+use Rattle.gates.proofs.gate.Laws.{fires-lines, lines-fires, valid-by-lines, lines-valid, valid-more, apply-gate, inverted-fired, inverted-idle}
+use Rattle.gates.proofs.run.Laws.{run-append}
 use Rattle.diagnosis.specs.Faults.{isFree, missing, everywhere, stands, maskWhere, masksFrom, faultMasks}
 use Rattle.diagnosis.specs.FaultLaws.{gateOf, stateAt, Candidate, Masking, repairedAt, Repairs, withControl}
 use Rattle.diagnosis.proofs.faults.Masks.{mask-bit}

@@ -11,13 +11,13 @@ use lib.Seq.{sets-eq, drop-cons, take-at, drop-at, length-take-le}
 use borrow.Author.Tests.{le-leb, lt-leb}
 use Rattle.bits.specs.Lists.{over}
 use Rattle.bits.proofs.Lists.{two}
-use Rattle.circuit.specs.declared.gate.Gate.{Gate}
-use Rattle.circuit.specs.Gate.{maxLines, maxGates, apply}
-use Rattle.circuit.specs.Outcome.{Outcome, served, refused, written, Yields}
-use Rattle.circuit.specs.Refusal.{badState, agreeingState, noRoom}
-use Rattle.circuit.specs.Words.{gatesOf, gateAt, Counts, pairOutcome, Cascade}
-use Rattle.circuit.proofs.Outcome.{demand-met, demand-failed, then-served, then-refused, then-both, told}
-use Rattle.circuit.proofs.words.Laws.{gates-next, gates-end, pair-served}
+use Rattle.gates.specs.declared.gate.Gate.{Gate}
+use Rattle.gates.specs.Gate.{maxLines, maxGates, apply}
+use Rattle.gates.specs.Outcome.{Outcome, served, refused, written, Yields}
+use Rattle.gates.specs.Refusal.{badState, agreeingState, noRoom}
+use Rattle.gates.specs.Words.{gatesOf, gateAt, Counts, pairOutcome, Cascade}
+use Rattle.gates.proofs.Outcome.{demand-met, demand-failed, then-served, then-refused, then-both, told}
+use Rattle.gates.proofs.words.Laws.{gates-next, gates-end, pair-served}
 use Rattle.diagnosis.specs.Compare.{outputsDiffer}
 use Rattle.diagnosis.specs.Faults.{isFree, stands, maskWhere, masksFrom, faultMasks, eachFrom, faultCheck, faultOutcome, faultBuffer, kept, narrowed, narrowedBy, everywhere}
 use Rattle.diagnosis.proofs.faults.Masks.{same-mask, narrowed-by}

@@ -13,10 +13,10 @@ use Rattle.bits.specs.Digits.{bit}
 use Rattle.bits.specs.Lists.{fold}
 use Rattle.bits.proofs.Bools.{either, cond-true, cond-false}
 use Rattle.bits.proofs.Digits.{bit-and, bit-or, bit-xor, bit-pow, bit-sum, bit-none, bits-equal, bit-above, line-clear}
-use Rattle.circuit.specs.declared.gate.Gate.{Gate}
-use Rattle.circuit.specs.Gate.{maxLines, fires, apply}
-use Rattle.circuit.specs.Run.{run}
-use Rattle.circuit.proofs.run.Laws.{run-append}
+use Rattle.gates.specs.declared.gate.Gate.{Gate}
+use Rattle.gates.specs.Gate.{maxLines, fires, apply}
+use Rattle.gates.specs.Run.{run}
+use Rattle.gates.proofs.run.Laws.{run-append}
 use Rattle.diagnosis.specs.Faults.{isFree, missing, everywhere, stands, maskWhere, masksFrom, kept, narrowed, narrowedBy}
 
 -- ---- digits

@@ -8,12 +8,12 @@ use lib.Dec.{leb, ltb}
 use lib.ListN.{length, getD}
 use borrow.Author.Tests.{leb-false, lt-ltb, le-ltb, ltb-true, ltb-false}
 use Rattle.bits.proofs.Bools.{either}
-use Rattle.circuit.specs.Outcome.{Outcome, served, refused, demand, andThen}
-use Rattle.circuit.specs.Refusal.{badState, agreeingState, noRoom, tooWide}
-use Rattle.circuit.specs.Words.{gatesOf, Counts, pairOutcome, PairFault}
-use Rattle.circuit.specs.Run.{run}
-use Rattle.circuit.proofs.Outcome.{never, demand-met, demand-failed, demanded, then-both, then-fails}
-use Rattle.circuit.proofs.words.Laws.{pair-served, served-pair, pair-refused, refused-pair}
+use Rattle.gates.specs.Outcome.{Outcome, served, refused, demand, andThen}
+use Rattle.gates.specs.Refusal.{badState, agreeingState, noRoom, tooWide}
+use Rattle.gates.specs.Words.{gatesOf, Counts, pairOutcome, PairFault}
+use Rattle.gates.specs.Run.{run}
+use Rattle.gates.proofs.Outcome.{never, demand-met, demand-failed, demanded, then-both, then-fails}
+use Rattle.gates.proofs.words.Laws.{pair-served, served-pair, pair-refused, refused-pair}
 use Rattle.diagnosis.specs.Compare.{outputsDiffer, maxSweepLines, differenceOutcome, differsOutcome, pickOutcome}
 use Rattle.diagnosis.specs.Faults.{eachFrom, faultCheck, faultOutcome}
 use Rattle.diagnosis.specs.RefusalLaws.{GoodPair, SweepFault, sweep-pair, wide, InputFault, input-pair, outside, Every, First, MasksFault, masks-pair, outside-at, agreeing-at, short, RefusalLaws}

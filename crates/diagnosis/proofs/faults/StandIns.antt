@@ -6,9 +6,9 @@ use Prim.Native.Nat.{ℕ, zero, suc, _-_, _^_, _<_}
 use native.Mathlib.Omega.{arith}
 use Rattle.bits.specs.Digits.{bit}
 use Rattle.bits.specs.Lists.{fold}
-use Rattle.circuit.specs.declared.gate.Gate.{Gate}
-use Rattle.circuit.specs.Gate.{notGate, valid, fires, inverted, apply}
-use Rattle.circuit.specs.Run.{run}
+use Rattle.gates.specs.declared.gate.Gate.{Gate}
+use Rattle.gates.specs.Gate.{notGate, valid, fires, inverted, apply}
+use Rattle.gates.specs.Run.{run}
 use Rattle.diagnosis.specs.Compare.{none, lowestFrom}
 use Rattle.diagnosis.specs.Faults.{maskWhere}
 use Rattle.diagnosis.specs.FaultLaws.{Sweeping, Candidate, Masking, strikesNothing, strikesAll, stateAt, gateOf, FaultLaws}

@@ -12,17 +12,17 @@ use borrow.Rule.Slice.PartMut.{putMid}
 use Rattle.bits.specs.Lists.{over}
 use Rattle.bits.proofs.Bools.{either}
 use Rattle.bits.proofs.Lists.{lent-over, over-length, rest-lent}
-use Rattle.circuit.specs.declared.gate.Gate.{Gate}
-use Rattle.circuit.specs.Gate.{maxGates}
-use Rattle.circuit.specs.Outcome.{Outcome, served, refused, written, Yields}
-use Rattle.circuit.specs.Refusal.{noRoom}
-use Rattle.circuit.specs.Words.{gatesOf, wordsOf, allValid, Counts, pairOutcome}
-use Rattle.circuit.specs.Run.{run}
-use Rattle.circuit.specs.Inverse.{inverse, inverseBuffer}
-use Rattle.circuit.proofs.Outcome.{never, told, demand-met, demand-failed, demanded, then-served, then-refused, then-both}
-use Rattle.circuit.proofs.words.Laws.{gates-length, gates-words, words-gates, words-append, words-length, valid-append, served-check, pair-served, served-pair, pair-refused, refused-pair}
-use Rattle.circuit.proofs.run.Laws.{run-append}
-use Rattle.circuit.proofs.inverse.Laws.{run-inverse, inverse-run, inverse-valid, inverse-written}
+use Rattle.gates.specs.declared.gate.Gate.{Gate}
+use Rattle.gates.specs.Gate.{maxGates}
+use Rattle.gates.specs.Outcome.{Outcome, served, refused, written, Yields}
+use Rattle.gates.specs.Refusal.{noRoom}
+use Rattle.gates.specs.Words.{gatesOf, wordsOf, allValid, Counts, pairOutcome}
+use Rattle.gates.specs.Run.{run}
+use Rattle.gates.specs.Inverse.{inverse, inverseBuffer}
+use Rattle.gates.proofs.Outcome.{never, told, demand-met, demand-failed, demanded, then-served, then-refused, then-both}
+use Rattle.gates.proofs.words.Laws.{gates-length, gates-words, words-gates, words-append, words-length, valid-append, served-check, pair-served, served-pair, pair-refused, refused-pair}
+use Rattle.gates.proofs.run.Laws.{run-append}
+use Rattle.gates.proofs.inverse.Laws.{run-inverse, inverse-run, inverse-valid, inverse-written}
 use Rattle.reduction.specs.Miter.{miterGates, miterOutcome, miterBuffer}
 use Rattle.reduction.specs.MiterLaws.{MiterServed, MiterFault, pair-fault, short, MiterStands, MiterLaws}
 

@@ -4,15 +4,15 @@ use mathlib.Core.List.{List, [], _∷_}
 use Prim.Native.Nat.{ℕ, zero, suc, _+_, _≤_, _<_}
 use native.Mathlib.Omega.{arith}
 use lib.ListN.{length}
-use Rattle.circuit.specs.declared.gate.Gate.{Gate}
+use Rattle.gates.specs.declared.gate.Gate.{Gate}
 use Rattle.reduction.specs.declared.step.Kind.{Kind}
 use Rattle.reduction.specs.declared.step.Kind.the-variants.{Cancel, RemoveControl, InvertControl}
 use Rattle.reduction.specs.declared.step.Search.{Search}
 use Rattle.reduction.specs.declared.step.Search.the-variants as hits
-use Rattle.circuit.specs.Gate.{maxMiterGates}
-use Rattle.circuit.specs.Outcome.{Outcome, served, refused, Yields}
-use Rattle.circuit.specs.Words.{gatesOf, checkOutcome}
-use Rattle.circuit.proofs.Outcome.{then-served, then-refused}
+use Rattle.gates.specs.Gate.{maxMiterGates}
+use Rattle.gates.specs.Outcome.{Outcome, served, refused, Yields}
+use Rattle.gates.specs.Words.{gatesOf, checkOutcome}
+use Rattle.gates.proofs.Outcome.{then-served, then-refused}
 use Rattle.reduction.specs.Step.{searchFrom, remaining, Step, found, none, searched, stepGates, filled, servedWords}
 use Rattle.reduction.specs.StepLaws.{taken}
 use Rattle.reduction.specs.Reduce.{Reduced, tallied, continued, reduceBy, reduceGates, numbered, reduceOutcome, reduceBuffer}

@@ -6,12 +6,12 @@ use mathlib.Core.List.{List}
 use Prim.Native.Nat.{ℕ, zero, suc, _+_, _*_, _≤_, _<_}
 use native.Mathlib.Omega.{arith}
 use lib.ListN.{length}
-use Rattle.circuit.specs.declared.gate.Gate.{Gate}
-use Rattle.circuit.specs.Gate.{maxLines, maxMiterGates}
-use Rattle.circuit.specs.Outcome.{Outcome, served, refused}
-use Rattle.circuit.specs.Words.{gatesOf, allValid, checkOutcome, Cascade, WordsFault}
-use Rattle.circuit.proofs.Outcome.{then-served, then-refused}
-use Rattle.circuit.proofs.words.Laws.{gates-length, valid-all-more, served-check, check-refused, refused-check}
+use Rattle.gates.specs.declared.gate.Gate.{Gate}
+use Rattle.gates.specs.Gate.{maxLines, maxMiterGates}
+use Rattle.gates.specs.Outcome.{Outcome, served, refused}
+use Rattle.gates.specs.Words.{gatesOf, allValid, checkOutcome, Cascade, WordsFault}
+use Rattle.gates.proofs.Outcome.{then-served, then-refused}
+use Rattle.gates.proofs.words.Laws.{gates-length, valid-all-more, served-check, check-refused, refused-check}
 use Rattle.reduction.specs.declared.step.Kind.{Kind}
 use Rattle.reduction.specs.declared.step.Kind.the-variants.{Cancel, RemoveControl, InvertControl}
 use Rattle.reduction.specs.Step.{Step, found, none, stepGates, filled, servedWords}

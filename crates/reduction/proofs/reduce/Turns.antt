@@ -7,11 +7,11 @@ use native.Mathlib.Omega.{arith}
 use lib.ListN.{length, take, drop, replicate, replicate-append-replicate}
 use lib.Seq.{take-at, drop-at}
 use borrow.Rule.Slice.PartMut.{putMid}
-use Rattle.circuit.specs.declared.gate.Gate.{Gate}
-use Rattle.circuit.specs.Outcome.{Yields}
-use Rattle.circuit.specs.Gate.{maxLines}
-use Rattle.circuit.specs.Words.{gatesOf, wordsOf, allValid}
-use Rattle.circuit.proofs.words.Laws.{gates-length, gates-words, words-gates, words-length}
+use Rattle.gates.specs.declared.gate.Gate.{Gate}
+use Rattle.gates.specs.Outcome.{Yields}
+use Rattle.gates.specs.Gate.{maxLines}
+use Rattle.gates.specs.Words.{gatesOf, wordsOf, allValid}
+use Rattle.gates.proofs.words.Laws.{gates-length, gates-words, words-gates, words-length}
 use Rattle.reduction.specs.declared.step.Kind.{Kind}
 use Rattle.reduction.specs.declared.step.Kind.the-variants.{Cancel, RemoveControl, InvertControl}
 use Rattle.reduction.specs.Step.{Step, found, none, stepGates, counted, stepWords, filled}

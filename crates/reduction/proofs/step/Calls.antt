@@ -4,12 +4,12 @@ use mathlib.Core.List.{List}
 use Prim.Native.Nat.{ℕ, _+_, _/_, _<_}
 use native.Mathlib.Omega.{arith}
 use lib.ListN.{length}
-use Rattle.circuit.specs.declared.gate.Gate.{Gate}
-use Rattle.circuit.specs.Gate.{maxMiterGates}
-use Rattle.circuit.specs.Outcome.{Outcome, served, refused, Yields}
-use Rattle.circuit.specs.Words.{gatesOf, checkOutcome}
-use Rattle.circuit.proofs.Outcome.{then-served, then-refused}
-use Rattle.circuit.proofs.words.Laws.{gates-length}
+use Rattle.gates.specs.declared.gate.Gate.{Gate}
+use Rattle.gates.specs.Gate.{maxMiterGates}
+use Rattle.gates.specs.Outcome.{Outcome, served, refused, Yields}
+use Rattle.gates.specs.Words.{gatesOf, checkOutcome}
+use Rattle.gates.proofs.Outcome.{then-served, then-refused}
+use Rattle.gates.proofs.words.Laws.{gates-length}
 use Rattle.reduction.specs.declared.step.Match.{Match}
 use Rattle.reduction.specs.declared.step.Search.{Search}
 use Rattle.reduction.specs.declared.step.Search.the-variants as hits

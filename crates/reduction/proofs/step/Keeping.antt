@@ -9,12 +9,12 @@ use lib.ListN.{length, take, drop, getD, length-drop}
 use lib.Seq.{split-at, getD-take, getD-drop, drop-drop, length-take-le}
 use Rattle.bits.specs.Lists.{fold}
 use Rattle.bits.proofs.Bools.{and-parts, both}
-use Rattle.circuit.specs.declared.gate.Gate.{Gate}
-use Rattle.circuit.specs.Gate.{maxLines, notGate, valid, apply}
-use Rattle.circuit.specs.Words.{allValid}
-use Rattle.circuit.specs.Run.{run}
-use Rattle.circuit.proofs.words.Laws.{valid-append}
-use Rattle.circuit.proofs.run.Laws.{run-append}
+use Rattle.gates.specs.declared.gate.Gate.{Gate}
+use Rattle.gates.specs.Gate.{maxLines, notGate, valid, apply}
+use Rattle.gates.specs.Words.{allValid}
+use Rattle.gates.specs.Run.{run}
+use Rattle.gates.proofs.words.Laws.{valid-append}
+use Rattle.gates.proofs.run.Laws.{run-append}
 use Rattle.reduction.specs.declared.step.Match.{Match}
 use Rattle.reduction.specs.declared.step.Match.the-variants as match
 use Rattle.reduction.specs.Step.{mayPass, kindOf, remaining, between, replaced}

@@ -8,13 +8,13 @@ use native.Mathlib.Omega.{arith}
 use lib.ListN.{length, take, getD, replicate, getD-replicate}
 use lib.Seq.{take-at, getD-append-add}
 use Rattle.bits.specs.Lists.{fold}
-use Rattle.circuit.specs.declared.gate.Gate.{Gate}
-use Rattle.circuit.specs.Gate.{maxLines, maxMiterGates, valid}
-use Rattle.circuit.specs.Outcome.{Outcome, served, refused, andThen}
-use Rattle.circuit.specs.Words.{gatesOf, wordsOf, allValid, checkOutcome, Cascade, WordsFault}
-use Rattle.circuit.proofs.Outcome.{never, then-served, then-refused}
-use Rattle.circuit.proofs.gate.Laws.{valid-more}
-use Rattle.circuit.proofs.words.Laws.{gates-length, gates-words, words-length, valid-all-more, served-check, check-refused, refused-check}
+use Rattle.gates.specs.declared.gate.Gate.{Gate}
+use Rattle.gates.specs.Gate.{maxLines, maxMiterGates, valid}
+use Rattle.gates.specs.Outcome.{Outcome, served, refused, andThen}
+use Rattle.gates.specs.Words.{gatesOf, wordsOf, allValid, checkOutcome, Cascade, WordsFault}
+use Rattle.gates.proofs.Outcome.{never, then-served, then-refused}
+use Rattle.gates.proofs.gate.Laws.{valid-more}
+use Rattle.gates.proofs.words.Laws.{gates-length, gates-words, words-length, valid-all-more, served-check, check-refused, refused-check}
 use Rattle.reduction.specs.declared.step.Kind.{Kind}
 use Rattle.reduction.specs.declared.step.Match.{Match}
 use Rattle.reduction.specs.Step.{remaining, filled, Step, found, none, stepGates, counted, stepWords, servedWords, stepOutcome, stepBuffer}

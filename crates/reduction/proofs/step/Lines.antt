@@ -10,11 +10,11 @@ use Rattle.bits.specs.Digits.{bit}
 use Rattle.bits.specs.Lists.{fold}
 use Rattle.bits.proofs.Bools.{and-parts, both, either, same-test, refuted}
 use Rattle.bits.proofs.Digits.{bit-and, bit-or, bit-pow, bit-none, bits-equal}
-use Rattle.circuit.specs.declared.gate.Gate.{Gate}
-use Rattle.circuit.specs.Gate.{maxLines, fires, valid, apply}
-use Rattle.circuit.specs.Words.{allValid}
-use Rattle.circuit.specs.Run.{run}
-use Rattle.circuit.proofs.gate.Laws.{fires-lines, lines-fires, valid-by-lines, lines-valid, apply-bit, apply-twice}
+use Rattle.gates.specs.declared.gate.Gate.{Gate}
+use Rattle.gates.specs.Gate.{maxLines, fires, valid, apply}
+use Rattle.gates.specs.Words.{allValid}
+use Rattle.gates.specs.Run.{run}
+use Rattle.gates.proofs.gate.Laws.{fires-lines, lines-fires, valid-by-lines, lines-valid, apply-bit, apply-twice}
 use Rattle.reduction.specs.declared.step.Match.{Match}
 use Rattle.reduction.specs.Step.{controlLines, mayPass, remaining}
 use Rattle.reduction.specs.StepLaws.{Uncontrolled, OneMore, Matches, pair, drop, turn-first, turn-second}

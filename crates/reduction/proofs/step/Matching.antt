@@ -6,7 +6,7 @@ use lib.Bits.{bitXor}
 use lib.Count.{ones}
 use borrow.Author.Tests.{eq-eqb, ne-eqb}
 use Rattle.bits.proofs.Bools.{cond-true, cond-false}
-use Rattle.circuit.specs.declared.gate.Gate.{Gate}
+use Rattle.gates.specs.declared.gate.Gate.{Gate}
 use Rattle.reduction.specs.declared.step.Match.the-variants as match
 use Rattle.reduction.specs.declared.step.Verdict.the-variants.{Apart, Matched}
 use Rattle.reduction.specs.Step.{matchOf, differing, controlRemoved, controlInverted}

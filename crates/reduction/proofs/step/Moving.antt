@@ -8,9 +8,9 @@ use lib.ListN.{length, take, drop, getD, set, replicate, length-append, length-d
 use lib.Seq.{take-suc, take-add, take-take, take-append-le, drop-length, drop-drop, drop-append-le, drop-append-add, take-at, drop-at, getD-append-add, getD-drop, length-take-le}
 use Rattle.bits.specs.Lists.{over}
 use Rattle.bits.proofs.Lists.{over-push, over-length, rest-lent}
-use Rattle.circuit.specs.declared.gate.Gate.{Gate}
-use Rattle.circuit.specs.Words.{gatesOf, wordsOf, gateWords}
-use Rattle.circuit.proofs.words.Laws.{gates-length, words-gates, words-append, words-length}
+use Rattle.gates.specs.declared.gate.Gate.{Gate}
+use Rattle.gates.specs.Words.{gatesOf, wordsOf, gateWords}
+use Rattle.gates.proofs.words.Laws.{gates-length, words-gates, words-append, words-length}
 use Rattle.reduction.specs.Step.{between, replaced, filled}
 
 -- the rest of a buffer that is filled from its start

@@ -8,11 +8,11 @@ use lib.Dec.{leb}
 use lib.ListN.{length}
 use borrow.Author.Tests.{leb-true, leb-false}
 use Rattle.bits.proofs.Bools.{and-parts, either, refuted}
-use Rattle.circuit.specs.declared.gate.Gate.{Gate}
-use Rattle.circuit.specs.Gate.{maxLines, valid}
-use Rattle.circuit.specs.Words.{gatesOf, gateAt, allValid}
-use Rattle.circuit.proofs.gate.Laws.{valid-by-lines}
-use Rattle.circuit.proofs.words.Laws.{gates-length}
+use Rattle.gates.specs.declared.gate.Gate.{Gate}
+use Rattle.gates.specs.Gate.{maxLines, valid}
+use Rattle.gates.specs.Words.{gatesOf, gateAt, allValid}
+use Rattle.gates.proofs.gate.Laws.{valid-by-lines}
+use Rattle.gates.proofs.words.Laws.{gates-length}
 use Rattle.reduction.specs.declared.step.Match.{Match}
 use Rattle.reduction.specs.declared.step.Verdict.{Verdict}
 use Rattle.reduction.specs.declared.step.Verdict.the-variants.{Apart, Matched}

@@ -4,9 +4,9 @@ use mathlib.Core.Bool.{Bool, true, false, cond}
 use mathlib.Core.List.{List, _∷_}
 use Prim.Native.Nat.{ℕ, _+_, _*_, _/_, _≤_, _<_}
 use lib.ListN.{length, drop}
-use Rattle.circuit.specs.declared.gate.Gate.{Gate}
-use Rattle.circuit.specs.Words.{gatesOf, gateAt}
-use Rattle.circuit.proofs.words.Laws.{gates-next, gates-end}
+use Rattle.gates.specs.declared.gate.Gate.{Gate}
+use Rattle.gates.specs.Words.{gatesOf, gateAt}
+use Rattle.gates.proofs.words.Laws.{gates-next, gates-end}
 use Rattle.reduction.specs.declared.step.Match.{Match}
 use Rattle.reduction.specs.declared.step.Verdict.{Verdict}
 use Rattle.reduction.specs.declared.step.Verdict.the-variants.{Apart, Matched}

@@ -11,9 +11,9 @@ use Rattle.bits.specs.Digits.{bit}
 use Rattle.bits.proofs.Digits.{bit-and, bit-or, bit-xor, bit-pow, bit-none, bits-equal}
 use Rattle.bits.proofs.Single.{ones-zero, single-pow, pow-single}
 use Rattle.bits.proofs.Bools.{or-none, xor-false}
-use Rattle.circuit.specs.declared.gate.Gate.{Gate}
-use Rattle.circuit.specs.Gate.{maxLines, valid}
-use Rattle.circuit.proofs.gate.Laws.{valid-by-lines}
+use Rattle.gates.specs.declared.gate.Gate.{Gate}
+use Rattle.gates.specs.Gate.{maxLines, valid}
+use Rattle.gates.proofs.gate.Laws.{valid-by-lines}
 use Rattle.reduction.specs.declared.step.Match.{Match}
 use Rattle.reduction.specs.declared.step.Match.the-variants as match
 use Rattle.reduction.specs.declared.step.Verdict.{Verdict}

@@ -12,7 +12,7 @@ use mir.Syntax.{w16, w64}
 use mir.Val.{Fits, SFits, toZ, ofZ}
 use mir.ValLaws.{toZ-ofZ}
 use Rattle.checking.specs.Satisfaction.{size}
-use Rattle.files.specs.Text.{minus}
+use Rattle.circuit.specs.Text.{minus}
 use Rattle.text.specs.Dimacs.{xorSign}
 use Rattle.text.specs.Words.{signText, kindText}
 

@@ -5,8 +5,8 @@ use Prim.Native.Nat.{ℕ, _+_, _-_, _≤_}
 use native.Mathlib.Omega.{arith}
 use lib.ListN.{length, take, drop}
 use borrow.Rule.Slice.PartMut.{putMid}
-use Rattle.files.specs.Put.{Put}
-use Rattle.files.proofs.file.put.Laws.{Written, written-first, written-more, written-put}
+use Rattle.circuit.specs.Put.{Put}
+use Rattle.circuit.proofs.file.put.Laws.{Written, written-first, written-more, written-put}
 
 -- nothing was written
 pub put-none : (out : List ℕ) → Put 0 out [] out

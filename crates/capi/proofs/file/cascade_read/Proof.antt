@@ -1,7 +1,7 @@
 -- `capi::file::cascade_read` meets its contract. Assumes nothing.
 use mathlib.Core.Path.{sym, ap, _∙_}
 use borrow.Author.Needs.{needs}
-use Rattle.files.specs.File.{ofRead}
+use Rattle.circuit.specs.File.{ofRead}
 use Rattle.capi.specs.File.{readAnswer}
 use Rattle.capi.proofs.file.cascade_read.Statement.{statement}
 use Rattle.capi.proofs.file.cascade_read.Tie as tie

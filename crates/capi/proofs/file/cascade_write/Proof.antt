@@ -1,7 +1,7 @@
 -- `capi::file::cascade_write` meets its contract. Assumes nothing.
 use mathlib.Core.Path.{sym, ap, _∙_}
 use borrow.Author.Needs.{needs}
-use Rattle.files.specs.File.{ofWrite}
+use Rattle.circuit.specs.File.{ofWrite}
 use Rattle.capi.specs.File.{writeAnswer}
 use Rattle.capi.proofs.file.cascade_write.Statement.{statement}
 use Rattle.capi.proofs.file.cascade_write.Tie as tie

@@ -1,8 +1,8 @@
 -- `diagnosis::compare::after` meets its contract. Assumes nothing.
 use mathlib.Core.Path.{sym, _∙_}
 use borrow.Author.Needs.{needs}
-use Rattle.circuit.specs.Gate.{maxLines}
-use Rattle.circuit.proofs.gate.Laws.{valid-facts, inverted-shifted, apply-gate}
+use Rattle.gates.specs.Gate.{maxLines}
+use Rattle.gates.proofs.gate.Laws.{valid-facts, inverted-shifted, apply-gate}
 use Rattle.diagnosis.proofs.compare.after.Statement.{statement}
 use Rattle.diagnosis.proofs.compare.after.Tie as tie
 

@@ -2,8 +2,8 @@
 use mathlib.Core.Path.{sym, ap, _∙_}
 use borrow.Author.Needs.{needs}
 use borrow.Author.Tests.{not-true, not-false}
-use Rattle.circuit.specs.Words.{ofPair}
-use Rattle.circuit.proofs.Outcome.{why}
+use Rattle.gates.specs.Words.{ofPair}
+use Rattle.gates.proofs.Outcome.{why}
 use Rattle.diagnosis.proofs.compare.Laws.{differs-refused, differs-outside, differs-made}
 use Rattle.diagnosis.proofs.compare.differs.Statement.{statement}
 use Rattle.diagnosis.proofs.compare.differs.Tie as tie

@@ -3,7 +3,7 @@ use mathlib.Core.Path.{sym, ap, _∙_}
 use Prim.Native.Nat.{ℕ}
 use native.Mathlib.Omega.{arith}
 use borrow.Author.Needs.{needs}
-use Rattle.circuit.specs.Words.{ofPair}
+use Rattle.gates.specs.Words.{ofPair}
 use Rattle.diagnosis.proofs.compare.Laws.{picks-refused, picks-first, picks-second}
 use Rattle.diagnosis.proofs.compare.fewer_gates.Statement.{statement}
 use Rattle.diagnosis.proofs.compare.fewer_gates.Tie as tie

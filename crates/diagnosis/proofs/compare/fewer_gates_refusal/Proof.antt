@@ -1,7 +1,7 @@
 -- `diagnosis::compare::fewer_gates_refusal` meets its contract. Assumes nothing.
 use mathlib.Core.Path.{sym, ap, _∙_}
 use borrow.Author.Needs.{needs}
-use Rattle.circuit.specs.Words.{ofPair}
+use Rattle.gates.specs.Words.{ofPair}
 use Rattle.diagnosis.proofs.compare.Laws.{pick-refused, pick-made}
 use Rattle.diagnosis.proofs.compare.fewer_gates_refusal.Statement.{statement}
 use Rattle.diagnosis.proofs.compare.fewer_gates_refusal.Tie as tie

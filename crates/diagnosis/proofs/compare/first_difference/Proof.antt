@@ -6,9 +6,9 @@ use native.Mathlib.Omega.{arith}
 use lib.Dec.{lit<}
 use lib.Pow.{shl-exact}
 use borrow.Author.Needs.{needs}
-use Rattle.circuit.specs.Outcome.{served}
-use Rattle.circuit.specs.Words.{gatesOf, ofPair}
-use Rattle.circuit.proofs.Outcome.{why}
+use Rattle.gates.specs.Outcome.{served}
+use Rattle.gates.specs.Words.{gatesOf, ofPair}
+use Rattle.gates.proofs.Outcome.{why}
 use Rattle.diagnosis.specs.Compare.{lowestFrom, Says}
 use Rattle.diagnosis.proofs.compare.Laws.{pair-gates, difference-refused, difference-wide, difference-made, sweep-says}
 use Rattle.diagnosis.proofs.compare.first_difference.Statement.{statement}

@@ -1,5 +1,5 @@
 -- `diagnosis::compare::gate_fires` meets its contract. Assumes nothing.
-use Rattle.circuit.proofs.gate.Laws.{fires-gate}
+use Rattle.gates.proofs.gate.Laws.{fires-gate}
 use Rattle.diagnosis.proofs.compare.gate_fires.Statement.{statement}
 use Rattle.diagnosis.proofs.compare.gate_fires.Tie as tie
 

@@ -2,8 +2,8 @@
 use mathlib.Core.Path.{_≡_, sym, ap, _∙_}
 use Prim.Native.Nat.{_≤_, _-_}
 use native.Mathlib.Omega.{arith}
-use Rattle.circuit.specs.Outcome.{served}
-use Rattle.circuit.specs.Words.{gatesOf}
+use Rattle.gates.specs.Outcome.{served}
+use Rattle.gates.specs.Words.{gatesOf}
 use Rattle.diagnosis.specs.Compare.{lowestFrom}
 use Rattle.diagnosis.proofs.compare.Laws.{lowest-here, lowest-next, lowest-none}
 use Rattle.diagnosis.proofs.compare.lowest_difference.Statement.{statement}

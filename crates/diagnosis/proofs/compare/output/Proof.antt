@@ -5,11 +5,11 @@ use Prim.Native.Nat.{_≤_, _-_, _*_}
 use native.Mathlib.Omega.{arith}
 use lib.ListN.{drop}
 use borrow.Author.Needs.{needs}
-use Rattle.circuit.specs.Gate.{maxLines}
-use Rattle.circuit.specs.Words.{gatesOf, allValid}
-use Rattle.circuit.specs.Run.{run}
-use Rattle.circuit.proofs.words.Laws.{valid-next, valid-later}
-use Rattle.circuit.proofs.run.Laws.{run-turn, run-end}
+use Rattle.gates.specs.Gate.{maxLines}
+use Rattle.gates.specs.Words.{gatesOf, allValid}
+use Rattle.gates.specs.Run.{run}
+use Rattle.gates.proofs.words.Laws.{valid-next, valid-later}
+use Rattle.gates.proofs.run.Laws.{run-turn, run-end}
 use Rattle.diagnosis.proofs.compare.output.Statement.{statement}
 use Rattle.diagnosis.proofs.compare.output.Tie as tie
 

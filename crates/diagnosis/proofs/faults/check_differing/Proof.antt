@@ -5,9 +5,9 @@ use native.Mathlib.Omega.{arith}
 use lib.ListN.{length, drop}
 use borrow.Author.Needs.{needs}
 use borrow.Author.Tests.{not-true, not-false}
-use Rattle.circuit.specs.Refusal.{agreeingState}
-use Rattle.circuit.specs.Words.{gatesOf}
-use Rattle.circuit.proofs.Outcome.{why}
+use Rattle.gates.specs.Refusal.{agreeingState}
+use Rattle.gates.specs.Words.{gatesOf}
+use Rattle.gates.proofs.Outcome.{why}
 use Rattle.diagnosis.specs.Compare.{outputsDiffer}
 use Rattle.diagnosis.specs.Faults.{eachFrom}
 use Rattle.diagnosis.proofs.faults.Loops.{each-next, each-fails, each-end}

@@ -1,7 +1,7 @@
 -- `diagnosis::faults::check_faults` meets its contract. Assumes nothing.
 use mathlib.Core.Path.{sym, ap, _∙_}
 use borrow.Author.Needs.{needs}
-use Rattle.circuit.specs.Words.{ofCount, ofPair}
+use Rattle.gates.specs.Words.{ofCount, ofPair}
 use Rattle.diagnosis.proofs.compare.Laws.{pair-gates}
 use Rattle.diagnosis.proofs.faults.Loops.{fault-pair, fault-state, fault-agree, fault-good}
 use Rattle.diagnosis.proofs.faults.check_faults.Statement.{statement}

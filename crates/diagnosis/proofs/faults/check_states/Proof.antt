@@ -7,8 +7,8 @@ use lib.Dec.{ltb}
 use lib.ListN.{length, drop}
 use borrow.Author.Needs.{needs}
 use borrow.Author.Tests.{not-true, not-false}
-use Rattle.circuit.specs.Refusal.{badState}
-use Rattle.circuit.proofs.Outcome.{why}
+use Rattle.gates.specs.Refusal.{badState}
+use Rattle.gates.proofs.Outcome.{why}
 use Rattle.diagnosis.specs.Faults.{eachFrom}
 use Rattle.diagnosis.proofs.faults.Loops.{each-next, each-fails, each-end}
 use Rattle.diagnosis.proofs.faults.check_states.Statement.{statement}

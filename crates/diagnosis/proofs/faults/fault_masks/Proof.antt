@@ -2,12 +2,12 @@
 use mathlib.Core.Path.{_≡_, refl, sym, ap, _∙_}
 use native.Mathlib.Omega.{arith}
 use borrow.Author.Needs.{needs}
-use Rattle.circuit.specs.Gate.{maxLines, maxGates}
-use Rattle.circuit.specs.Outcome.{served, refused}
-use Rattle.circuit.specs.Refusal.{noRoom}
-use Rattle.circuit.specs.Words.{Cascade, ofCount, gatesOf}
-use Rattle.circuit.proofs.Outcome.{why}
-use Rattle.circuit.proofs.words.Laws.{gates-length, valid-all-more}
+use Rattle.gates.specs.Gate.{maxLines, maxGates}
+use Rattle.gates.specs.Outcome.{served, refused}
+use Rattle.gates.specs.Refusal.{noRoom}
+use Rattle.gates.specs.Words.{Cascade, ofCount, gatesOf}
+use Rattle.gates.proofs.Outcome.{why}
+use Rattle.gates.proofs.words.Laws.{gates-length, valid-all-more}
 use Rattle.diagnosis.specs.Faults.{faultCheck, narrowedBy}
 use Rattle.diagnosis.proofs.faults.Loops.{fault-suspect, fault-told, fault-refused, fault-short, fault-made, all-narrowed}
 use Rattle.diagnosis.proofs.faults.fault_masks.Statement.{statement}

@@ -7,8 +7,8 @@ use lib.Bits.{bitAnd, bitOr, bitXor}
 use lib.Dec.{lit<}
 use lib.Pow.{shl-exact}
 use borrow.Author.Needs.{needs}
-use Rattle.circuit.specs.Gate.{maxLines}
-use Rattle.circuit.proofs.gate.Laws.{valid-facts}
+use Rattle.gates.specs.Gate.{maxLines}
+use Rattle.gates.proofs.gate.Laws.{valid-facts}
 use Rattle.diagnosis.proofs.faults.Masks.{free-mask}
 use Rattle.diagnosis.proofs.faults.free_lines.Statement.{statement}
 use Rattle.diagnosis.proofs.faults.free_lines.Tie as tie

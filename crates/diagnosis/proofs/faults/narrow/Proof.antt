@@ -8,9 +8,9 @@ use lib.Bits.{bitAnd}
 use lib.ListN.{length, take, drop, getD, set, length-set}
 use lib.Seq.{getD-set-other}
 use borrow.Author.Needs.{needs}
-use Rattle.circuit.specs.Gate.{maxLines}
-use Rattle.circuit.specs.Words.{gatesOf, allValid}
-use Rattle.circuit.proofs.words.Laws.{gates-length, valid-next, valid-later}
+use Rattle.gates.specs.Gate.{maxLines}
+use Rattle.gates.specs.Words.{gatesOf, allValid}
+use Rattle.gates.proofs.words.Laws.{gates-length, valid-next, valid-later}
 use Rattle.diagnosis.specs.Faults.{narrowed}
 use Rattle.diagnosis.proofs.faults.Loops.{twoSet, narrow-turn, narrow-end}
 use Rattle.diagnosis.proofs.faults.narrow.Statement.{statement}

@@ -4,7 +4,7 @@ use Prim.Native.Nat.{_≤_, _-_}
 use native.Mathlib.Omega.{arith}
 use lib.ListN.{length, drop}
 use borrow.Author.Needs.{needs}
-use Rattle.circuit.specs.Words.{gatesOf}
+use Rattle.gates.specs.Words.{gatesOf}
 use Rattle.diagnosis.specs.Faults.{narrowedBy}
 use Rattle.diagnosis.proofs.faults.Loops.{states-next, states-end}
 use Rattle.diagnosis.proofs.faults.narrow_all.Statement.{statement}

@@ -7,8 +7,8 @@ use native.Mathlib.Omega.{arith}
 use lib.ListN.{length, drop, set, length-set}
 use borrow.Author.Needs.{needs}
 use Rattle.bits.specs.Lists.{over}
-use Rattle.circuit.specs.Words.{gatesOf, allValid}
-use Rattle.circuit.proofs.words.Laws.{gates-length, valid-next, valid-later}
+use Rattle.gates.specs.Words.{gatesOf, allValid}
+use Rattle.gates.proofs.words.Laws.{gates-length, valid-next, valid-later}
 use Rattle.diagnosis.proofs.faults.Loops.{freeMasks, freeLeft, free-masks, free-turn, free-end}
 use Rattle.diagnosis.proofs.faults.start_masks.Statement.{statement}
 use Rattle.diagnosis.proofs.faults.start_masks.Tie as tie

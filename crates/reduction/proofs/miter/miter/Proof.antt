@@ -2,10 +2,10 @@
 use mathlib.Core.Path.{_≡_, refl, sym, ap, _∙_}
 use native.Mathlib.Omega.{arith}
 use borrow.Author.Needs.{needs}
-use Rattle.circuit.specs.Outcome.{served, refused}
-use Rattle.circuit.specs.Refusal.{noRoom}
-use Rattle.circuit.specs.Words.{ofPair, pairOutcome}
-use Rattle.circuit.proofs.Outcome.{why}
+use Rattle.gates.specs.Outcome.{served, refused}
+use Rattle.gates.specs.Refusal.{noRoom}
+use Rattle.gates.specs.Words.{ofPair, pairOutcome}
+use Rattle.gates.proofs.Outcome.{why}
 use Rattle.reduction.proofs.miter.Laws.{miter-told, miter-refused, miter-short, miter-made, miter-written, pair-few}
 use Rattle.reduction.proofs.miter.miter.Statement.{statement}
 use Rattle.reduction.proofs.miter.miter.Tie as tie

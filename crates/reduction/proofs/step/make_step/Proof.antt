@@ -4,7 +4,7 @@ use Prim.Native.Nat.{_/_, _<_}
 use native.Mathlib.Omega.{arith}
 use lib.ListN.{length}
 use borrow.Author.Needs.{needs}
-use Rattle.circuit.specs.Words.{gatesOf}
+use Rattle.gates.specs.Words.{gatesOf}
 use Rattle.reduction.specs.declared.step.Match.the-variants as match
 use Rattle.reduction.specs.declared.step.Search.the-variants as hits
 use Rattle.reduction.specs.Step.{searchFrom}

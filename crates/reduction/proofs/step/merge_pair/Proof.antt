@@ -6,8 +6,8 @@ use native.Mathlib.Omega.{arith}
 use lib.ListN.{length, take, drop, length-take, length-drop}
 use Rattle.bits.specs.Lists.{over}
 use Rattle.bits.proofs.Lists.{rest-lent, rest-back}
-use Rattle.circuit.specs.Words.{gateWords}
-use Rattle.circuit.proofs.words.Laws.{put-fits}
+use Rattle.gates.specs.Words.{gateWords}
+use Rattle.gates.proofs.words.Laws.{put-fits}
 use Rattle.reduction.proofs.step.Moving.{pair-merged}
 use borrow.Author.Needs.{needs}
 use Rattle.reduction.proofs.step.merge_pair.Statement.{statement}

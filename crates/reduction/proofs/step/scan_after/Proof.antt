@@ -5,8 +5,8 @@ use native.Mathlib.Omega.{arith}
 use lib.ListN.{drop}
 use borrow.Author.Needs.{needs}
 use borrow.Author.Tests.{not-true, not-false}
-use Rattle.circuit.specs.declared.gate.Gate.{Gate}
-use Rattle.circuit.specs.Words.{gatesOf, gateAt}
+use Rattle.gates.specs.declared.gate.Gate.{Gate}
+use Rattle.gates.specs.Words.{gatesOf, gateAt}
 use Rattle.reduction.specs.Step.{scanFrom}
 use Rattle.reduction.proofs.step.Relation.{target-low}
 use Rattle.reduction.proofs.step.Searching.{words-hit, words-stop, words-on, words-end}

@@ -4,7 +4,7 @@ use Prim.Native.Nat.{_≤_, _-_, _*_}
 use native.Mathlib.Omega.{arith}
 use lib.ListN.{drop}
 use borrow.Author.Needs.{needs}
-use Rattle.circuit.specs.Words.{gatesOf}
+use Rattle.gates.specs.Words.{gatesOf}
 use Rattle.reduction.specs.Step.{searchFrom}
 use Rattle.reduction.proofs.step.Searching.{words-found, words-next, words-none}
 use Rattle.reduction.proofs.step.search_gates.Statement.{statement}

@@ -2,10 +2,10 @@
 use mathlib.Core.Path.{_≡_, sym, ap, _∙_}
 use native.Mathlib.Omega.{arith}
 use borrow.Author.Needs.{needs}
-use Rattle.circuit.specs.Gate.{maxLines, maxMiterGates}
-use Rattle.circuit.specs.Outcome.{served}
-use Rattle.circuit.specs.Words.{ofCount, checkOutcome}
-use Rattle.circuit.proofs.words.Laws.{check-served, valid-all-more}
+use Rattle.gates.specs.Gate.{maxLines, maxMiterGates}
+use Rattle.gates.specs.Outcome.{served}
+use Rattle.gates.specs.Words.{ofCount, checkOutcome}
+use Rattle.gates.proofs.words.Laws.{check-served, valid-all-more}
 use Rattle.reduction.specs.Step.{ofStepped}
 use Rattle.reduction.proofs.step.Calls.{step-refused, step-made}
 use Rattle.reduction.proofs.step.step.Statement.{statement}

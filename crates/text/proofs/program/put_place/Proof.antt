@@ -2,7 +2,7 @@
 use native.Mathlib.Omega.{arith}
 use mathlib.Core.List.{[], _∷_}
 use lib.ListN.{length-append}
-use Rattle.files.specs.Text.{lineFeed}
+use Rattle.circuit.specs.Text.{lineFeed}
 use Rattle.text.specs.Dimacs.{decimal}
 use Rattle.text.proofs.put.Laws.{two-put}
 use borrow.Author.Needs.{needs}

@@ -1,0 +1,127 @@
+-- What this crate proves of cascade files: the round trip both ways, and what each refusal says of its line.
+use mathlib.Core.Path.{_≡_}
+use mathlib.Core.Logic.{_↔_}
+use mathlib.Core.Bool.{true, false}
+use mathlib.Core.List.{List, [], _∷_, _++_, map}
+use Prim.Native.Nat.{ℕ, _+_, _*_, _<_, _≤_}
+use lib.ListN.{length, take}
+use Rattle.gates.specs.declared.gate.Gate.{Gate}
+use Rattle.gates.specs.Gate.{maxLines, maxGates, Control}
+use Rattle.gates.specs.Outcome.{Outcome, served, refused}
+use Rattle.gates.specs.Words.{allValid}
+use Rattle.circuit.specs.Text.{linesWord, gateWord, endWord, numberText, controlText, headerLine, gateLines, textOf}
+use Rattle.circuit.specs.File.{Line, firstLine, linesOf, fieldsOf, Reading, reading, ReadCounts, readOutcome}
+
+-- a cascade that a file can hold
+pub record FileCascade (n : ℕ) (gs : List Gate) : Type 0 where
+  pub lines-low : 1 ≤ n
+  pub lines-high : n ≤ maxLines
+  pub few : length gs ≤ maxGates
+  pub gates : allValid n gs ≡ true
+
+-- ---- what is wrong with one line
+
+-- a field is a number of one or two digits, no leading zero
+pub record NumberField (f : List ℕ) (k : ℕ) : Type 0 where
+  pub small : k < 100
+  pub text : f ≡ numberText k
+
+-- a field is a control: `+` or `-`, and such a number
+pub record ControlField (f : List ℕ) (c : Control) : Type 0 where
+  pub small : c .line < 100
+  pub text : f ≡ controlText c
+
+-- line 0
+pub data HeaderOffence (l : Line) : ℕ → Type 0 where
+  -- it does not start `lines` tab
+  no-lines : ((k : List ℕ) (fs : List (List ℕ)) → fieldsOf (l .bytes) ≡ linesWord ∷ k ∷ fs → ⊥) → HeaderOffence l 1
+  -- no number follows
+  no-number : (k : List ℕ) (fs : List (List ℕ)) → fieldsOf (l .bytes) ≡ linesWord ∷ k ∷ fs → ((n : ℕ) → NumberField k n → ⊥) → HeaderOffence l 1
+  -- n is outside 1 to 64
+  outside : (k : List ℕ) (fs : List (List ℕ)) → fieldsOf (l .bytes) ≡ linesWord ∷ k ∷ fs → (n : ℕ) → NumberField k n → (1 ≤ n → n ≤ maxLines → ⊥) → HeaderOffence l 2
+  -- n is good, and a further field stands there or the LF is missing
+  no-end : (k : List ℕ) (fs : List (List ℕ)) → fieldsOf (l .bytes) ≡ linesWord ∷ k ∷ fs → (n : ℕ) → NumberField k n → 1 ≤ n → n ≤ maxLines
+      → (fs ≡ [] → l .ended ≡ true → ⊥) → HeaderOffence l 1
+
+-- the first control field that is wrong, by its form or its value
+pub data ControlsOffence (n : ℕ) : List (List ℕ) → ℕ → Type 0 where
+  form : (f : List ℕ) (fs : List (List ℕ)) → ((c : Control) → ControlField f c → ⊥) → ControlsOffence n (f ∷ fs) 1
+  value : (f : List ℕ) (fs : List (List ℕ)) (c : Control) → ControlField f c → n ≤ c .line → ControlsOffence n (f ∷ fs) 3
+  later : (f : List ℕ) (fs : List (List ℕ)) (c : Control) → ControlField f c → c .line < n → (number : ℕ) → ControlsOffence n fs number → ControlsOffence n (f ∷ fs) number
+
+-- every control is a line of the cascade
+pub data Inside (n : ℕ) : List Control → Type 0 where
+  none : Inside n []
+  more : (c : Control) (cs : List Control) → c .line < n → Inside n cs → Inside n (c ∷ cs)
+
+-- line t is one of the controls'
+pub data Among (t : ℕ) : List Control → Type 0 where
+  here : (c : Control) (cs : List Control) → c .line ≡ t → Among t (c ∷ cs)
+  there : (c : Control) (cs : List Control) → Among t cs → Among t (c ∷ cs)
+
+-- a control's line is not above that of the one before
+pub data NotRising : List Control → Type 0 where
+  here : (c d : Control) (cs : List Control) → d .line ≤ c .line → NotRising (c ∷ d ∷ cs)
+  there : (c : Control) (cs : List Control) → NotRising cs → NotRising (c ∷ cs)
+
+-- the fields of a gate line are all good: target k and the controls cs
+pub record GoodFields (n : ℕ) (l : Line) (k : ℕ) (cs : List Control) : Type 0 where
+  pub fields : fieldsOf (l .bytes) ≡ gateWord ∷ numberText k ∷ map controlText cs
+  pub target : k < n
+  pub controls : Inside n cs
+
+-- line i after the header
+pub data LineOffence (n i : ℕ) (l : Line) : ℕ → Type 0 where
+  -- it does not start `g` tab, and is not `end` with its LF
+  no-gate : ((t : List ℕ) (fs : List (List ℕ)) → fieldsOf (l .bytes) ≡ gateWord ∷ t ∷ fs → ⊥) → (l .bytes ≡ endWord → l .ended ≡ true → ⊥) → LineOffence n i l 1
+  -- it starts `g` tab, and 1,024 gate lines stand before it
+  many : (t : List ℕ) (fs : List (List ℕ)) → fieldsOf (l .bytes) ≡ gateWord ∷ t ∷ fs → maxGates < i → LineOffence n i l 6
+  -- the target's form, its value, then the controls
+  target-form : (t : List ℕ) (fs : List (List ℕ)) → fieldsOf (l .bytes) ≡ gateWord ∷ t ∷ fs → i ≤ maxGates → ((k : ℕ) → NumberField t k → ⊥) → LineOffence n i l 1
+  target-value : (t : List ℕ) (fs : List (List ℕ)) → fieldsOf (l .bytes) ≡ gateWord ∷ t ∷ fs → i ≤ maxGates → (k : ℕ) → NumberField t k → n ≤ k → LineOffence n i l 3
+  controls : (t : List ℕ) (fs : List (List ℕ)) → fieldsOf (l .bytes) ≡ gateWord ∷ t ∷ fs → i ≤ maxGates → (k : ℕ) → NumberField t k → k < n
+      → (number : ℕ) → ControlsOffence n fs number → LineOffence n i l number
+  -- all fields are good: a missing LF, the target among its controls, controls that do not rise
+  no-end : (k : ℕ) (cs : List Control) → GoodFields n l k cs → i ≤ maxGates → l .ended ≡ false → LineOffence n i l 1
+  controlled : (k : ℕ) (cs : List Control) → GoodFields n l k cs → i ≤ maxGates → l .ended ≡ true → Among k cs → LineOffence n i l 4
+  not-rising : (k : ℕ) (cs : List Control) → GoodFields n l k cs → i ≤ maxGates → l .ended ≡ true → (Among k cs → ⊥) → NotRising cs → LineOffence n i l 5
+
+-- the lines before are good, and the line or the missing line after them is not
+pub data FileFault (text : List ℕ) : ℕ → ℕ → Type 0 where
+  header-line : (number : ℕ) → HeaderOffence (firstLine (linesOf text)) number → FileFault text number 0
+  later-line : (n : ℕ) (gs : List Gate) (rest : List ℕ) → FileCascade n gs → text ≡ headerLine n ++ (gateLines gs ++ rest)
+      → (number : ℕ) → LineOffence n (length gs + 1) (firstLine (linesOf rest)) number → FileFault text number (length gs + 1)
+
+-- ---- the laws, of any reader
+
+pub record ReaderLaws (read : List ℕ → Outcome Reading) : Type 0 where
+  -- the text of a cascade, followed by anything, is read as that cascade and takes the length of its text
+  pub text-read : (n : ℕ) (gs : List Gate) (rest : List ℕ) → FileCascade n gs
+      → read (textOf n gs ++ rest) ≡ served (record { lines = n; gates = gs; taken = length (textOf n gs) })
+  -- a text that is read as a cascade, with t bytes taken, has the cascade's text as its first t bytes
+  pub read-text : (text : List ℕ) (c : Reading) → read text ≡ served c → (FileCascade (c .lines) (c .gates)) × (take (c .taken) text ≡ textOf (c .lines) (c .gates))
+  -- refused with a number at a place exactly for what is wrong there first
+  pub read-refused : (text : List ℕ) (number place : ℕ) → (read text ≡ refused number place) ↔ FileFault text number place
+
+-- a text that starts with the text of a cascade, and a buffer that has room for its words
+pub record Readable (text : List ℕ) (room : ℕ) (c : ReadCounts) : Type 0 where
+  pub cascade : List Gate
+  pub rest : List ℕ
+  pub good : FileCascade (c .lines) cascade
+  pub starts : text ≡ textOf (c .lines) cascade ++ rest
+  pub gates : c .gates ≡ length cascade
+  pub taken : c .taken ≡ length (textOf (c .lines) cascade)
+  pub fits : 3 * length cascade ≤ room
+
+-- what is wrong with the text; or, where nothing is, the buffer is too short
+pub data ReadFault (text : List ℕ) (room : ℕ) : ℕ → ℕ → Type 0 where
+  wrong : (number place : ℕ) → FileFault text number place → ReadFault text room number place
+  short : (n : ℕ) (gs : List Gate) (rest : List ℕ) → FileCascade n gs → text ≡ textOf n gs ++ rest → room < 3 * length gs → ReadFault text room 10 0
+
+pub record FileLaws : Type 0 where
+  pub reader : ReaderLaws reading
+  -- a text is served exactly when it starts with the text of a cascade and the buffer is long enough, and refused exactly by what is wrong
+  pub read-served : (text : List ℕ) (room : ℕ) (c : ReadCounts) → (readOutcome text room ≡ served c) ↔ Readable text room c
+  pub read-refused : (text : List ℕ) (room number place : ℕ) → (readOutcome text room ≡ refused number place) ↔ ReadFault text room number place
+  -- a reader that refuses all does not have the laws
+  pub refuses-all : (read : List ℕ → Outcome Reading) → ((text : List ℕ) → (number : ℕ) × (place : ℕ) × (read text ≡ refused number place)) → ReaderLaws read → ⊥

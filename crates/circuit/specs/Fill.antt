@@ -1,0 +1,38 @@
+-- For the contracts of the functions that read a text that was judged good: what stands at a position.
+use mathlib.Core.Path.{_≡_}
+use mathlib.Core.Bool.{true}
+use mathlib.Core.List.{List, [], _∷_, _++_}
+use Prim.Native.Nat.{ℕ, _<_}
+use lib.ListN.{drop}
+use Rattle.gates.specs.declared.gate.Gate.{Gate}
+use Rattle.gates.specs.Gate.{maxLines, valid, Control}
+use Rattle.gates.specs.Words.{allValid}
+use Rattle.circuit.specs.Text.{lineFeed, numberText, controlsText, gateLine, gateLines}
+use Rattle.circuit.specs.FileLaws.{Inside}
+
+-- these bytes, and then anything
+pub record Stands (text : List ℕ) (at : ℕ) (bytes : List ℕ) : Type 0 where
+  pub rest : List ℕ
+  pub is : drop at text ≡ bytes ++ rest
+
+-- a number below 100, and after it a byte that is below the digits
+pub record NumberAt (text : List ℕ) (at k : ℕ) : Type 0 where
+  pub small : k < 100
+  pub after : ℕ
+  pub low : after < 48
+  pub stands : Stands text at (numberText k ++ (after ∷ []))
+
+-- controls, each after a tab, and the LF of their line
+pub record ControlsAt (text : List ℕ) (at : ℕ) (cs : List Control) : Type 0 where
+  pub lines : Inside maxLines cs
+  pub stands : Stands text at (controlsText cs ++ (lineFeed ∷ []))
+
+-- the line of a gate
+pub record GateAt (text : List ℕ) (at : ℕ) (g : Gate) : Type 0 where
+  pub good : valid maxLines g ≡ true
+  pub stands : Stands text at (gateLine g)
+
+-- the lines of gates
+pub record GatesAt (text : List ℕ) (at : ℕ) (gs : List Gate) : Type 0 where
+  pub good : allValid maxLines gs ≡ true
+  pub stands : Stands text at (gateLines gs)

@@ -1,0 +1,23 @@
+-- For the contracts of the functions that write at the start of a buffer.
+use mathlib.Core.Path.{_≡_}
+use mathlib.Core.List.{List}
+use Prim.Native.Nat.{ℕ, _+_, _*_, _/_, _%_, _<_, _≤_}
+use lib.ListN.{length, getD}
+use Rattle.bits.specs.Lists.{over}
+use Rattle.gates.specs.declared.gate.Gate.{Gate}
+use Rattle.circuit.specs.Text.{digit}
+
+-- these bytes stand at the start of the buffer, and their number was told
+pub record Put (told : ℕ) (last bytes first : List ℕ) : Type 0 where
+  pub count : told ≡ length bytes
+  pub buffer : last ≡ over bytes first
+
+-- the texts 00 to 99, one after the other
+pub record TwoDigits (table : List ℕ) : Type 0 where
+  pub long : 200 ≤ length table
+  pub tens : (k : ℕ) → k < 100 → getD table (2 * k) 0 ≡ digit (k / 10)
+  pub ones : (k : ℕ) → k < 100 → getD table (2 * k + 1) 0 ≡ digit (k % 10)
+
+-- a gate with these masks
+abbrev pub maskGate : ℕ → ℕ → Gate
+maskGate positive negative = record { positive = positive; negative = negative; target = 0 }

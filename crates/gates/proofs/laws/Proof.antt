@@ -1,0 +1,52 @@
+-- `gates::laws` meets its contract: the record of the laws. Assumes nothing.
+use Rattle.gates.proofs.gate.Laws.{fires-lines, lines-fires, valid-by-lines, lines-valid, valid-more, apply-bit, apply-none, apply-not, apply-twice, apply-below, count-lines}
+use Rattle.gates.proofs.gate.Controls.{controls-count, controls-fire}
+use Rattle.gates.proofs.words.Laws.{gates-words, words-gates, check-served, served-check, check-refused, refused-check, pair-served, served-pair, pair-refused, refused-pair}
+use Rattle.gates.proofs.run.Laws.{run-append, run-below, equal-differs}
+use Rattle.gates.proofs.run.Records.{records-words}
+use Rattle.gates.proofs.inverse.Laws.{run-inverse, inverse-run, inverse-append, inverse-twice, inverse-valid}
+use Rattle.gates.proofs.laws.Statement.{statement}
+use Rattle.gates.proofs.laws.Tie as tie
+
+returns : tie.Need-returns
+returns c =
+    record {
+      gate =
+          record {
+            fires-lines = λ g s. (fires-lines g s, lines-fires g s);
+            valid-lines = λ n g. (valid-by-lines n g, lines-valid n g);
+            valid-more = valid-more;
+            apply-line = apply-bit;
+            apply-none = apply-none;
+            apply-not = apply-not;
+            apply-twice = apply-twice;
+            apply-below = apply-below;
+            count-lines = count-lines;
+            controls-count = controls-count;
+            controls-fire = controls-fire;
+          };
+      words =
+          record {
+            gates-words = gates-words;
+            words-gates = words-gates;
+            check-served = λ n ws limit k. (check-served n ws limit k, served-check n ws limit k);
+            check-refused = λ n ws limit number place. (check-refused n ws limit number place, refused-check n ws limit number place);
+            pair-served = λ na a nb b c. (pair-served na a nb b c, (λ x. served-pair na a nb b (c .first) (c .second) (x .0) (x .1) (x .2)));
+            pair-refused = λ na a nb b number place. (pair-refused na a nb b number place, refused-pair na a nb b number place);
+          };
+      cascade =
+          record {
+            run-append = run-append;
+            run-below = run-below;
+            records-words = records-words;
+            run-inverse = run-inverse;
+            inverse-run = inverse-run;
+            inverse-append = inverse-append;
+            inverse-twice = inverse-twice;
+            inverse-valid = inverse-valid;
+            equal-differs = equal-differs;
+          };
+    }
+
+pub laws-spec : {M : Type 1} → statement M
+laws-spec = tie.close (tie.spec returns)

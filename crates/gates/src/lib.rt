@@ -1,0 +1,14 @@
+// Gates and cascades of reversible circuits, below the crate circuit, which passes them on.
+
+ghost use Rattle.gates.specs.Laws.{CircuitLaws};
+
+pub mod gate;
+pub mod inverse;
+pub mod refusal;
+pub mod run;
+pub mod words;
+
+// Has no effect: its contract is the record of this crate's laws.
+pub fn laws()
+    ensures { λ _. ⌜ CircuitLaws ⌝ }
+{}
