@@ -8,9 +8,9 @@ use lib.ListN.{length, take}
 use Rattle.gates.specs.declared.gate.Gate.{Gate}
 use Rattle.gates.specs.Gate.{maxLines, maxGates, Control}
 use Rattle.gates.specs.Outcome.{Outcome, served, refused}
-use Rattle.gates.specs.Words.{allValid}
+use Rattle.gates.specs.Words.{gatesOf, allValid, Cascade, WordsFault}
 use Rattle.circuit.specs.Text.{linesWord, gateWord, endWord, numberText, controlText, headerLine, gateLines, textOf}
-use Rattle.circuit.specs.File.{Line, firstLine, linesOf, fieldsOf, Reading, reading, ReadCounts, readOutcome}
+use Rattle.circuit.specs.File.{Line, firstLine, linesOf, fieldsOf, Reading, reading, ReadCounts, readOutcome, writeOutcome}
 
 -- a cascade that a file can hold
 pub record FileCascade (n : ℕ) (gs : List Gate) : Type 0 where
@@ -118,10 +118,25 @@ pub data ReadFault (text : List ℕ) (room : ℕ) : ℕ → ℕ → Type 0 where
   wrong : (number place : ℕ) → FileFault text number place → ReadFault text room number place
   short : (n : ℕ) (gs : List Gate) (rest : List ℕ) → FileCascade n gs → text ≡ textOf n gs ++ rest → room < 3 * length gs → ReadFault text room 10 0
 
+-- the words of a cascade, and a buffer that has room for its text of k bytes
+pub record Writable (n : ℕ) (ws : List ℕ) (room k : ℕ) : Type 0 where
+  pub gates : ℕ
+  pub good : Cascade n ws maxGates gates
+  pub bytes : k ≡ length (textOf n (gatesOf ws))
+  pub fits : k ≤ room
+
+-- what is wrong with a writing: with the words, or 10 for a cascade and a buffer shorter than its text
+pub data WriteFault (n : ℕ) (ws : List ℕ) (room : ℕ) : ℕ → ℕ → Type 0 where
+  words : {number place : ℕ} → WordsFault n ws maxGates number place → WriteFault n ws room number place
+  no-room : (k : ℕ) → Cascade n ws maxGates k → room < length (textOf n (gatesOf ws)) → WriteFault n ws room 10 0
+
 pub record FileLaws : Type 0 where
   pub reader : ReaderLaws reading
   -- a text is served exactly when it starts with the text of a cascade and the buffer is long enough, and refused exactly by what is wrong
   pub read-served : (text : List ℕ) (room : ℕ) (c : ReadCounts) → (readOutcome text room ≡ served c) ↔ Readable text room c
   pub read-refused : (text : List ℕ) (room number place : ℕ) → (readOutcome text room ≡ refused number place) ↔ ReadFault text room number place
+  -- words are written exactly where they are a cascade's and the buffer has room for its text, and refused exactly by what is wrong
+  pub write-served : (n : ℕ) (ws : List ℕ) (room k : ℕ) → (writeOutcome n ws room ≡ served k) ↔ Writable n ws room k
+  pub write-refused : (n : ℕ) (ws : List ℕ) (room number place : ℕ) → (writeOutcome n ws room ≡ refused number place) ↔ WriteFault n ws room number place
   -- a reader that refuses all does not have the laws
   pub refuses-all : (read : List ℕ → Outcome Reading) → ((text : List ℕ) → (number : ℕ) × (place : ℕ) × (read text ≡ refused number place)) → ReaderLaws read → ⊥

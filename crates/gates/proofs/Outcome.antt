@@ -1,5 +1,5 @@
 -- The laws of outcomes: a test that holds or fails, a call that goes on, and what a call that writes a buffer owes. Assumes nothing.
-use mathlib.Core.Path.{_≡_, refl, sym, ap, ap₂, _∙_}
+use mathlib.Core.Path.{_≡_, refl, sym, ap, ap₂, subst₂, _∙_}
 use mathlib.Core.Bool.{Bool, true, false}
 use mathlib.Core.List.{List}
 use Prim.Native.Nat.{ℕ}
@@ -47,6 +47,25 @@ pub then-fails : {A B : Type 0} (first : Outcome A) (value : A → B) (number pl
     → first ≡ refused number place
 then-fails (served a) value number place e = absurd (never refl e)
 then-fails (refused x y) value number place e = let p : x ≡ number = cc in let q : y ≡ place = cc in ap₂ refused p q
+
+-- what a refused call tells
+module _ (F : ℕ → ℕ → Type 0) where
+  pub same-refusal : {A : Type 0} {u v x y : ℕ} → _≡_ {A = Outcome A} (refused u v) (refused x y) → F u v → F x y
+  same-refusal {A} {u} {v} {x} {y} e w = let p : u ≡ x = cc in let q : v ≡ y = cc in subst₂ F p q w
+
+  -- it was refused before, or went on and was refused then
+  pub then-either : {A B : Type 0} (first : Outcome A) (more : A → Outcome B)
+      → ((x y : ℕ) → first ≡ refused x y → F x y)
+      → ((a : A) → first ≡ served a → (x y : ℕ) → more a ≡ refused x y → F x y)
+      → (x y : ℕ) → andThen first more ≡ refused x y → F x y
+  then-either (served a) more p q x y e = q a refl x y e
+  then-either (refused u v) more p q x y e = same-refusal e (p u v refl)
+
+  -- its last test failed
+  pub last-failed : {A : Type 0} (test : Bool) (number place : ℕ) (value : A) → (test ≡ false → F number place)
+      → (x y : ℕ) → demand test number place (served value) ≡ refused x y → F x y
+  last-failed true number place value p x y e = absurd (never refl e)
+  last-failed false number place value p x y e = same-refusal e (p refl)
 
 -- a call owes this where its outcome and the buffer that goes with it are known
 pub told : {A B : Type 0} (front out : List B) (r : Outcome A) (last : List B) (outcome o : Outcome A) → r ≡ o → outcome ≡ o → last ≡ written o front out

@@ -13,7 +13,7 @@ use Rattle.gates.specs.Gate.{maxLines, maxGates, notGate, valid, fires, 
 use Rattle.gates.specs.Outcome.{served, refused}
 use Rattle.gates.specs.Words.{gatesOf, wordsOf, allValid, checkOutcome, Cascade, WordsFault, Counts, pairOutcome, PairFault}
 use Rattle.gates.specs.Run.{run, Equal, Differs, runOutcome, recordsOutcome}
-use Rattle.gates.specs.Inverse.{inverse}
+use Rattle.gates.specs.Inverse.{inverse, inverseOutcome}
 
 -- every positive control is 1 and every negative one 0, line by line
 pub record FiresByLines (g : Gate) (s : ℕ) : Type 0 where
@@ -58,10 +58,23 @@ pub record WordsLaws : Type 0 where
   pub pair-refused : (na : ℕ) (a : List ℕ) (nb : ℕ) (b : List ℕ) (number place : ℕ)
       → (pairOutcome na a nb b ≡ refused number place) ↔ PairFault na a nb b number place
 
+-- what is wrong with a run: with the words, or 9 for a cascade and a state of 2 ^ n or more
+pub data RunFault (n : ℕ) (ws : List ℕ) (s : ℕ) : ℕ → ℕ → Type 0 where
+  run-words : {number place : ℕ} → WordsFault n ws maxGates number place → RunFault n ws s number place
+  outside : (k : ℕ) → Cascade n ws maxGates k → 2 ^ n ≤ s → RunFault n ws s 9 0
+
+-- what is wrong with the call of the inverse: with the words, or 10 for a cascade and a buffer of fewer words than it has
+pub data InverseFault (n : ℕ) (ws : List ℕ) (room : ℕ) : ℕ → ℕ → Type 0 where
+  inverse-words : {number place : ℕ} → WordsFault n ws maxGates number place → InverseFault n ws room number place
+  short : (k : ℕ) → Cascade n ws maxGates k → room < length ws → InverseFault n ws room 10 0
+
 pub record CascadeLaws : Type 0 where
   -- a run of two cascades in a row, and its bound
   pub run-append : (a b : List Gate) (s : ℕ) → run (a ++ b) s ≡ run b (run a s)
   pub run-below : (n : ℕ) (gs : List Gate) → allValid n gs ≡ true → (s : ℕ) → s < 2 ^ n → run gs s < 2 ^ n
+  -- a run and the call of the inverse are refused exactly by what is wrong
+  pub run-refused : (n : ℕ) (ws : List ℕ) (s number place : ℕ) → (runOutcome n ws s ≡ refused number place) ↔ RunFault n ws s number place
+  pub inverse-refused : (n : ℕ) (ws : List ℕ) (room number place : ℕ) → (inverseOutcome n ws room ≡ refused number place) ↔ InverseFault n ws room number place
   -- a run over gate records has the outcome of the run on their words
   pub records-words : (n : ℕ) (gs : List Gate) (s : ℕ) → recordsOutcome n gs s ≡ runOutcome n (wordsOf gs) s
   -- the inverse undoes the run, both ways

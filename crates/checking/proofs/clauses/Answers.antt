@@ -12,9 +12,8 @@ use Rattle.gates.specs.Gate.{maxMiterGates}
 use Rattle.gates.specs.Outcome.{Outcome, served, refused, Yields}
 use Rattle.gates.specs.Refusal.{noRoom}
 use Rattle.gates.specs.Words.{gatesOf, checkOutcome, WordsFault}
-use Rattle.gates.proofs.Outcome.{told, then-served, then-refused, then-both, then-fails, demand-met, demand-failed, demanded}
+use Rattle.gates.proofs.Outcome.{told, then-served, then-refused, then-both, then-fails, demand-met, demand-failed, demanded, then-either, last-failed}
 use Rattle.gates.proofs.words.Laws.{check-served, served-check, check-refused, refused-check}
-use Rattle.diagnosis.proofs.faults.Refusals.{then-either, last-failed}
 use Rattle.checking.specs.declared.clauses.Totals.{Totals}
 use Rattle.checking.specs.Clauses.{clausesOf}
 use Rattle.checking.specs.Stored.{stored}

@@ -9,14 +9,16 @@ use lib.Seq.{take-at}
 use borrow.Author.Tests.{le-leb, lt-leb, leb-true, leb-false}
 use Rattle.bits.proofs.Bools.{either, cond-false}
 use Rattle.gates.specs.declared.gate.Gate.{Gate}
-use Rattle.gates.specs.Gate.{maxLines}
+use Rattle.gates.specs.Gate.{maxLines, maxGates}
 use Rattle.gates.specs.Outcome.{Outcome, served, refused, andThen}
 use Rattle.gates.specs.Refusal.{wrongForm, noRoom}
 use Rattle.circuit.specs.Text.{tab, lineFeed, linesWord, numberText, headerLine, endLine, gateLines, textOf}
-use Rattle.circuit.specs.File.{Line, noLine, firstLine, laterLines, linesOf, size, gateOn, gateFields, fieldsOf, headerOn, isEnd, Reading, readFrom, reading, ReadCounts, countsOf, readOutcome}
+use Rattle.circuit.specs.File.{Line, noLine, firstLine, laterLines, linesOf, size, gateOn, gateFields, fieldsOf, headerOn, isEnd, Reading, readFrom, reading, ReadCounts, countsOf, readOutcome, writeOutcome}
 use Rattle.circuit.specs.FileLaws as laws
-use Rattle.circuit.specs.FileLaws.{FileCascade, LineOffence, FileFault, ReaderLaws, Readable, ReadFault}
-use Rattle.gates.proofs.Outcome.{never, demand-met, demand-failed, then-served, then-refused}
+use Rattle.circuit.specs.FileLaws.{FileCascade, LineOffence, FileFault, ReaderLaws, Readable, ReadFault, Writable, WriteFault}
+use Rattle.gates.specs.Words.{gatesOf, checkOutcome}
+use Rattle.gates.proofs.words.Laws.{check-served, served-check, check-refused, refused-check}
+use Rattle.gates.proofs.Outcome.{never, demand-met, demand-failed, then-served, then-refused, then-both, demanded, then-either, last-failed, same-refusal}
 use Rattle.circuit.proofs.file.Lines.{Cut, cut-first}
 use Rattle.circuit.proofs.file.Texts.{headerText, start-read, text-read}
 use Rattle.circuit.proofs.file.Offences.{HeaderFound, header-found, header-refused, offence-refused, offence-open, Walked, whole-text, stopped, walked}
@@ -163,18 +165,15 @@ module _ (text : List ℕ) (room : ℕ) where
   pub read-refused : (number place : ℕ) → readOutcome text room ≡ refused number place → ReadFault text room number place
   read-refused number place e = go (reading text) refl
     where
-      is : (x y : ℕ) → _≡_ {A = Outcome ReadCounts} (refused x y) (refused number place) → ReadFault text room x y → ReadFault text room number place
-      is x y f w = let p : x ≡ number = cc in let q : y ≡ place = cc in subst₂ (ReadFault text room) p q w
-
       go : (o : Outcome Reading) → reading text ≡ o → ReadFault text room number place
-      go (refused x y) q = is x y (sym (read-bad x y q) ∙ e) (ReadFault.wrong x y (read-fault text x y q))
+      go (refused x y) q = same-refusal (ReadFault text room) (sym (read-bad x y q) ∙ e) (ReadFault.wrong x y (read-fault text x y q))
       go (served d) q =
           let (rest, g, t, k) = read-cascade text d q in
           either (leb (3 * length (d .gates)) room)
           (λ h. absurd (never (read-fits d q (leb-true _ _ h)) e))
           (λ h.
           let l : room < 3 * length (d .gates) = leb-false _ _ h in
-          is noRoom 0 (sym (read-short d q l) ∙ e) (ReadFault.short (d .lines) (d .gates) rest g t l))
+          same-refusal (ReadFault text room) (sym (read-short d q l) ∙ e) (ReadFault.short (d .lines) (d .gates) rest g t l))
 
   pub refused-read : (number place : ℕ) → ReadFault text room number place → readOutcome text room ≡ refused number place
   refused-read number place (ReadFault.wrong x y f) = read-bad x y (fault-read text x y f)
@@ -187,3 +186,33 @@ unfolding Rattle.gates.specs.Words.allValid
 refuses-all read all r =
     let (number, place, e) = all (textOf 1 [] ++ []) in
     never (r .text-read 1 [] [] (record { lines-low = omega arith; lines-high = omega arith; few = omega arith; gates = refl })) e
+
+-- ---- writing
+
+module _ (n : ℕ) (ws : List ℕ) (room : ℕ) where
+  pub served-write : (k : ℕ) → Writable n ws room k → writeOutcome n ws room ≡ served k
+  unfolding writeOutcome
+  served-write k w =
+      then-served _ _ (w .gates) (served-check n ws maxGates (w .gates) (w .good))
+      ∙ demand-met _ _ _ _ (le-leb (length (textOf n (gatesOf ws))) room (omega (arith, w .bytes, w .fits)))
+      ∙ ap served (sym (w .bytes))
+
+  pub write-served : (k : ℕ) → writeOutcome n ws room ≡ served k → Writable n ws room k
+  unfolding writeOutcome
+  write-served k e =
+      let (g, a, b) = then-both (checkOutcome n ws maxGates) _ k e in
+      let (t, q) = demanded (leb (length (textOf n (gatesOf ws))) room) noRoom 0 (served (length (textOf n (gatesOf ws)))) k b in
+      let x : length (textOf n (gatesOf ws)) ≡ k = cc in
+      record { gates = g; good = check-served n ws maxGates g a; bytes = sym x; fits = omega (arith, leb-true (length (textOf n (gatesOf ws))) room t) }
+
+  pub fault-write : (number place : ℕ) → WriteFault n ws room number place → writeOutcome n ws room ≡ refused number place
+  unfolding writeOutcome
+  fault-write number place (WriteFault.words w) = then-refused _ _ number place (refused-check n ws maxGates number place w)
+  fault-write number place (WriteFault.no-room k c h) = then-served _ _ k (served-check n ws maxGates k c) ∙ demand-failed _ _ _ _ (lt-leb _ room h)
+
+  pub write-fault : (number place : ℕ) → writeOutcome n ws room ≡ refused number place → WriteFault n ws room number place
+  unfolding writeOutcome
+  write-fault =
+      then-either (WriteFault n ws room) (checkOutcome n ws maxGates) _
+      (λ x y p. WriteFault.words (check-refused n ws maxGates x y p))
+      (λ k p. last-failed (WriteFault n ws room) (leb (length (textOf n (gatesOf ws))) room) noRoom 0 _ (λ t. WriteFault.no-room k (check-served n ws maxGates k p) (leb-false _ _ t)))

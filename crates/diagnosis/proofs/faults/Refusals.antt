@@ -1,5 +1,5 @@
 -- The refusals of the sweep, the input check, the pick and the fault call: exactly by what is wrong. Assumes nothing.
-use mathlib.Core.Path.{_≡_, refl, sym, ap, subst, subst₂, _∙_}
+use mathlib.Core.Path.{_≡_, refl, sym, ap, subst, _∙_}
 use mathlib.Core.Bool.{Bool, true, false}
 use mathlib.Core.List.{List, [], _∷_}
 use Prim.Native.Nat.{ℕ, zero, suc, _+_, _*_, _^_, _<_}
@@ -8,37 +8,17 @@ use lib.Dec.{leb, ltb}
 use lib.ListN.{length, getD}
 use borrow.Author.Tests.{leb-false, lt-ltb, le-ltb, ltb-true, ltb-false}
 use Rattle.bits.proofs.Bools.{either}
-use Rattle.gates.specs.Outcome.{Outcome, served, refused, demand, andThen}
+use Rattle.gates.specs.Outcome.{Outcome, served, refused}
 use Rattle.gates.specs.Refusal.{badState, agreeingState, noRoom, tooWide}
 use Rattle.gates.specs.Words.{gatesOf, Counts, pairOutcome, PairFault}
 use Rattle.gates.specs.Run.{run}
-use Rattle.gates.proofs.Outcome.{never, demand-met, demand-failed, demanded, then-both, then-fails}
+use Rattle.gates.proofs.Outcome.{never, demand-met, demand-failed, demanded, then-both, then-fails, then-either, last-failed, same-refusal}
 use Rattle.gates.proofs.words.Laws.{pair-served, served-pair, pair-refused, refused-pair}
 use Rattle.diagnosis.specs.Compare.{outputsDiffer, maxSweepLines, differenceOutcome, differsOutcome, pickOutcome}
 use Rattle.diagnosis.specs.Faults.{eachFrom, faultCheck, faultOutcome}
 use Rattle.diagnosis.specs.RefusalLaws.{GoodPair, SweepFault, sweep-pair, wide, InputFault, input-pair, outside, Every, First, MasksFault, masks-pair, outside-at, agreeing-at, short, RefusalLaws}
 use Rattle.diagnosis.proofs.compare.Laws.{differ-no, no-differ, differ-yes, yes-differ, difference-refused, difference-wide, differs-refused, differs-outside, pick-refused}
 use Rattle.diagnosis.proofs.faults.Loops.{fault-pair, fault-state, fault-agree, fault-good, fault-refused, fault-short}
-
--- ---- what a refused call tells
-
-module _ (F : ℕ → ℕ → Type 0) where
-  same-refusal : {A : Type 0} {u v x y : ℕ} → _≡_ {A = Outcome A} (refused u v) (refused x y) → F u v → F x y
-  same-refusal {A} {u} {v} {x} {y} e w = let p : u ≡ x = cc in let q : v ≡ y = cc in subst₂ F p q w
-
-  -- it was refused before, or went on and was refused then
-  pub then-either : {A B : Type 0} (first : Outcome A) (more : A → Outcome B)
-      → ((x y : ℕ) → first ≡ refused x y → F x y)
-      → ((a : A) → first ≡ served a → (x y : ℕ) → more a ≡ refused x y → F x y)
-      → (x y : ℕ) → andThen first more ≡ refused x y → F x y
-  then-either (served a) more p q x y e = q a refl x y e
-  then-either (refused u v) more p q x y e = same-refusal e (p u v refl)
-
-  -- its last test failed
-  pub last-failed : {A : Type 0} (test : Bool) (number place : ℕ) (value : A) → (test ≡ false → F number place)
-      → (x y : ℕ) → demand test number place (served value) ≡ refused x y → F x y
-  last-failed true number place value p x y e = absurd (never refl e)
-  last-failed false number place value p x y e = same-refusal e (p refl)
 
 -- ---- the tests of the states
 

@@ -4,8 +4,9 @@ use mathlib.Core.Bool.{true}
 use mathlib.Core.List.{List, [], _∷_, _++_, reverse, reverse-cons}
 use Prim.Native.Nat.{ℕ, _+_, _-_, _*_, _/_, _≤_, _<_}
 use native.Mathlib.Omega.{arith}
+use lib.Dec.{leb}
 use lib.ListN.{length, drop, take, length-reverse, length-drop}
-use borrow.Author.Tests.{le-leb, lt-leb}
+use borrow.Author.Tests.{le-leb, lt-leb, leb-false}
 use borrow.Rule.Slice.PartMut.{putMid}
 use Rattle.bits.specs.Lists.{over}
 use Rattle.bits.proofs.Bools.{and-parts, both}
@@ -17,9 +18,10 @@ use Rattle.gates.specs.Refusal.{noRoom}
 use Rattle.gates.specs.Words.{gateAt, gateWords, gatesOf, wordsOf, allValid, checkOutcome}
 use Rattle.gates.specs.Inverse.{inverse, inverseOutcome, inverseBuffer}
 use Rattle.gates.specs.Run.{run}
+use Rattle.gates.specs.Laws.{InverseFault, inverse-words, short}
 use Rattle.gates.proofs.gate.Laws.{apply-twice}
-use Rattle.gates.proofs.Outcome.{demand-met, demand-failed, then-served, then-refused, told}
-use Rattle.gates.proofs.words.Laws.{gates-next, gates-end, gates-length, words-length, words-reverse, valid-append}
+use Rattle.gates.proofs.Outcome.{demand-met, demand-failed, then-served, then-refused, told, then-either, last-failed}
+use Rattle.gates.proofs.words.Laws.{gates-next, gates-end, gates-length, words-length, words-reverse, valid-append, check-served, served-check, check-refused, refused-check}
 
 -- the words of the gates from j on, in reverse order
 abbrev pub tailBack : List ℕ → ℕ → List ℕ
@@ -102,3 +104,18 @@ pub inverse-written : (n : ℕ) (ws out : List ℕ) (k : ℕ) → checkOutcome n
 unfolding inverseBuffer
 inverse-written n ws out k good room =
     ap (λ (o : Outcome ℕ). written o (wordsOf (inverse (gatesOf ws))) out) (inverse-made n ws (length out) k good room)
+
+-- ---- refused exactly by what is wrong
+
+module _ (n : ℕ) (ws : List ℕ) (room : ℕ) where
+  pub fault-inverse : (number place : ℕ) → InverseFault n ws room number place → inverseOutcome n ws room ≡ refused number place
+  unfolding inverseOutcome
+  fault-inverse number place (inverse-words w) = then-refused _ _ number place (refused-check n ws maxGates number place w)
+  fault-inverse number place (short k c h) = then-served _ _ k (served-check n ws maxGates k c) ∙ demand-failed _ _ _ _ (lt-leb (length ws) room h)
+
+  pub inverse-fault : (number place : ℕ) → inverseOutcome n ws room ≡ refused number place → InverseFault n ws room number place
+  unfolding inverseOutcome
+  inverse-fault =
+      then-either (InverseFault n ws room) (checkOutcome n ws maxGates) _
+      (λ x y p. inverse-words (check-refused n ws maxGates x y p))
+      (λ k p. last-failed (InverseFault n ws room) (leb (length ws) room) noRoom 0 k (λ t. short k (check-served n ws maxGates k p) (leb-false _ _ t)))

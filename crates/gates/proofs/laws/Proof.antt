@@ -2,9 +2,9 @@
 use Rattle.gates.proofs.gate.Laws.{fires-lines, lines-fires, valid-by-lines, lines-valid, valid-more, apply-bit, apply-none, apply-not, apply-twice, apply-below, count-lines}
 use Rattle.gates.proofs.gate.Controls.{controls-count, controls-fire}
 use Rattle.gates.proofs.words.Laws.{gates-words, words-gates, check-served, served-check, check-refused, refused-check, pair-served, served-pair, pair-refused, refused-pair}
-use Rattle.gates.proofs.run.Laws.{run-append, run-below, equal-differs}
+use Rattle.gates.proofs.run.Laws.{run-append, run-below, equal-differs, run-fault, fault-run}
 use Rattle.gates.proofs.run.Records.{records-words}
-use Rattle.gates.proofs.inverse.Laws.{run-inverse, inverse-run, inverse-append, inverse-twice, inverse-valid}
+use Rattle.gates.proofs.inverse.Laws.{run-inverse, inverse-run, inverse-append, inverse-twice, inverse-valid, inverse-fault, fault-inverse}
 use Rattle.gates.proofs.laws.Statement.{statement}
 use Rattle.gates.proofs.laws.Tie as tie
 
@@ -38,6 +38,8 @@ returns c =
           record {
             run-append = run-append;
             run-below = run-below;
+            run-refused = λ n ws s number place. (run-fault n ws s number place, fault-run n ws s number place);
+            inverse-refused = λ n ws room number place. (inverse-fault n ws room number place, fault-inverse n ws room number place);
             records-words = records-words;
             run-inverse = run-inverse;
             inverse-run = inverse-run;

@@ -6,7 +6,7 @@ use mathlib.Core.List.{List, [], _∷_, _++_}
 use Prim.Native.Nat.{ℕ, _+_, _*_, _/_, _^_, _<_, _≤_}
 use lib.Dec.{eqb, ltb}
 use lib.ListN.{length, drop}
-use borrow.Author.Tests.{eqb-true, eqb-false}
+use borrow.Author.Tests.{eqb-true, eqb-false, le-ltb, ltb-false}
 use Rattle.bits.specs.Lists.{fold}
 use Rattle.bits.proofs.Lists.{fold-append}
 use Rattle.bits.proofs.Bools.{and-parts, either}
@@ -16,9 +16,10 @@ use Rattle.gates.specs.Outcome.{Outcome, served, refused, andThen}
 use Rattle.gates.specs.Refusal.{badState, badLineCount}
 use Rattle.gates.specs.Words.{gateAt, gatesOf, allValid, lineCountGood, validFrom, sizeOutcome, checkOutcome}
 use Rattle.gates.specs.Run.{run, Equal, Differs, runOutcome}
-use Rattle.gates.proofs.Outcome.{demand-met, demand-failed, then-served, then-refused, then-both, then-fails}
+use Rattle.gates.specs.Laws.{RunFault, run-words, outside}
+use Rattle.gates.proofs.Outcome.{demand-met, demand-failed, then-served, then-refused, then-both, then-fails, then-either, last-failed}
 use Rattle.gates.proofs.gate.Laws.{apply-below}
-use Rattle.gates.proofs.words.Laws.{gates-next, gates-end, check-lines, check-gates, gates-refused, gates-sized}
+use Rattle.gates.proofs.words.Laws.{gates-next, gates-end, check-lines, check-gates, gates-refused, gates-sized, check-served, served-check, check-refused, refused-check}
 
 -- a turn over the words: gate i acts, and the others after it
 pub run-turn : (ws : List ℕ) (i : ℕ) (g : Gate) (s : ℕ) → i < length ws / 3 → g ≡ gateAt ws i
@@ -82,3 +83,18 @@ module _ (n : ℕ) (ws : List ℕ) (s : ℕ) where
       run-made t f e =
           let (m, v, w) = then-both (validFrom n 0 (gatesOf ws)) _ t (sym f) in
           then-served _ _ m (found _ v) ∙ demand-met _ _ _ _ e ∙ w
+
+-- ---- refused exactly by what is wrong
+
+module _ (n : ℕ) (ws : List ℕ) (s : ℕ) where
+  pub fault-run : (number place : ℕ) → RunFault n ws s number place → runOutcome n ws s ≡ refused number place
+  unfolding runOutcome
+  fault-run number place (run-words w) = then-refused _ _ number place (refused-check n ws maxGates number place w)
+  fault-run number place (outside k c h) = then-served _ _ k (served-check n ws maxGates k c) ∙ demand-failed _ _ _ _ (le-ltb s (2 ^ n) h)
+
+  pub run-fault : (number place : ℕ) → runOutcome n ws s ≡ refused number place → RunFault n ws s number place
+  unfolding runOutcome
+  run-fault =
+      then-either (RunFault n ws s) (checkOutcome n ws maxGates) _
+      (λ x y p. run-words (check-refused n ws maxGates x y p))
+      (λ k p. last-failed (RunFault n ws s) (ltb s (2 ^ n)) badState 0 _ (λ t. outside k (check-served n ws maxGates k p) (ltb-false _ _ t)))
