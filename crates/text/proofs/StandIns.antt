@@ -21,7 +21,7 @@ use Rattle.checking.specs.Satisfaction.{ClausesWithin, holds, satisfies, Satisf
 use Rattle.checking.specs.Stored.{stored}
 use Rattle.text.specs.Dimacs.{Dimacs, dimacsOf, dimacsRead}
 use Rattle.text.specs.Tomiter.{maxInput, maxWords, refusalText}
-use Rattle.text.specs.TextLaws.{Fitting, TextTells, ProgramLaws, contradictionText, contradiction, withoutFirstText, withoutFirst}
+use Rattle.text.specs.TextLaws.{StartsProblem, Fitting, TextTells, ProgramLaws, contradictionText, contradiction, withoutFirstText, withoutFirst}
 use Rattle.text.proofs.Reading.{text-back}
 use Rattle.text.proofs.Telling.{fitting-verdict, fitting-tells, refusal-starts}
 
@@ -113,5 +113,7 @@ without-first-fails laws =
     t .equal .0 (λ x h. refl) free free-satisfies
 
 -- a program that refuses all
-pub refuses-all : (number file place : ℕ) → ProgramLaws (λ input. refusalText number file place) → ⊥
-refuses-all number file place laws = refusal-starts number file place (laws .problem differing 1 once [] differing-fits)
+pub refuses-all : (program : List ℕ → List ℕ) → ((input : List ℕ) → (number : ℕ) × (file : ℕ) × (place : ℕ) × (program input ≡ refusalText number file place)) → ProgramLaws program → ⊥
+refuses-all program all laws =
+    let (number, file, place, e) = all differing in
+    refusal-starts number file place (subst StartsProblem e (laws .problem differing 1 once [] differing-fits))

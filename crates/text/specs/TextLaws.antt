@@ -90,7 +90,7 @@ pub record TextLaws : Type 0 where
   -- the stand-ins do not have these laws, and neither has a program that refuses all
   pub contradiction-fails : ProgramLaws contradiction → ⊥
   pub without-first-fails : ProgramLaws withoutFirst → ⊥
-  pub refuses-all : (number file place : ℕ) → ProgramLaws (λ input. refusalText number file place) → ⊥
+  pub refuses-all : (program : List ℕ → List ℕ) → ((input : List ℕ) → (number : ℕ) × (file : ℕ) × (place : ℕ) × (program input ≡ refusalText number file place)) → ProgramLaws program → ⊥
   -- every text fits a buffer of 98,321 bytes
   pub text-fits : (input : List ℕ) → length (tomiterText input) ≤ maxText
   pub room-enough : (input : List ℕ) (room : ℕ) → maxText ≤ room → tomiterOutcome input room ≡ served (length (tomiterText input))

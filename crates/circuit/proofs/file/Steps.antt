@@ -1,4 +1,4 @@
--- A reading as the code takes it: one line of the two loops over lines, the header, and what the call owes. Assumes nothing.
+-- A reading as the code takes it: one line of the loop that judges, the header, and what the call owes. Assumes nothing.
 use mathlib.Core.Path.{_≡_, refl, sym, ap, ap₂, _∙_, subst}
 use mathlib.Core.Bool.{true, false, false≢true}
 use mathlib.Core.List.{List, [], _∷_, _++_}
@@ -20,6 +20,9 @@ use Rattle.gates.proofs.Outcome.{never, then-served, then-refused, then-both, t
 use Rattle.gates.proofs.words.Laws.{valid-all-more}
 use Rattle.circuit.proofs.file.Lines.{cut-first, same-true}
 use Rattle.circuit.proofs.file.Offences.{GateFound, gate-found, HeaderFound, header-found, Walked, whole-text, stopped, walked}
+
+unserved : {A : Type 0} {a b : A} → _≡_ {A = Outcome A} (served a) (served b) → a ≡ b
+unserved e = cc
 
 -- a gate line that was read
 pub record Stepped (n : ℕ) (text : List ℕ) (gs : List Gate) (at next : ℕ) : Type 0 where
@@ -65,9 +68,6 @@ module _ (n : ℕ) (lines-high : n ≤ maxLines) (text : List ℕ) (gs : List Ga
             ∙ ap₂ (λ (k : ℕ) (ls : List Line). readFrom n (gs ++ (g ∷ [])) k ls) q
             (sym (c .later) ∙ ap linesOf (drop-drop (size l) at text ∙ ap (λ (k : ℕ). drop k text) q));
       }
-    where
-      unserved : {a b : ℕ} → _≡_ {A = Outcome ℕ} (served a) (served b) → a ≡ b
-      unserved e = cc
 
   pub step-refused : isEnd (lineAt (drop at text)) ≡ false → (number place : ℕ) → gateNext n (length gs + 1) at (drop at text) ≡ refused number place
       → readFrom n gs at (linesOf (drop at text)) ≡ refused number place
@@ -195,9 +195,6 @@ module _ (text : List ℕ) where
         is = then-served _ _ n good ∙ ap₂ (λ (k : ℕ) (ls : List Line). readFrom n [] k ls) q (sym (c .later) ∙ ap (λ (k : ℕ). linesOf (drop k text)) q);
       }
     where
-      unserved : {a b : HeaderNext} → _≡_ {A = Outcome HeaderNext} (served a) (served b) → a ≡ b
-      unserved e = cc
-
       facts : (o : Outcome ℕ) → HeaderFound (lineAt text) o → o ≡ served n → (n ≤ maxLines) × (lineAt text .ended ≡ true)
       facts o (HeaderFound.good k low high b d) q = let x : k ≡ n = cc in (omega arith, d)
       facts o (HeaderFound.bad number y) q = absurd (never q refl)
@@ -220,9 +217,6 @@ module _ (text : List ℕ) where
     judged k e =
         let (c, a, b) = then-both (readFrom n [] next (linesOf (drop next text))) _ k e in
         (c, s .is ∙ a, unserved b)
-      where
-        unserved : {a b : ReadCounts} → _≡_ {A = Outcome ReadCounts} (served a) (served b) → a ≡ b
-        unserved e = cc
 
     -- a text that was read has the lines of its gates after the header
     pub judged-good : (c : Reading) → reading text ≡ served c → GatesAt text next (c .gates)

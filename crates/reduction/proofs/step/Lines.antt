@@ -277,12 +277,6 @@ turned-back true false = refl
 turned-back false true = refl
 turned-back false false = refl
 
-pub match-target : (g h : Gate) (m : Match) → Matches g h m → g .target ≡ h .target
-match-target g h _ (pair t p q) = t
-match-target g h _ (drop r k b o u) = o .target ∙ sym (u .target)
-match-target g h _ (turn-first r k b o u) = o .target
-match-target g h _ (turn-second r k b o u) = sym (o .target)
-
 -- the gates that remain are valid on every n on which the two are
 pub match-valid : (n : ℕ) (g h : Gate) (m : Match) → Matches g h m → valid n g ≡ true → valid n h ≡ true → allValid n (remaining m) ≡ true
 unfolding allValid

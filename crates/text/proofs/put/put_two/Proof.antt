@@ -2,7 +2,6 @@
 use mathlib.Core.Path.{refl, ap₂, _∙_}
 use mathlib.Core.List.{[], _∷_}
 use Prim.Native.Nat.{ℕ}
-use native.Mathlib.Omega.{arith}
 use lib.Seq.{sets-eq}
 use borrow.Author.Needs.{needs}
 use Rattle.bits.specs.Lists.{over}
