@@ -1,9 +1,9 @@
 -- Answers of the calls that compare two cascades in C.
 use mathlib.Core.Bool.{Bool, true, false, cond}
 use lib.Dec.{ltb}
-use Rattle.gates.specs.Outcome.{Outcome, served, refused}
-use Rattle.gates.specs.Words.{Counts}
-use Rattle.diagnosis.specs.Compare.{Difference, none, lowest}
+use Rattle.circuit.specs.Outcome.{Outcome, served, refused}
+use Rattle.circuit.specs.Words.{Counts}
+use Rattle.checking.specs.Compare.{Difference, none, lowest}
 use Rattle.capi.specs.declared.compare.CascadeStateAnswer.{CascadeStateAnswer}
 use Rattle.capi.specs.declared.compare.CascadeDiffersAnswer.{CascadeDiffersAnswer}
 use Rattle.capi.specs.declared.compare.CascadeFewerAnswer.{CascadeFewerAnswer}

@@ -1,6 +1,6 @@
 -- A number of gates in C: number 0 for a served call, else the refusal's; a value that a case does not have is 0.
 use Prim.Native.Nat.{ℕ}
-use Rattle.gates.specs.Outcome.{Outcome, served, refused}
+use Rattle.circuit.specs.Outcome.{Outcome, served, refused}
 use Rattle.capi.specs.declared.count.CascadeCountAnswer.{CascadeCountAnswer}
 
 abbrev pub countAnswer : Outcome ℕ → CascadeCountAnswer

@@ -1,6 +1,6 @@
 -- A cascade that was read, and the bytes of a text, in C.
 use Prim.Native.Nat.{ℕ}
-use Rattle.gates.specs.Outcome.{Outcome, served, refused}
+use Rattle.circuit.specs.Outcome.{Outcome, served, refused}
 use Rattle.circuit.specs.File.{ReadCounts}
 use Rattle.capi.specs.declared.file.CascadeReadAnswer.{CascadeReadAnswer}
 use Rattle.capi.specs.declared.file.CascadeWriteAnswer.{CascadeWriteAnswer}

@@ -1,7 +1,7 @@
 -- A reduction's answer in C.
 use Prim.Native.Nat.{ℕ}
-use Rattle.gates.specs.Outcome.{Outcome, served, refused}
-use Rattle.reduction.specs.Reduce.{Reduced}
+use Rattle.circuit.specs.Outcome.{Outcome, served, refused}
+use Rattle.checking.specs.Reduce.{Reduced}
 use Rattle.capi.specs.declared.reduce.CascadeReduceAnswer.{CascadeReduceAnswer}
 
 abbrev pub reduceAnswer : Outcome (Reduced ℕ) → CascadeReduceAnswer

@@ -1,6 +1,6 @@
 -- An output state in C.
 use Prim.Native.Nat.{ℕ}
-use Rattle.gates.specs.Outcome.{Outcome, served, refused}
+use Rattle.circuit.specs.Outcome.{Outcome, served, refused}
 use Rattle.capi.specs.declared.run.CascadeRunAnswer.{CascadeRunAnswer}
 
 abbrev pub runAnswer : Outcome ℕ → CascadeRunAnswer

@@ -1,5 +1,5 @@
 -- The totals of a clause list in C.
-use Rattle.gates.specs.Outcome.{Outcome, served, refused}
+use Rattle.circuit.specs.Outcome.{Outcome, served, refused}
 use Rattle.checking.specs.declared.clauses.Totals.{Totals}
 use Rattle.capi.specs.declared.sizes.CascadeSizesAnswer.{CascadeSizesAnswer}
 

@@ -1,9 +1,9 @@
 -- A step's answer in C: found is 1 where it found something, and kind is 0 for a pair, 1 for a drop, 2 for a turn.
 use Prim.Native.Nat.{ℕ}
-use Rattle.gates.specs.Outcome.{Outcome, served, refused}
-use Rattle.reduction.specs.declared.step.Kind.{Kind}
-use Rattle.reduction.specs.declared.step.Kind.the-variants.{Cancel, RemoveControl, InvertControl}
-use Rattle.reduction.specs.Step.{Step, found, none}
+use Rattle.circuit.specs.Outcome.{Outcome, served, refused}
+use Rattle.checking.specs.declared.step.Kind.{Kind}
+use Rattle.checking.specs.declared.step.Kind.the-variants.{Cancel, RemoveControl, InvertControl}
+use Rattle.checking.specs.Step.{Step, found, none}
 use Rattle.capi.specs.declared.step.CascadeStepAnswer.{CascadeStepAnswer}
 
 abbrev pub kindNumber : Kind → ℕ

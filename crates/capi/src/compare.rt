@@ -5,8 +5,8 @@ use checking::compare::DiffersAnswer;
 use checking::compare::RefusalAnswer;
 use circuit::gate::Gate;
 ghost use mathlib.Core.Path.{_≡_};
-ghost use Rattle.gates.specs.Words.{pairOutcome};
-ghost use Rattle.diagnosis.specs.Compare.{differenceOutcome, differsOutcome};
+ghost use Rattle.circuit.specs.Words.{pairOutcome};
+ghost use Rattle.checking.specs.Compare.{differenceOutcome, differsOutcome};
 ghost use Rattle.capi.specs.Compare.{stateAnswer, differsAnswer, fewerAnswer};
 
 #[repr(C)]

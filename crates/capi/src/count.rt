@@ -2,7 +2,7 @@
 
 use circuit::words::CountAnswer;
 ghost use mathlib.Core.Path.{_≡_};
-ghost use Rattle.gates.specs.Words.{ofCount};
+ghost use Rattle.circuit.specs.Words.{ofCount};
 ghost use Rattle.capi.specs.Count.{countAnswer};
 
 #[repr(C)]

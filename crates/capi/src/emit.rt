@@ -2,7 +2,7 @@
 
 use crate::sizes::CascadeSizesAnswer;
 ghost use lib.ListN.{length};
-ghost use Rattle.gates.specs.Outcome.{Yields};
+ghost use Rattle.circuit.specs.Outcome.{Yields};
 ghost use Rattle.checking.specs.Emit.{emitOutcome, emitBuffer};
 ghost use Rattle.capi.specs.Sizes.{sizesAnswer};
 

@@ -2,8 +2,8 @@
 
 use crate::count::CascadeCountAnswer;
 ghost use lib.ListN.{length};
-ghost use Rattle.gates.specs.Outcome.{Yields};
-ghost use Rattle.diagnosis.specs.Faults.{faultOutcome, faultBuffer};
+ghost use Rattle.circuit.specs.Outcome.{Yields};
+ghost use Rattle.checking.specs.Faults.{faultOutcome, faultBuffer};
 ghost use Rattle.capi.specs.Count.{countAnswer};
 
 #[no_mangle]

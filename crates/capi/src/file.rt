@@ -3,7 +3,7 @@
 use circuit::file::ReadAnswer;
 use circuit::file::WriteAnswer;
 ghost use lib.ListN.{length};
-ghost use Rattle.gates.specs.Outcome.{Yields};
+ghost use Rattle.circuit.specs.Outcome.{Yields};
 ghost use Rattle.circuit.specs.File.{readOutcome, readBuffer, writeOutcome, writeBuffer};
 ghost use Rattle.capi.specs.File.{readAnswer, writeAnswer};
 

@@ -1,8 +1,8 @@
 // cascade_reduce.
 
 use checking::reduce::ReduceAnswer;
-ghost use Rattle.gates.specs.Outcome.{Yields};
-ghost use Rattle.reduction.specs.Reduce.{reduceOutcome, reduceBuffer};
+ghost use Rattle.circuit.specs.Outcome.{Yields};
+ghost use Rattle.checking.specs.Reduce.{reduceOutcome, reduceBuffer};
 ghost use Rattle.capi.specs.Reduce.{reduceAnswer};
 
 #[repr(C)]

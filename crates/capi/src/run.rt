@@ -3,7 +3,7 @@
 use circuit::gate::Gate;
 use circuit::run::RunAnswer;
 ghost use mathlib.Core.Path.{_≡_};
-ghost use Rattle.gates.specs.Run.{runOutcome, recordsOutcome, ofRun};
+ghost use Rattle.circuit.specs.Run.{runOutcome, recordsOutcome, ofRun};
 ghost use Rattle.capi.specs.Run.{runAnswer};
 
 #[repr(C)]

@@ -3,8 +3,8 @@
 use checking::step::Kind;
 use checking::step::StepAnswer;
 ghost use mathlib.Core.Path.{_≡_};
-ghost use Rattle.gates.specs.Outcome.{Yields};
-ghost use Rattle.reduction.specs.Step.{stepOutcome, stepBuffer};
+ghost use Rattle.circuit.specs.Outcome.{Yields};
+ghost use Rattle.checking.specs.Step.{stepOutcome, stepBuffer};
 ghost use Rattle.capi.specs.Step.{kindNumber, stepAnswer};
 
 #[repr(C)]

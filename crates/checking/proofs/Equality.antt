@@ -9,27 +9,27 @@ use lib.IntN.{ℤ}
 use lib.ListN.{length, take, drop}
 use borrow.Author.Tests.{le-leb}
 use Rattle.bits.specs.Lists.{over}
-use Rattle.gates.specs.declared.gate.Gate.{Gate}
-use Rattle.gates.specs.Gate.{maxLines, maxMiterGates}
-use Rattle.gates.specs.Outcome.{Outcome, served, refused, written}
-use Rattle.gates.specs.Words.{gatesOf, allValid, checkOutcome, Cascade}
-use Rattle.gates.specs.Run.{run}
-use Rattle.gates.proofs.Outcome.{demand-met, then-served, then-refused}
-use Rattle.gates.proofs.words.Laws.{check-served, served-check, valid-all-more}
+use Rattle.circuit.specs.declared.gate.Gate.{Gate}
+use Rattle.circuit.specs.Gate.{maxLines, maxMiterGates}
+use Rattle.circuit.specs.Outcome.{Outcome, served, refused, written}
+use Rattle.circuit.specs.Words.{gatesOf, allValid, checkOutcome, Cascade}
+use Rattle.circuit.specs.Run.{run}
+use Rattle.circuit.proofs.Outcome.{demand-met, then-served, then-refused}
+use Rattle.circuit.proofs.words.Laws.{check-served, served-check, valid-all-more}
 use Rattle.checking.specs.declared.clauses.Totals.{Totals}
-use Rattle.reduction.specs.Miter.{miterGates, miterOutcome, miterBuffer}
-use Rattle.reduction.specs.Step.{Step, found, none, stepGates, counted, stepOutcome, stepBuffer}
-use Rattle.reduction.specs.StepLaws.{Keeps, Stands}
-use Rattle.reduction.specs.Reduce.{Reduced, reduceGates, reduceOutcome, reduceBuffer}
+use Rattle.checking.specs.Miter.{miterGates, miterOutcome, miterBuffer}
+use Rattle.checking.specs.Step.{Step, found, none, stepGates, counted, stepOutcome, stepBuffer}
+use Rattle.checking.specs.StepLaws.{Keeps, Stands}
+use Rattle.checking.specs.Reduce.{Reduced, reduceGates, reduceOutcome, reduceBuffer}
 use Rattle.checking.specs.Clauses.{Clause, clausesOf, variablesOf}
 use Rattle.checking.specs.Stored.{stored, clausesIn}
 use Rattle.checking.specs.Satisfaction.{spelled, Tells}
 use Rattle.checking.specs.Sizes.{totals, sizesOf, sizesOutcome}
 use Rattle.checking.specs.Emit.{emitOutcome, emitBuffer}
 use Rattle.checking.specs.Equality.{Call, stepOn, reduceOn, stepLeaves, reduceLeaves, after, afterAll, Emitted, EqualityOf, Equality}
-use Rattle.reduction.proofs.miter.Laws.{miter-laws}
-use Rattle.reduction.proofs.step.Laws.{step-laws}
-use Rattle.reduction.proofs.reduce.Relation.{reduce-laws}
+use Rattle.checking.proofs.miter.Laws.{miter-laws}
+use Rattle.checking.proofs.step.Laws.{step-laws}
+use Rattle.checking.proofs.reduce.Relation.{reduce-laws}
 use Rattle.checking.proofs.clauses.Laws.{clause-laws}
 
 -- ---- what stands

@@ -8,22 +8,22 @@ use lib.IntN.{ℤ, pos}
 use lib.ListN.{length, take, drop, replicate, length-replicate}
 use borrow.Author.Tests.{le-leb}
 use Rattle.bits.specs.Lists.{fold, over}
-use Rattle.gates.specs.declared.gate.Gate.{Gate}
-use Rattle.gates.specs.Gate.{maxGates}
-use Rattle.gates.specs.Outcome.{Outcome, served, written}
-use Rattle.gates.specs.Words.{gatesOf, allValid, Cascade}
-use Rattle.gates.specs.Run.{run}
-use Rattle.gates.proofs.Outcome.{demand-met}
+use Rattle.circuit.specs.declared.gate.Gate.{Gate}
+use Rattle.circuit.specs.Gate.{maxGates}
+use Rattle.circuit.specs.Outcome.{Outcome, served, written}
+use Rattle.circuit.specs.Words.{gatesOf, allValid, Cascade}
+use Rattle.circuit.specs.Run.{run}
+use Rattle.circuit.proofs.Outcome.{demand-met}
 use Rattle.checking.specs.declared.clauses.Totals.{Totals}
 use Rattle.checking.specs.Clauses.{Clause, clausesOf, variablesOf}
 use Rattle.checking.specs.Stored.{stored, clausesIn, clausesRead}
 use Rattle.checking.specs.Satisfaction.{satisfies, Tells}
 use Rattle.checking.specs.Sizes.{totals}
-use Rattle.reduction.specs.Miter.{miterGates}
+use Rattle.checking.specs.Miter.{miterGates}
 use Rattle.checking.specs.ClauseLaws.{withoutLater, ofFirst, ofFirstVariables}
 use Rattle.checking.specs.Equality.{afterAll}
 use Rattle.checking.specs.EqualityLaws.{listOutcome, listBuffer, EqualityOfList, EqualityLaws}
-use Rattle.reduction.proofs.miter.Laws.{miter-laws}
+use Rattle.checking.proofs.miter.Laws.{miter-laws}
 use Rattle.checking.proofs.clauses.Laws.{clause-laws}
 use Rattle.checking.proofs.clauses.StandIns.{once, twice, once-valid, twice-valid, once-told, twice-told, free, free-satisfies, first-satisfied}
 use Rattle.checking.proofs.Equality.{equality, claimed}

@@ -4,14 +4,14 @@ use mathlib.Core.Bool.{true, xor}
 use lib.Count.{ones, onesIn}
 use Rattle.bits.specs.Digits.{bit}
 use Rattle.bits.specs.Lists.{fold}
-use Rattle.gates.specs.Gate.{valid, fires, inverted, apply, controlCount}
-use Rattle.gates.specs.Words.{gatesOf, wordsOf, validFrom, sizeOutcome, gatesOutcome, checkOutcome, pairOutcome}
-use Rattle.gates.specs.Run.{runOutcome}
-use Rattle.reduction.specs.Step.{controlLines, mayPass, controlRemoved, controlInverted, differing, matchOf, scanFrom, searchFrom, replaced, stepGates, filled, stepOutcome, stepBuffer}
-use Rattle.reduction.specs.Miter.{miterOutcome, miterBuffer}
+use Rattle.circuit.specs.Gate.{valid, fires, inverted, apply, controlCount}
+use Rattle.circuit.specs.Words.{gatesOf, wordsOf, validFrom, sizeOutcome, gatesOutcome, checkOutcome, pairOutcome}
+use Rattle.circuit.specs.Run.{runOutcome}
+use Rattle.checking.specs.Step.{controlLines, mayPass, controlRemoved, controlInverted, differing, matchOf, scanFrom, searchFrom, replaced, stepGates, filled, stepOutcome, stepBuffer}
+use Rattle.checking.specs.Miter.{miterOutcome, miterBuffer}
 use Rattle.checking.specs.Clauses.{upFrom, targeted}
 use Rattle.checking.specs.Sizes.{gatesSizes, linesSizes, sizesOf, sizesOutcome}
-use Rattle.diagnosis.specs.Faults.{everywhere, maskWhere, masksFrom, eachFrom, faultCheck, faultOutcome, faultBuffer}
+use Rattle.checking.specs.Faults.{everywhere, maskWhere, masksFrom, eachFrom, faultCheck, faultOutcome, faultBuffer}
 use Rattle.checking.specs.Rows.{rows, allRight, RowLaws}
 
 rows-right : allRight rows ≡ true

@@ -5,13 +5,13 @@ use Prim.Native.Nat.{ℕ, zero, suc, _+_, _*_, _≤_}
 use lib.IntN.{ℤ}
 use lib.ListN.{length, take}
 use Rattle.bits.specs.Lists.{over}
-use Rattle.gates.specs.Gate.{maxGates}
-use Rattle.gates.specs.Outcome.{Outcome, served, refused, andThen}
-use Rattle.gates.specs.Words.{Cascade}
+use Rattle.circuit.specs.Gate.{maxGates}
+use Rattle.circuit.specs.Outcome.{Outcome, served, refused, andThen}
+use Rattle.circuit.specs.Words.{Cascade}
 use Rattle.checking.specs.declared.clauses.Totals.{Totals}
-use Rattle.reduction.specs.Miter.{miterOutcome, miterBuffer}
-use Rattle.reduction.specs.Step.{Step, found, none, stepOutcome, stepBuffer}
-use Rattle.reduction.specs.Reduce.{Reduced, reduceOutcome, reduceBuffer}
+use Rattle.checking.specs.Miter.{miterOutcome, miterBuffer}
+use Rattle.checking.specs.Step.{Step, found, none, stepOutcome, stepBuffer}
+use Rattle.checking.specs.Reduce.{Reduced, reduceOutcome, reduceBuffer}
 use Rattle.checking.specs.Emit.{emitOutcome, emitBuffer}
 use Rattle.checking.specs.Equality.{Call, stepOn, reduceOn, Claim}
 

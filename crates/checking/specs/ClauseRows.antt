@@ -3,7 +3,7 @@ use mathlib.Core.Path.{_≡_}
 use mathlib.Core.List.{List, [], _∷_}
 use Prim.Native.Nat.{ℕ}
 use lib.IntN.{ℤ}
-use Rattle.gates.specs.declared.gate.Gate.{Gate}
+use Rattle.circuit.specs.declared.gate.Gate.{Gate}
 use Rattle.checking.specs.declared.clauses.Totals.{Totals}
 use Rattle.checking.specs.Clauses.{Clause, OR, XOR, plus, minus, clausesOf}
 use Rattle.checking.specs.Stored.{stored}

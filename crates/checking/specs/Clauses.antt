@@ -5,8 +5,8 @@ use Prim.Native.Nat.{ℕ, zero, suc, _+_}
 use lib.Dec.{eqb, leb}
 use lib.IntN.{ℤ, pos, negℤ}
 use lib.ListN.{length}
-use Rattle.gates.specs.declared.gate.Gate.{Gate}
-use Rattle.gates.specs.Gate.{Control, controlsOf}
+use Rattle.circuit.specs.declared.gate.Gate.{Gate}
+use Rattle.circuit.specs.Gate.{Control, controlsOf}
 
 pub data Clause : Type 0 where
   OR XOR : List ℤ → Clause

@@ -7,9 +7,9 @@ use lib.Dec.{ltb}
 use lib.IntN.{ℤ}
 use lib.ListN.{length}
 use Rattle.bits.specs.Lists.{over}
-use Rattle.gates.specs.declared.gate.Gate.{Gate}
-use Rattle.gates.specs.Gate.{maxLines, maxMiterGates}
-use Rattle.gates.specs.Words.{gatesOf, allValid}
+use Rattle.circuit.specs.declared.gate.Gate.{Gate}
+use Rattle.circuit.specs.Gate.{maxLines, maxMiterGates}
+use Rattle.circuit.specs.Words.{gatesOf, allValid}
 use Rattle.checking.specs.Clauses.{OR, plus, inputOf, gatesClauses, usedAfter, currentAfter, upFrom, differenceClause, differenceClauses, clausesOf}
 use Rattle.checking.specs.Stored.{storedClause, stored, wordLimit}
 use Rattle.checking.specs.Emitter.{byLine}

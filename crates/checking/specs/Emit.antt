@@ -4,9 +4,9 @@ use Prim.Native.Nat.{ℕ}
 use lib.Dec.{leb}
 use lib.IntN.{ℤ}
 use lib.ListN.{length}
-use Rattle.gates.specs.Outcome.{Outcome, served, demand, andThen, written}
-use Rattle.gates.specs.Refusal.{noRoom}
-use Rattle.gates.specs.Words.{gatesOf}
+use Rattle.circuit.specs.Outcome.{Outcome, served, demand, andThen, written}
+use Rattle.circuit.specs.Refusal.{noRoom}
+use Rattle.circuit.specs.Words.{gatesOf}
 use Rattle.checking.specs.declared.clauses.Totals.{Totals}
 use Rattle.checking.specs.Clauses.{clausesOf}
 use Rattle.checking.specs.Stored.{stored}

@@ -4,9 +4,9 @@ use mathlib.Core.Logic.{_↔_}
 use mathlib.Core.List.{List}
 use Prim.Native.Nat.{ℕ, _<_, _≤_}
 use lib.ListN.{length}
-use Rattle.gates.specs.Gate.{maxMiterGates}
-use Rattle.gates.specs.Outcome.{served, refused}
-use Rattle.gates.specs.Words.{gatesOf, Cascade, WordsFault}
+use Rattle.circuit.specs.Gate.{maxMiterGates}
+use Rattle.circuit.specs.Outcome.{served, refused}
+use Rattle.circuit.specs.Words.{gatesOf, Cascade, WordsFault}
 use Rattle.checking.specs.declared.clauses.Totals.{Totals}
 use Rattle.checking.specs.Clauses.{clausesOf, variablesOf}
 use Rattle.checking.specs.Stored.{stored}

@@ -6,8 +6,8 @@ use Prim.Native.Nat.{ℕ, suc, _+_, _*_, _^_, _≤_, _<_}
 use lib.IntN.{ℤ, negℤ}
 use lib.ListN.{length, getD}
 use Rattle.bits.specs.Digits.{bit, linesIn}
-use Rattle.gates.specs.declared.gate.Gate.{Gate}
-use Rattle.gates.specs.Gate.{maxLines, valid, controlCount}
+use Rattle.circuit.specs.declared.gate.Gate.{Gate}
+use Rattle.circuit.specs.Gate.{maxLines, valid, controlCount}
 use Rattle.checking.specs.Clauses.{plus, minus, implied, manyClauses, clausesOfGate}
 use Rattle.checking.specs.Stored.{stored, wordLimit}
 use Rattle.checking.specs.Sizes.{gateSizes}

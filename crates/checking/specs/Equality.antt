@@ -4,14 +4,14 @@ use mathlib.Core.List.{List, [], _∷_}
 use Prim.Native.Nat.{ℕ, _+_, _*_, _≤_}
 use lib.IntN.{ℤ}
 use lib.ListN.{length, take}
-use Rattle.gates.specs.Gate.{maxGates}
-use Rattle.gates.specs.Outcome.{Outcome, served, refused}
-use Rattle.gates.specs.Words.{gatesOf, Cascade}
-use Rattle.gates.specs.Run.{run}
+use Rattle.circuit.specs.Gate.{maxGates}
+use Rattle.circuit.specs.Outcome.{Outcome, served, refused}
+use Rattle.circuit.specs.Words.{gatesOf, Cascade}
+use Rattle.circuit.specs.Run.{run}
 use Rattle.checking.specs.declared.clauses.Totals.{Totals}
-use Rattle.reduction.specs.Miter.{miterOutcome, miterBuffer}
-use Rattle.reduction.specs.Step.{Step, found, none, stepOutcome, stepBuffer}
-use Rattle.reduction.specs.Reduce.{Reduced, reduceOutcome, reduceBuffer}
+use Rattle.checking.specs.Miter.{miterOutcome, miterBuffer}
+use Rattle.checking.specs.Step.{Step, found, none, stepOutcome, stepBuffer}
+use Rattle.checking.specs.Reduce.{Reduced, reduceOutcome, reduceBuffer}
 use Rattle.checking.specs.Clauses.{Clause, clausesOf}
 use Rattle.checking.specs.Stored.{stored, clausesIn, clausesRead}
 use Rattle.checking.specs.Satisfaction.{Tells}

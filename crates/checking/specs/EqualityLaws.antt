@@ -6,10 +6,10 @@ use Prim.Native.Nat.{ℕ}
 use lib.Dec.{leb}
 use lib.IntN.{ℤ}
 use lib.ListN.{length}
-use Rattle.gates.specs.declared.gate.Gate.{Gate}
-use Rattle.gates.specs.Outcome.{Outcome, served, demand, written}
-use Rattle.gates.specs.Refusal.{noRoom}
-use Rattle.gates.specs.Words.{gatesOf}
+use Rattle.circuit.specs.declared.gate.Gate.{Gate}
+use Rattle.circuit.specs.Outcome.{Outcome, served, demand, written}
+use Rattle.circuit.specs.Refusal.{noRoom}
+use Rattle.circuit.specs.Words.{gatesOf}
 use Rattle.checking.specs.declared.clauses.Totals.{Totals}
 use Rattle.checking.specs.Clauses.{Clause, clausesOf, variablesOf}
 use Rattle.checking.specs.Stored.{stored}

@@ -1,3 +1,10 @@
+pub mod Miter
+pub mod Step
+pub mod Reduce
+pub mod MiterLaws
+pub mod StepLaws
+pub mod ReduceLaws
+pub mod StandIns
 pub mod Clauses
 pub mod Satisfaction
 pub mod Stored
@@ -12,4 +19,8 @@ pub mod ClauseLaws
 pub mod EqualityLaws
 pub mod EmitLaws
 pub mod Rows
+pub mod Compare
+pub mod Faults
+pub mod RefusalLaws
+pub mod FaultLaws
 pub mod Laws

@@ -5,15 +5,15 @@ use mathlib.Core.List.{List, [], _∷_}
 use Prim.Native.Nat.{ℕ, _+_, _*_}
 use lib.Dec.{eqb}
 use lib.ListN.{length, take, replicate}
-use Rattle.gates.specs.declared.gate.Gate.{Gate}
-use Rattle.gates.specs.Outcome.{Outcome, served, refused, andThen}
-use Rattle.gates.specs.Words.{wordsOf}
-use Rattle.gates.specs.Run.{runOutcome}
+use Rattle.circuit.specs.declared.gate.Gate.{Gate}
+use Rattle.circuit.specs.Outcome.{Outcome, served, refused, andThen}
+use Rattle.circuit.specs.Words.{wordsOf}
+use Rattle.circuit.specs.Run.{runOutcome}
 use Rattle.checking.specs.declared.clauses.Totals.{Totals}
-use Rattle.reduction.specs.Miter.{miterOutcome, miterBuffer}
+use Rattle.checking.specs.Miter.{miterOutcome, miterBuffer}
 use Rattle.checking.specs.Sizes.{sizesOutcome}
-use Rattle.diagnosis.specs.Faults.{faultOutcome, faultBuffer}
-use Rattle.reduction.specs.Step.{Step, found, none, filled, stepOutcome, stepBuffer}
+use Rattle.checking.specs.Faults.{faultOutcome, faultBuffer}
+use Rattle.checking.specs.Step.{Step, found, none, filled, stepOutcome, stepBuffer}
 
 -- what a row says of a call on n lines
 pub data Row : Type 0 where

@@ -8,9 +8,9 @@ use lib.Dec.{eqb, leb}
 use lib.IntN.{ℤ, pos, negsuc}
 use lib.ListN.{length, getD}
 use Rattle.bits.specs.Digits.{bit}
-use Rattle.gates.specs.declared.gate.Gate.{Gate}
-use Rattle.gates.specs.Gate.{Control, controlsOf, allMet, apply}
-use Rattle.gates.specs.Run.{run}
+use Rattle.circuit.specs.declared.gate.Gate.{Gate}
+use Rattle.circuit.specs.Gate.{Control, controlsOf, allMet, apply}
+use Rattle.circuit.specs.Run.{run}
 use Rattle.checking.specs.Clauses.{Clause, OR, XOR, upFrom}
 
 -- an assignment is the list of the values of variables 1, 2, ..; what is no variable of it counts as false

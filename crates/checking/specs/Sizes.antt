@@ -2,10 +2,10 @@
 use mathlib.Core.Bool.{Bool, cond}
 use mathlib.Core.List.{List, [], _∷_}
 use Prim.Native.Nat.{ℕ, zero, suc, _+_, _*_}
-use Rattle.gates.specs.declared.gate.Gate.{Gate}
-use Rattle.gates.specs.Gate.{maxMiterGates, controlCount}
-use Rattle.gates.specs.Outcome.{Outcome, served, refused, andThen}
-use Rattle.gates.specs.Words.{gatesOf, checkOutcome}
+use Rattle.circuit.specs.declared.gate.Gate.{Gate}
+use Rattle.circuit.specs.Gate.{maxMiterGates, controlCount}
+use Rattle.circuit.specs.Outcome.{Outcome, served, refused, andThen}
+use Rattle.circuit.specs.Words.{gatesOf, checkOutcome}
 use Rattle.checking.specs.declared.clauses.Totals.{Totals}
 use Rattle.checking.specs.declared.clauses.SizesAnswer.{SizesAnswer}
 use Rattle.checking.specs.declared.clauses.SizesAnswer.the-variants as answer

@@ -5,11 +5,11 @@ use circuit::gate::Gate;
 use circuit::words::CountAnswer;
 ghost use Prim.Native.Nat.{_*_, _≤_};
 ghost use lib.ListN.{length};
-ghost use Rattle.gates.specs.Outcome.{Yields};
+ghost use Rattle.circuit.specs.Outcome.{Yields};
 ghost use Rattle.checking.specs.Check.{callOf, callsOf, called, calledAll, Checks};
 ghost use Rattle.checking.specs.Sizes.{ofSizes};
-use reduction::reduce::ReduceAnswer;
-use reduction::step::StepAnswer;
+use crate::reduce::ReduceAnswer;
+use crate::step::StepAnswer;
 
 // Makes a call on the gates that stand at the buffer's start, a step where the kind is 0 and else a full reduction; how many gates then stand.
 fn make_call(kind: u64, n: u64, gates: usize, words: &mut [u64]) -> usize
@@ -18,7 +18,7 @@ fn make_call(kind: u64, n: u64, gates: usize, words: &mut [u64]) -> usize
 {
     let end = Gate::WORDS * gates;
     if kind == 0 {
-        return match reduction::step::step(n, &mut words[..end]) {
+        return match crate::step::step(n, &mut words[..end]) {
             StepAnswer::Found {
                 i: _,
                 j: _,
@@ -29,7 +29,7 @@ fn make_call(kind: u64, n: u64, gates: usize, words: &mut [u64]) -> usize
             StepAnswer::Refused(_) => gates,
         };
     }
-    match reduction::reduce::reduce(n, &mut words[..end]) {
+    match crate::reduce::reduce(n, &mut words[..end]) {
         ReduceAnswer::Reduced {
             gates: left,
             pairs: _,
@@ -68,7 +68,7 @@ pub fn check(
 ) -> SizesAnswer
     ensures { λ r. ⌜ Checks na (now (a .entry)) nb (now (b .entry)) (callsOf (now (calls .entry))) (now (room .entry)) (now (out .entry)) (ofSizes r) (now (room .exit)) (now (out .exit)) ⌝ }
 {
-    match reduction::miter::miter(na, a, nb, b, room) {
+    match crate::miter::miter(na, a, nb, b, room) {
         CountAnswer::Refused(why) => SizesAnswer::Refused(why),
         CountAnswer::Gates(gates) => {
             let left = make_calls(calls, gates, room);

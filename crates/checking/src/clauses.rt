@@ -7,9 +7,9 @@ ghost use mathlib.Core.Path.{_≡_};
 ghost use Prim.Native.Nat.{_+_, _/_, _^_, _<_, _≤_};
 ghost use lib.Bits.{bitOr};
 ghost use lib.ListN.{length};
-ghost use Rattle.gates.specs.Gate.{maxLines, maxMiterGates};
-ghost use Rattle.gates.specs.Outcome.{served, andThen, Yields};
-ghost use Rattle.gates.specs.Words.{gatesOf, validFrom};
+ghost use Rattle.circuit.specs.Gate.{maxLines, maxMiterGates};
+ghost use Rattle.circuit.specs.Outcome.{served, andThen, Yields};
+ghost use Rattle.circuit.specs.Words.{gatesOf, validFrom};
 ghost use Rattle.checking.specs.Sizes.{gateSizes, sizesOf, sizesOutcome, ofSizes};
 ghost use Rattle.checking.specs.Emit.{emitOutcome, emitBuffer};
 

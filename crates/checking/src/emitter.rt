@@ -8,8 +8,8 @@ ghost use lib.IntN.{pos};
 ghost use lib.ListN.{length};
 ghost use Rattle.bits.specs.Digits.{bit};
 ghost use Rattle.bits.specs.Lists.{over};
-ghost use Rattle.gates.specs.Gate.{maxLines};
-ghost use Rattle.gates.specs.Outcome.{Yields};
+ghost use Rattle.circuit.specs.Gate.{maxLines};
+ghost use Rattle.circuit.specs.Outcome.{Yields};
 ghost use Rattle.checking.specs.Stored.{wordLimit};
 ghost use Rattle.checking.specs.Emitter.{literalWord, literalsIn, controlsStored, Currents, Lines, Many, manyStored, gateStored, Ready};
 

@@ -1,17 +1,16 @@
-// Miter, steps and reductions, which the crate reduction has, comparison and faults, which the crate diagnosis has; the clause list of a cascade, its emission, and demand 3.
+// Miter, steps and reductions; the clause list of a cascade, its emission, and demand 3; comparison and faults.
 
 ghost use Rattle.checking.specs.Laws.{CheckingLaws};
 
 pub mod check;
 pub mod clauses;
+pub mod compare;
 mod emission;
 mod emitter;
-
-pub use diagnosis::compare;
-pub use diagnosis::faults;
-pub use reduction::miter;
-pub use reduction::reduce;
-pub use reduction::step;
+pub mod faults;
+pub mod miter;
+pub mod reduce;
+pub mod step;
 
 // Has no effect: its contract is the record of this crate's laws.
 pub fn laws()

@@ -5,15 +5,15 @@ use Prim.Native.Nat.{ℕ, _+_, _*_, _-_, _^_}
 use lib.Dec.{eqb, leb, ltb}
 use lib.Bits.{bitOr}
 use lib.ListN.{length}
-use Rattle.gates.specs.declared.gate.Gate.{Gate}
+use Rattle.circuit.specs.declared.gate.Gate.{Gate}
 use Rattle.circuit.specs.declared.file.ReadAnswer.{ReadAnswer}
 use Rattle.circuit.specs.declared.file.ReadAnswer.the-variants as read
 use Rattle.circuit.specs.declared.file.WriteAnswer.{WriteAnswer}
 use Rattle.circuit.specs.declared.file.WriteAnswer.the-variants as write
-use Rattle.gates.specs.Gate.{maxGates, Control}
-use Rattle.gates.specs.Outcome.{Outcome, served, refused, demand, andThen, written}
-use Rattle.gates.specs.Refusal.{wrongForm, badLineCount, lineOutside, targetControlled, notRising, tooManyGates, noRoom}
-use Rattle.gates.specs.Words.{gatesOf, wordsOf, lineCountGood, checkOutcome}
+use Rattle.circuit.specs.Gate.{maxGates, Control}
+use Rattle.circuit.specs.Outcome.{Outcome, served, refused, demand, andThen, written}
+use Rattle.circuit.specs.Refusal.{wrongForm, badLineCount, lineOutside, targetControlled, notRising, tooManyGates, noRoom}
+use Rattle.circuit.specs.Words.{gatesOf, wordsOf, lineCountGood, checkOutcome}
 use Rattle.circuit.specs.Text.{tab, lineFeed, plus, minus, linesWord, gateWord, endWord, textOf}
 
 -- ---- lines and fields

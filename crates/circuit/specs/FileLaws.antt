@@ -5,10 +5,10 @@ use mathlib.Core.Bool.{true, false}
 use mathlib.Core.List.{List, [], _∷_, _++_, map}
 use Prim.Native.Nat.{ℕ, _+_, _*_, _<_, _≤_}
 use lib.ListN.{length, take}
-use Rattle.gates.specs.declared.gate.Gate.{Gate}
-use Rattle.gates.specs.Gate.{maxLines, maxGates, Control}
-use Rattle.gates.specs.Outcome.{Outcome, served, refused}
-use Rattle.gates.specs.Words.{gatesOf, allValid, Cascade, WordsFault}
+use Rattle.circuit.specs.declared.gate.Gate.{Gate}
+use Rattle.circuit.specs.Gate.{maxLines, maxGates, Control}
+use Rattle.circuit.specs.Outcome.{Outcome, served, refused}
+use Rattle.circuit.specs.Words.{gatesOf, allValid, Cascade, WordsFault}
 use Rattle.circuit.specs.Text.{linesWord, gateWord, endWord, numberText, controlText, headerLine, gateLines, textOf}
 use Rattle.circuit.specs.File.{Line, firstLine, linesOf, fieldsOf, Reading, reading, ReadCounts, readOutcome, writeOutcome}
 

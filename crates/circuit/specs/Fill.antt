@@ -4,9 +4,9 @@ use mathlib.Core.Bool.{true}
 use mathlib.Core.List.{List, [], _∷_, _++_}
 use Prim.Native.Nat.{ℕ, _<_}
 use lib.ListN.{drop}
-use Rattle.gates.specs.declared.gate.Gate.{Gate}
-use Rattle.gates.specs.Gate.{maxLines, valid, Control}
-use Rattle.gates.specs.Words.{allValid}
+use Rattle.circuit.specs.declared.gate.Gate.{Gate}
+use Rattle.circuit.specs.Gate.{maxLines, valid, Control}
+use Rattle.circuit.specs.Words.{allValid}
 use Rattle.circuit.specs.Text.{lineFeed, numberText, controlsText, gateLine, gateLines}
 use Rattle.circuit.specs.FileLaws.{Inside}
 

@@ -1,6 +1,13 @@
+pub mod Refusal
+pub mod Outcome
+pub mod Gate
+pub mod Words
+pub mod Run
+pub mod Inverse
 pub mod Text
 pub mod File
 pub mod FileLaws
 pub mod Scan
 pub mod Fill
 pub mod Put
+pub mod Laws

@@ -4,7 +4,7 @@ use mathlib.Core.List.{List}
 use Prim.Native.Nat.{ℕ, _+_, _*_, _/_, _%_, _<_, _≤_}
 use lib.ListN.{length, getD}
 use Rattle.bits.specs.Lists.{over}
-use Rattle.gates.specs.declared.gate.Gate.{Gate}
+use Rattle.circuit.specs.declared.gate.Gate.{Gate}
 use Rattle.circuit.specs.Text.{digit}
 
 -- these bytes stand at the start of the buffer, and their number was told

@@ -14,8 +14,8 @@ use Rattle.circuit.specs.declared.file.scan.GateAnswer.{GateAnswer}
 use Rattle.circuit.specs.declared.file.scan.GateAnswer.the-variants as gate
 use Rattle.circuit.specs.declared.file.scan.HeaderAnswer.{HeaderAnswer}
 use Rattle.circuit.specs.declared.file.scan.HeaderAnswer.the-variants as header
-use Rattle.gates.specs.Gate.{Control}
-use Rattle.gates.specs.Outcome.{Outcome, served, refused, andThen}
+use Rattle.circuit.specs.Gate.{Control}
+use Rattle.circuit.specs.Outcome.{Outcome, served, refused, andThen}
 use Rattle.circuit.specs.Text.{tab, lineFeed}
 use Rattle.circuit.specs.File.{Line, firstLine, linesOf, size, fieldsOf, controlsFrom, closedGate, gateOn, headerOn, readFrom, ReadCounts, countsOf}
 

@@ -2,17 +2,17 @@
 
 use crate::file::scan::GateAnswer;
 use crate::file::scan::HeaderAnswer;
-use gates::gate::Gate;
-use gates::refusal::Refusal;
-use gates::words::CountAnswer;
+use crate::gate::Gate;
+use crate::refusal::Refusal;
+use crate::words::CountAnswer;
 ghost use mathlib.Core.Path.{_≡_};
 ghost use mathlib.Core.Bool.{true};
 ghost use mathlib.Core.List.{_++_};
 ghost use Prim.Native.Nat.{_/_, _<_, _≤_};
 ghost use lib.ListN.{length};
-ghost use Rattle.gates.specs.Gate.{maxLines, maxGates};
-ghost use Rattle.gates.specs.Outcome.{Yields};
-ghost use Rattle.gates.specs.Words.{gatesOf, allValid};
+ghost use Rattle.circuit.specs.Gate.{maxLines, maxGates};
+ghost use Rattle.circuit.specs.Outcome.{Yields};
+ghost use Rattle.circuit.specs.Words.{gatesOf, allValid};
 ghost use Rattle.circuit.specs.Text.{gateLines, endLine, textOf};
 ghost use Rattle.circuit.specs.Put.{Put, TwoDigits};
 ghost use Rattle.circuit.specs.Scan.{countsFrom};
@@ -104,7 +104,7 @@ fn text_size(n: u64, words: &[u64]) -> usize
     let mut size = 11 + crate::file::scan::digits(n);
     let mut i = 0;
     while i < gates {
-        size += crate::file::put::gate_size(gates::words::gate_at(words, i));
+        size += crate::file::put::gate_size(crate::words::gate_at(words, i));
         i += 1;
     }
     size
@@ -121,7 +121,7 @@ fn put_lines(words: &[u64], out: &mut [u8], table: &[u8]) -> usize
     while i < gates {
         at += crate::file::put::put_gate_line(
             &mut out[at..],
-            gates::words::gate_at(words, i),
+            crate::words::gate_at(words, i),
             table,
         );
         i += 1;
@@ -142,7 +142,7 @@ fn put_text(n: u64, words: &[u64], out: &mut [u8], table: &[u8]) -> usize
 pub fn write(n: u64, words: &[u64], out: &mut [u8]) -> WriteAnswer
     ensures { λ r. ⌜ Yields (ofWrite r) (now (out .exit)) (writeOutcome n (now (words .entry)) (length (now (out .entry)))) (writeBuffer n (now (words .entry)) (now (out .entry))) ⌝ }
 {
-    match gates::words::check_cascade(n, words, Gate::MAX_GATES) {
+    match crate::words::check_cascade(n, words, Gate::MAX_GATES) {
         CountAnswer::Refused(why) => WriteAnswer::Refused(why),
         CountAnswer::Gates(_) => {
             let size = text_size(n, words);

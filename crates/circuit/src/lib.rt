@@ -1,16 +1,15 @@
-// Gates, runs and inverses, which the crate gates has, and cascade files.
+// Gates and cascades of reversible circuits, and cascade files.
 
-ghost use Rattle.circuit.specs.FileLaws.{FileLaws};
+ghost use Rattle.circuit.specs.Laws.{CircuitLaws};
 
 pub mod file;
-
-pub use gates::gate;
-pub use gates::inverse;
-pub use gates::refusal;
-pub use gates::run;
-pub use gates::words;
+pub mod gate;
+pub mod inverse;
+pub mod refusal;
+pub mod run;
+pub mod words;
 
 // Has no effect: its contract is the record of this crate's laws.
 pub fn laws()
-    ensures { λ _. ⌜ FileLaws ⌝ }
+    ensures { λ _. ⌜ CircuitLaws ⌝ }
 {}

@@ -6,7 +6,7 @@ use libc::STDOUT_FILENO;
 ghost use mathlib.Core.Path.{_≡_};
 ghost use Prim.Native.Nat.{_≤_};
 ghost use lib.ListN.{take};
-ghost use Rattle.gates.specs.Run.{ofRun, recordsOutcome};
+ghost use Rattle.circuit.specs.Run.{ofRun, recordsOutcome};
 
 // Runs the first `count` gates of the array.
 fn run_first(n: u64, gates: [Gate; 1025], count: usize, state: u64) -> RunAnswer

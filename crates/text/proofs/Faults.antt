@@ -9,13 +9,13 @@ use lib.ListN.{length, drop, take-append-drop, length-append}
 use lib.Seq.{take-all}
 use borrow.Author.Tests.{eqb-true, eqb-false, ne-eqb, eq-eqb, leb-true, leb-false, lt-leb}
 use Rattle.bits.proofs.Bools.{either, cond-true, cond-false}
-use Rattle.gates.specs.declared.gate.Gate.{Gate}
-use Rattle.gates.specs.Outcome.{Outcome, served, refused}
+use Rattle.circuit.specs.declared.gate.Gate.{Gate}
+use Rattle.circuit.specs.Outcome.{Outcome, served, refused}
 use Rattle.circuit.specs.Text.{textOf}
 use Rattle.circuit.specs.File.{Reading, reading}
 use Rattle.circuit.specs.FileLaws.{FileCascade}
 use Rattle.circuit.proofs.file.Laws.{reader}
-use Rattle.reduction.specs.Miter.{miterGates}
+use Rattle.checking.specs.Miter.{miterGates}
 use Rattle.checking.specs.Clauses.{clausesOf}
 use Rattle.checking.specs.Stored.{stored}
 use Rattle.text.specs.Tomiter.{maxInput, maxWords, refusedAt, listVerdict, pairVerdict, secondVerdict, verdict}

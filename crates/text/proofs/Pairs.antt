@@ -5,14 +5,14 @@ use mathlib.Core.List.{List}
 use Prim.Native.Nat.{ℕ, _≤_}
 use native.Mathlib.Omega.{arith}
 use lib.ListN.{length, length-append, length-reverse}
-use Rattle.gates.specs.declared.gate.Gate.{Gate}
-use Rattle.gates.specs.Gate.{maxLines, maxMiterGates}
-use Rattle.gates.specs.Words.{allValid}
-use Rattle.gates.specs.Inverse.{inverse}
-use Rattle.gates.proofs.words.Laws.{valid-append}
-use Rattle.gates.proofs.inverse.Laws.{inverse-valid}
+use Rattle.circuit.specs.declared.gate.Gate.{Gate}
+use Rattle.circuit.specs.Gate.{maxLines, maxMiterGates}
+use Rattle.circuit.specs.Words.{allValid}
+use Rattle.circuit.specs.Inverse.{inverse}
+use Rattle.circuit.proofs.words.Laws.{valid-append}
+use Rattle.circuit.proofs.inverse.Laws.{inverse-valid}
 use Rattle.circuit.specs.FileLaws.{FileCascade}
-use Rattle.reduction.specs.Miter.{miterGates}
+use Rattle.checking.specs.Miter.{miterGates}
 
 -- gates that a clause list is made of
 pub record Listable (n : ℕ) (gs : List Gate) : Type 0 where

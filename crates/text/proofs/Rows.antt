@@ -1,7 +1,7 @@
 -- The fact about the table of rows. Assumes nothing.
 use mathlib.Core.Path.{refl}
 use Rattle.bits.specs.Digits.{bit}
-use Rattle.gates.specs.Gate.{controlsBelow}
+use Rattle.circuit.specs.Gate.{controlsBelow}
 use Rattle.circuit.specs.File.{linesOf, fieldsOf, same, numberOf, lineOf, controlOf, controlsFrom, among, risingFrom, maskOf, closedGate, gateFields, headerFields, readFrom, reading}
 use Rattle.checking.specs.Clauses.{moved, gatesClauses, usedAfter, currentAfter, targeted, upFrom, differenceClauses, clausesOf, variablesOf}
 use Rattle.checking.specs.Stored.{stored}

@@ -9,14 +9,14 @@ use lib.IntN.{ℤ, pos, negsuc}
 use lib.ListN.{length, drop, length-append}
 use borrow.Author.Tests.{eqb-true, leb-true, ltb-true, ltb-false}
 use Rattle.bits.proofs.Bools.{either, cond-true, cond-false}
-use Rattle.gates.specs.declared.gate.Gate.{Gate}
-use Rattle.gates.specs.Outcome.{Outcome, served, refused}
+use Rattle.circuit.specs.declared.gate.Gate.{Gate}
+use Rattle.circuit.specs.Outcome.{Outcome, served, refused}
 use Rattle.circuit.specs.Text.{tab, lineFeed, digit}
 use Rattle.circuit.specs.File.{Line, Reading, reading}
 use Rattle.circuit.specs.FileLaws.{FileCascade, HeaderOffence, no-lines, no-number, outside, ControlsOffence, form, value, later, LineOffence, no-gate, many, target-form, target-value, controls, controlled, not-rising, FileFault, header-line, later-line}
 use Rattle.circuit.specs.FileLaws as laws
 use Rattle.circuit.proofs.file.Laws.{reader}
-use Rattle.reduction.specs.Miter.{miterGates}
+use Rattle.checking.specs.Miter.{miterGates}
 use Rattle.checking.specs.Clauses.{Clause, OR, XOR, clausesOf}
 use Rattle.checking.specs.Satisfaction.{size, LiteralsWithin, clauseLiterals, ClausesWithin}
 use Rattle.checking.specs.Stored.{storedClause, stored}

@@ -9,13 +9,13 @@ use lib.ListN.{length, drop}
 use borrow.Author.Tests.{leb-true}
 use Rattle.bits.specs.Digits.{bit}
 use Rattle.bits.specs.Lists.{fold}
-use Rattle.gates.specs.declared.gate.Gate.{Gate}
-use Rattle.gates.specs.Gate.{notGate, valid, fires, inverted, apply, controlsBelow}
-use Rattle.gates.specs.Words.{allValid}
-use Rattle.gates.specs.Run.{run}
+use Rattle.circuit.specs.declared.gate.Gate.{Gate}
+use Rattle.circuit.specs.Gate.{notGate, valid, fires, inverted, apply, controlsBelow}
+use Rattle.circuit.specs.Words.{allValid}
+use Rattle.circuit.specs.Run.{run}
 use Rattle.circuit.specs.Text.{numberText, controlsText, gateLines, textOf}
 use Rattle.circuit.specs.FileLaws.{FileCascade}
-use Rattle.reduction.specs.Miter.{miterGates}
+use Rattle.checking.specs.Miter.{miterGates}
 use Rattle.checking.specs.Clauses.{Clause, OR, upFrom, moved, gatesClauses, usedAfter, currentAfter, targeted, differenceClauses, clausesOf, variablesOf}
 use Rattle.checking.specs.Satisfaction.{ClausesWithin, holds, satisfies, Satisfying, Tells}
 use Rattle.checking.specs.Stored.{stored}

@@ -5,12 +5,12 @@ use mathlib.Core.List.{List, [], _∷_, _++_}
 use mathlib.Core.Option.{some}
 use Prim.Native.Nat.{ℕ, _+_, _≤_, _<_}
 use lib.ListN.{length, take, drop}
-use Rattle.gates.specs.declared.gate.Gate.{Gate}
-use Rattle.gates.specs.Outcome.{served}
-use Rattle.gates.specs.Run.{run}
+use Rattle.circuit.specs.declared.gate.Gate.{Gate}
+use Rattle.circuit.specs.Outcome.{served}
+use Rattle.circuit.specs.Run.{run}
 use Rattle.circuit.specs.Text.{textOf}
 use Rattle.circuit.specs.FileLaws.{FileCascade, FileFault}
-use Rattle.reduction.specs.Miter.{miterGates}
+use Rattle.checking.specs.Miter.{miterGates}
 use Rattle.checking.specs.Clauses.{Clause, OR, clausesOf}
 use Rattle.checking.specs.Stored.{stored}
 use Rattle.checking.specs.Satisfaction.{ClausesWithin, Tells}

@@ -4,12 +4,12 @@ use mathlib.Core.List.{List, [], _∷_, _++_}
 use Prim.Native.Nat.{ℕ, _+_}
 use lib.Dec.{eqb, leb}
 use lib.ListN.{length, drop}
-use Rattle.gates.specs.declared.gate.Gate.{Gate}
-use Rattle.gates.specs.Outcome.{Outcome, served, refused, demand, written}
-use Rattle.gates.specs.Refusal.{wrongForm, lineCountsDiffer, noRoom}
+use Rattle.circuit.specs.declared.gate.Gate.{Gate}
+use Rattle.circuit.specs.Outcome.{Outcome, served, refused, demand, written}
+use Rattle.circuit.specs.Refusal.{wrongForm, lineCountsDiffer, noRoom}
 use Rattle.circuit.specs.Text.{tab, lineFeed}
 use Rattle.circuit.specs.File.{Reading, reading}
-use Rattle.reduction.specs.Miter.{miterGates}
+use Rattle.checking.specs.Miter.{miterGates}
 use Rattle.checking.specs.Clauses.{Clause, clausesOf, variablesOf}
 use Rattle.checking.specs.Stored.{stored}
 use Rattle.text.specs.Dimacs.{decimal, dimacsOf}

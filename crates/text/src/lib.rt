@@ -2,7 +2,7 @@
 
 use circuit::refusal::Refusal;
 ghost use lib.ListN.{length};
-ghost use Rattle.gates.specs.Outcome.{Yields};
+ghost use Rattle.circuit.specs.Outcome.{Yields};
 ghost use Rattle.text.specs.Tomiter.{tomiterOutcome, tomiterBuffer};
 ghost use Rattle.text.specs.Answers.{ofText};
 ghost use Rattle.text.specs.TextLaws.{TextLaws};

@@ -8,7 +8,7 @@ use circuit::refusal::Refusal;
 use circuit::words::CountAnswer;
 ghost use mathlib.Core.Path.{_≡_};
 ghost use lib.ListN.{length};
-ghost use Rattle.gates.specs.Words.{gatesOf};
+ghost use Rattle.circuit.specs.Words.{gatesOf};
 ghost use Rattle.text.specs.Tomiter.{maxWords, pairVerdict, secondVerdict, verdict};
 ghost use Rattle.text.specs.Answers.{FileWords, Says};
 

@@ -8,12 +8,12 @@ use lib.Dec.{leb}
 use lib.ListN.{length}
 use borrow.Author.Tests.{leb-true, leb-false, lt-ltb, le-ltb}
 use Rattle.bits.proofs.Bools.{either, cond-true, cond-false}
-use Rattle.gates.specs.Gate.{maxGates}
-use Rattle.gates.specs.Outcome.{Outcome, served, refused}
-use Rattle.gates.specs.Words.{Counts, Cascade, pairOutcome}
-use Rattle.gates.proofs.Outcome.{then-both, then-fails}
-use Rattle.gates.proofs.words.Laws.{pair-served}
-use Rattle.diagnosis.specs.Compare.{picked, pickOutcome}
+use Rattle.circuit.specs.Gate.{maxGates}
+use Rattle.circuit.specs.Outcome.{Outcome, served, refused}
+use Rattle.circuit.specs.Words.{Counts, Cascade, pairOutcome}
+use Rattle.circuit.proofs.Outcome.{then-both, then-fails}
+use Rattle.circuit.proofs.words.Laws.{pair-served}
+use Rattle.checking.specs.Compare.{picked, pickOutcome}
 use Rattle.capi.specs.declared.compare.CascadeFewerAnswer.{CascadeFewerAnswer}
 use Rattle.capi.specs.Compare.{fewerAnswer}
 

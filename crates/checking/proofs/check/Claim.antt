@@ -5,16 +5,16 @@ use Prim.Native.Nat.{ℕ, _+_, _*_, _≤_}
 use native.Mathlib.Omega.{arith}
 use lib.IntN.{ℤ}
 use lib.ListN.{length, take, length-take}
-use Rattle.gates.specs.Gate.{maxGates, maxMiterGates}
-use Rattle.gates.specs.Outcome.{Outcome, served, refused, written, Yields}
-use Rattle.gates.specs.Words.{gatesOf, wordsOf, Cascade}
-use Rattle.gates.proofs.Outcome.{then-served, then-refused}
+use Rattle.circuit.specs.Gate.{maxGates, maxMiterGates}
+use Rattle.circuit.specs.Outcome.{Outcome, served, refused, written, Yields}
+use Rattle.circuit.specs.Words.{gatesOf, wordsOf, Cascade}
+use Rattle.circuit.proofs.Outcome.{then-served, then-refused}
 use Rattle.checking.specs.declared.clauses.Totals.{Totals}
-use Rattle.reduction.specs.Miter.{miterGates, miterOutcome, miterBuffer}
+use Rattle.checking.specs.Miter.{miterGates, miterOutcome, miterBuffer}
 use Rattle.checking.specs.Emit.{emitOutcome, emitBuffer}
 use Rattle.checking.specs.Equality.{Call, afterAll, Emitted, Claim}
 use Rattle.checking.specs.Check.{standing, held, checkedOutcome, roomLeft, clausesLeft, Checks}
-use Rattle.reduction.proofs.miter.Laws.{miter-laws}
+use Rattle.checking.proofs.miter.Laws.{miter-laws}
 use Rattle.checking.proofs.Equality.{equality}
 use Rattle.checking.proofs.check.Laws.{calls-leave}
 

@@ -8,12 +8,12 @@ use lib.IntN.{ℤ}
 use lib.ListN.{length}
 use borrow.Author.Tests.{le-leb, lt-leb, leb-true, leb-false}
 use Rattle.bits.specs.Lists.{over}
-use Rattle.gates.specs.Gate.{maxMiterGates}
-use Rattle.gates.specs.Outcome.{Outcome, served, refused, Yields}
-use Rattle.gates.specs.Refusal.{noRoom}
-use Rattle.gates.specs.Words.{gatesOf, checkOutcome, WordsFault}
-use Rattle.gates.proofs.Outcome.{told, then-served, then-refused, then-both, then-fails, demand-met, demand-failed, demanded, then-either, last-failed}
-use Rattle.gates.proofs.words.Laws.{check-served, served-check, check-refused, refused-check}
+use Rattle.circuit.specs.Gate.{maxMiterGates}
+use Rattle.circuit.specs.Outcome.{Outcome, served, refused, Yields}
+use Rattle.circuit.specs.Refusal.{noRoom}
+use Rattle.circuit.specs.Words.{gatesOf, checkOutcome, WordsFault}
+use Rattle.circuit.proofs.Outcome.{told, then-served, then-refused, then-both, then-fails, demand-met, demand-failed, demanded, then-either, last-failed}
+use Rattle.circuit.proofs.words.Laws.{check-served, served-check, check-refused, refused-check}
 use Rattle.checking.specs.declared.clauses.Totals.{Totals}
 use Rattle.checking.specs.Clauses.{clausesOf}
 use Rattle.checking.specs.Stored.{stored}

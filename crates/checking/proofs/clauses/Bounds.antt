@@ -10,10 +10,10 @@ use lib.ListN.{length, length-append, length-map}
 use borrow.Author.Tests.{le-leb}
 use Rattle.bits.specs.Digits.{bit}
 use Rattle.bits.proofs.Bools.{and-parts, either, cond-true, cond-false}
-use Rattle.gates.specs.declared.gate.Gate.{Gate}
-use Rattle.gates.specs.Gate.{maxLines, maxMiterGates, valid, Control, controlAt, controlsBelow, controlsOf}
-use Rattle.gates.specs.Words.{allValid}
-use Rattle.gates.proofs.gate.Laws.{valid-facts}
+use Rattle.circuit.specs.declared.gate.Gate.{Gate}
+use Rattle.circuit.specs.Gate.{maxLines, maxMiterGates, valid, Control, controlAt, controlsBelow, controlsOf}
+use Rattle.circuit.specs.Words.{allValid}
+use Rattle.circuit.proofs.gate.Laws.{valid-facts}
 use Rattle.checking.specs.Clauses.{Clause, OR, XOR, plus, minus, inputOf, literalOf, implied, manyClauses, gateClauses, newVariable, usedBy, moved, clausesOfGate, gatesClauses, usedAfter, currentAfter, targeted, upFrom, differenceClause, differenceClauses, clausesOf, variablesOf, countP}
 use Rattle.checking.specs.Satisfaction.{size, LiteralsWithin, clauseLiterals, ClausesWithin}
 use Rattle.checking.specs.Stored.{stored, FitsWord, AllFit, wordLimit}

@@ -12,11 +12,11 @@ use borrow.Author.Tests.{eqb-true, eqb-false}
 use Rattle.bits.specs.Digits.{bit}
 use Rattle.bits.proofs.Bools.{and-parts, both, either, cond-true, cond-false, or-none, xor-false, and-apart}
 use Rattle.bits.proofs.Digits.{bit-and, bit-pow, bit-sum, bit-none, bits-equal, bits-below, bit-above}
-use Rattle.gates.specs.declared.gate.Gate.{Gate}
-use Rattle.gates.specs.Gate.{maxLines, apply, Control, controlsOf}
-use Rattle.gates.specs.Words.{allValid}
-use Rattle.gates.specs.Run.{run}
-use Rattle.gates.proofs.run.Laws.{run-below}
+use Rattle.circuit.specs.declared.gate.Gate.{Gate}
+use Rattle.circuit.specs.Gate.{maxLines, apply, Control, controlsOf}
+use Rattle.circuit.specs.Words.{allValid}
+use Rattle.circuit.specs.Run.{run}
+use Rattle.circuit.proofs.run.Laws.{run-below}
 use Rattle.checking.specs.Clauses.{OR, plus, minus, inputOf, newVariable, usedBy, gatesClauses, usedAfter, currentAfter, targeted, upFrom, differenceClause, differenceClauses, clausesOf, variablesOf}
 use Rattle.checking.specs.Satisfaction.{variable, holds, satisfies, spelled, gateValues, gatesValues, differences, traced, forced}
 use Rattle.checking.proofs.clauses.Tests.{same, same-self, and-cong, xor-self, shape-d, someTrue, holds-or, holds-xor, satisfies-append}

@@ -11,12 +11,12 @@ use borrow.Author.Tests.{eqb-true}
 use Rattle.bits.specs.Lists.{fold}
 use Rattle.bits.specs.Digits.{bit}
 use Rattle.bits.proofs.Bools.{and-parts, either, cond-true, cond-false, or-none}
-use Rattle.gates.specs.declared.gate.Gate.{Gate}
-use Rattle.gates.specs.Gate.{maxLines, valid, fires, apply, Control, controlAt, controlsBelow, controlsOf, met, allMet}
-use Rattle.gates.specs.Words.{allValid}
-use Rattle.gates.specs.Run.{run}
-use Rattle.gates.proofs.gate.Laws.{valid-facts, valid-more, apply-bit}
-use Rattle.gates.proofs.gate.Controls.{controls-fire, controls-below}
+use Rattle.circuit.specs.declared.gate.Gate.{Gate}
+use Rattle.circuit.specs.Gate.{maxLines, valid, fires, apply, Control, controlAt, controlsBelow, controlsOf, met, allMet}
+use Rattle.circuit.specs.Words.{allValid}
+use Rattle.circuit.specs.Run.{run}
+use Rattle.circuit.proofs.gate.Laws.{valid-facts, valid-more, apply-bit}
+use Rattle.circuit.proofs.gate.Controls.{controls-fire, controls-below}
 use Rattle.checking.specs.Clauses.{XOR, plus, minus, literalOf, implied, manyClauses, gateClauses, newVariable, usedBy, moved, clausesOfGate, gatesClauses, currentAfter, targeted}
 use Rattle.checking.specs.Satisfaction.{variable, value, satisfies, size, gateValues, gatesValues}
 use Rattle.checking.proofs.clauses.Tests.{same, same-true, and-cong, xor-none, not-and, or-and, shape-0, shape-1, shape-2, someTrue, holds-or, holds-xor, value-neg, satisfies-append}

@@ -14,15 +14,15 @@ use borrow.Author.Tests.{ne-eqb, le-leb}
 use Rattle.bits.specs.Digits.{bit, linesIn}
 use Rattle.bits.proofs.Bools.{and-parts}
 use Rattle.bits.proofs.Digits.{bit-none, bit-or, bit-pow, below-of-bits, lines-ones}
-use Rattle.gates.specs.declared.gate.Gate.{Gate}
-use Rattle.gates.specs.Gate.{maxLines, maxMiterGates, valid, controlCount}
-use Rattle.gates.specs.Outcome.{Outcome, served, refused, andThen}
-use Rattle.gates.specs.Refusal.{badLineCount}
-use Rattle.gates.specs.Words.{gatesOf, gateAt, allValid, lineCountGood, validFrom, sizeOutcome}
-use Rattle.gates.proofs.Outcome.{then-served, then-refused}
-use Rattle.gates.proofs.gate.Laws.{valid-facts, valid-more}
-use Rattle.gates.proofs.gate.Controls.{controls-count}
-use Rattle.gates.proofs.words.Laws.{gates-next, gates-end, next-good, none-left, from-served, check-lines, check-gates, gates-refused, gates-sized}
+use Rattle.circuit.specs.declared.gate.Gate.{Gate}
+use Rattle.circuit.specs.Gate.{maxLines, maxMiterGates, valid, controlCount}
+use Rattle.circuit.specs.Outcome.{Outcome, served, refused, andThen}
+use Rattle.circuit.specs.Refusal.{badLineCount}
+use Rattle.circuit.specs.Words.{gatesOf, gateAt, allValid, lineCountGood, validFrom, sizeOutcome}
+use Rattle.circuit.proofs.Outcome.{then-served, then-refused}
+use Rattle.circuit.proofs.gate.Laws.{valid-facts, valid-more}
+use Rattle.circuit.proofs.gate.Controls.{controls-count}
+use Rattle.circuit.proofs.words.Laws.{gates-next, gates-end, next-good, none-left, from-served, check-lines, check-gates, gates-refused, gates-sized}
 use Rattle.checking.specs.declared.clauses.Totals.{Totals}
 use Rattle.checking.specs.Clauses.{targeted, upFrom}
 use Rattle.checking.specs.Sizes.{totals, added, gateSizes, gatesSizes, linesSizes, sizesOf, sizesOutcome}

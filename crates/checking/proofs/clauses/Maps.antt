@@ -6,10 +6,10 @@ use Prim.Native.Nat.{ℕ, suc, _≤_, _<_}
 use lib.Dec.{eqb}
 use lib.IntN.{ℤ}
 use Rattle.bits.proofs.Bools.{and-parts}
-use Rattle.gates.specs.declared.gate.Gate.{Gate}
-use Rattle.gates.specs.Gate.{maxLines, valid, Control, controlsOf}
-use Rattle.gates.specs.Words.{allValid}
-use Rattle.gates.proofs.gate.Laws.{valid-facts}
+use Rattle.circuit.specs.declared.gate.Gate.{Gate}
+use Rattle.circuit.specs.Gate.{maxLines, valid, Control, controlsOf}
+use Rattle.circuit.specs.Words.{allValid}
+use Rattle.circuit.proofs.gate.Laws.{valid-facts}
 use Rattle.checking.specs.Clauses.{Clause, plus, minus, literalOf, gateClauses, usedBy, moved, clausesOfGate, gatesClauses, usedAfter, currentAfter, differenceClause, differenceClauses}
 use Rattle.checking.proofs.clauses.Gates.{Within, controls-within}
 use Rattle.checking.proofs.clauses.Forced.{Inside}

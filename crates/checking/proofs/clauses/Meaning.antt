@@ -8,10 +8,10 @@ use lib.Dec.{eqb}
 use borrow.Author.Tests.{eqb-true, eqb-false}
 use Rattle.bits.specs.Digits.{bit}
 use Rattle.bits.proofs.Bools.{either}
-use Rattle.gates.specs.declared.gate.Gate.{Gate}
-use Rattle.gates.specs.Gate.{maxLines}
-use Rattle.gates.specs.Words.{allValid}
-use Rattle.gates.specs.Run.{run}
+use Rattle.circuit.specs.declared.gate.Gate.{Gate}
+use Rattle.circuit.specs.Gate.{maxLines}
+use Rattle.circuit.specs.Words.{allValid}
+use Rattle.circuit.specs.Run.{run}
 use Rattle.checking.specs.Clauses.{Clause, upFrom, clausesOf, variablesOf}
 use Rattle.checking.specs.Satisfaction.{Satisfying, spelled, gatesValues, differences, traced, forced, Tells}
 use Rattle.checking.proofs.clauses.Forced.{spelled-below, spelled-digits, length-forced, list-forced}

@@ -5,8 +5,8 @@ use native.Mathlib.Omega.{arith}
 use lib.Count.{ones, onesIn}
 use lib.ListN.{length}
 use Rattle.bits.specs.Digits.{bit}
-use Rattle.gates.specs.Gate.{valid, controlCount, controlsBelow}
-use Rattle.gates.specs.Words.{allValid}
+use Rattle.circuit.specs.Gate.{valid, controlCount, controlsBelow}
+use Rattle.circuit.specs.Words.{allValid}
 use Rattle.checking.specs.Clauses.{moved, gatesClauses, usedAfter, currentAfter, targeted, upFrom, differenceClauses, clausesOf, variablesOf}
 use Rattle.checking.specs.Stored.{stored}
 use Rattle.checking.specs.Sizes.{totals, gatesSizes, linesSizes, sizesOf}

@@ -6,11 +6,11 @@ use Prim.Native.Nat.{ℕ}
 use native.Mathlib.Omega.{arith}
 use Rattle.bits.specs.Digits.{bit}
 use Rattle.bits.specs.Lists.{fold}
-use Rattle.gates.specs.declared.gate.Gate.{Gate}
-use Rattle.gates.specs.Gate.{notGate, valid, fires, inverted, apply, controlsBelow}
-use Rattle.gates.specs.Words.{allValid}
-use Rattle.gates.specs.Run.{run}
-use Rattle.gates.proofs.gate.Laws.{apply-twice}
+use Rattle.circuit.specs.declared.gate.Gate.{Gate}
+use Rattle.circuit.specs.Gate.{notGate, valid, fires, inverted, apply, controlsBelow}
+use Rattle.circuit.specs.Words.{allValid}
+use Rattle.circuit.specs.Run.{run}
+use Rattle.circuit.proofs.gate.Laws.{apply-twice}
 use Rattle.checking.specs.Clauses.{Clause, upFrom, moved, gatesClauses, usedAfter, currentAfter, targeted, differenceClauses, variablesOf}
 use Rattle.checking.specs.Satisfaction.{holds, satisfies, Satisfying, Tells}
 use Rattle.checking.specs.ClauseLaws.{ListsTell, contradiction, withoutLater, ofFirst, ofFirstVariables}

@@ -7,11 +7,11 @@ use native.Mathlib.Omega.{arith}
 use lib.IntN.{ℤ, negℤ}
 use lib.ListN.{length, length-append, length-map}
 use Rattle.bits.proofs.Bools.{and-parts}
-use Rattle.gates.specs.declared.gate.Gate.{Gate}
-use Rattle.gates.specs.Gate.{maxLines, valid, controlCount, controlsOf}
-use Rattle.gates.specs.Words.{allValid}
-use Rattle.gates.proofs.gate.Laws.{valid-more}
-use Rattle.gates.proofs.gate.Controls.{controls-count}
+use Rattle.circuit.specs.declared.gate.Gate.{Gate}
+use Rattle.circuit.specs.Gate.{maxLines, valid, controlCount, controlsOf}
+use Rattle.circuit.specs.Words.{allValid}
+use Rattle.circuit.proofs.gate.Laws.{valid-more}
+use Rattle.circuit.proofs.gate.Controls.{controls-count}
 use Rattle.checking.specs.declared.clauses.Totals.{Totals}
 use Rattle.checking.specs.Clauses.{Clause, OR, XOR, plus, minus, inputOf, literalOf, implied, manyClauses, gateClauses, newVariable, usedBy, moved, clausesOfGate, gatesClauses, usedAfter, currentAfter, targeted, upFrom, differenceClause, differenceClauses, clausesOf, variablesOf}
 use Rattle.checking.specs.Stored.{stored}

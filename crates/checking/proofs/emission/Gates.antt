@@ -13,12 +13,12 @@ use borrow.Rule.Slice.PartMut.{putMid}
 use Rattle.bits.specs.Lists.{over}
 use Rattle.bits.proofs.Bools.{either, cond-true, cond-false}
 use Rattle.bits.proofs.Lists.{over-length, lent-over}
-use Rattle.gates.specs.declared.gate.Gate.{Gate}
-use Rattle.gates.specs.Gate.{maxLines, valid, controlCount, Control, controlsOf}
-use Rattle.gates.specs.Words.{gatesOf, gateAt, allValid}
-use Rattle.gates.proofs.gate.Laws.{valid-facts, valid-more}
-use Rattle.gates.proofs.gate.Controls.{controls-count}
-use Rattle.gates.proofs.words.Laws.{gates-next, gates-end, valid-next, valid-later}
+use Rattle.circuit.specs.declared.gate.Gate.{Gate}
+use Rattle.circuit.specs.Gate.{maxLines, valid, controlCount, Control, controlsOf}
+use Rattle.circuit.specs.Words.{gatesOf, gateAt, allValid}
+use Rattle.circuit.proofs.gate.Laws.{valid-facts, valid-more}
+use Rattle.circuit.proofs.gate.Controls.{controls-count}
+use Rattle.circuit.proofs.words.Laws.{gates-next, gates-end, valid-next, valid-later}
 use Rattle.checking.specs.declared.clauses.Totals.{Totals}
 use Rattle.checking.specs.Clauses.{Clause, plus, minus, inputOf, literalOf, gateClauses, newVariable, usedBy, moved, clausesOfGate, gatesClauses, usedAfter, currentAfter}
 use Rattle.checking.specs.Stored.{stored}

@@ -11,10 +11,10 @@ use borrow.Author.Tests.{lt-ltb, le-ltb}
 use borrow.Rule.Slice.PartMut.{putMid}
 use Rattle.bits.specs.Lists.{over}
 use Rattle.bits.proofs.Lists.{over-length, lent-over}
-use Rattle.gates.specs.declared.gate.Gate.{Gate}
-use Rattle.gates.specs.Gate.{controlsOf}
-use Rattle.gates.specs.Words.{gatesOf}
-use Rattle.gates.proofs.words.Laws.{gates-length}
+use Rattle.circuit.specs.declared.gate.Gate.{Gate}
+use Rattle.circuit.specs.Gate.{controlsOf}
+use Rattle.circuit.specs.Words.{gatesOf}
+use Rattle.circuit.proofs.words.Laws.{gates-length}
 use Rattle.checking.specs.declared.clauses.Totals.{Totals}
 use Rattle.checking.specs.Clauses.{Clause, OR, plus, inputOf, usedBy, moved, gatesClauses, usedAfter, currentAfter, targeted, upFrom, differenceClause, differenceClauses, clausesOf}
 use Rattle.checking.specs.Stored.{stored, wordLimit}

@@ -16,7 +16,7 @@ use Rattle.bits.specs.Lists.{over}
 use Rattle.bits.proofs.Digits.{lines-ones}
 use Rattle.bits.proofs.Lists.{over-push, over-length, rest-lent, lent-over}
 use Rattle.bits.proofs.Lowest.{lowest-below, lines-on, lines-done}
-use Rattle.gates.specs.Gate.{maxLines}
+use Rattle.circuit.specs.Gate.{maxLines}
 use Rattle.checking.specs.Clauses.{Clause, OR, XOR, plus, minus, implied, manyClauses}
 use Rattle.checking.specs.Stored.{stored}
 use Rattle.checking.specs.Emitter.{literalWord, literalAt, literalsIn, controlsStored, byLine, manyStored, Lines, Many}

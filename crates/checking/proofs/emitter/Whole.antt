@@ -12,10 +12,10 @@ use lib.IntN.{ℤ, pos}
 use lib.ListN.{length, length-map}
 use Rattle.bits.specs.Digits.{linesIn}
 use Rattle.bits.proofs.Lowest.{lines-none, lines-lowest, lowest-below}
-use Rattle.gates.specs.declared.gate.Gate.{Gate}
-use Rattle.gates.specs.Gate.{maxLines, controlCount, Control, controlsBelow, controlsOf}
-use Rattle.gates.proofs.gate.Laws.{valid-facts, valid-more}
-use Rattle.gates.proofs.gate.Controls.{controlOn, controls-count, controls-lines, controls-below}
+use Rattle.circuit.specs.declared.gate.Gate.{Gate}
+use Rattle.circuit.specs.Gate.{maxLines, controlCount, Control, controlsBelow, controlsOf}
+use Rattle.circuit.proofs.gate.Laws.{valid-facts, valid-more}
+use Rattle.circuit.proofs.gate.Controls.{controlOn, controls-count, controls-lines, controls-below}
 use Rattle.checking.specs.declared.clauses.Totals.{Totals}
 use Rattle.checking.specs.Clauses.{plus, minus, literalOf, gateClauses, manyClauses}
 use Rattle.checking.specs.Stored.{stored, wordLimit}

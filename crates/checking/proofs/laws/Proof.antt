@@ -1,18 +1,30 @@
 -- `checking::laws` meets its contract: the record of the laws. Assumes nothing.
+use Rattle.checking.proofs.miter.Laws.{miter-laws}
+use Rattle.checking.proofs.step.Laws.{step-laws}
+use Rattle.checking.proofs.reduce.Relation.{reduce-laws}
+use Rattle.checking.proofs.StandIns.{stand-in-laws}
 use Rattle.checking.proofs.clauses.Laws.{clause-laws}
 use Rattle.checking.proofs.EqualityLaws.{equality-laws}
 use Rattle.checking.proofs.clauses.Answers.{emit-laws}
 use Rattle.checking.proofs.Rows.{row-laws}
+use Rattle.checking.proofs.faults.Refusals.{refusal-laws}
+use Rattle.checking.proofs.faults.StandIns.{fault-laws}
 use Rattle.checking.proofs.laws.Statement.{statement}
 use Rattle.checking.proofs.laws.Tie as tie
 
 returns : tie.Need-returns
 returns c =
     record {
+      miter = miter-laws;
+      steps = step-laws;
+      reductions = reduce-laws;
+      stand-ins = stand-in-laws;
       clauses = clause-laws;
       equality = equality-laws;
       emission = emit-laws;
       rows = row-laws;
+      refusals = refusal-laws;
+      faults = fault-laws;
     }
 
 pub laws-spec : {M : Type 1} → statement M

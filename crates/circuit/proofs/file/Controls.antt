@@ -11,10 +11,10 @@ use borrow.Author.Tests.{eqb-true, eqb-false, eq-eqb, ne-eqb, le-leb, leb-true, 
 use Rattle.bits.specs.Digits.{bit}
 use Rattle.bits.proofs.Bools.{either, and-parts, both, or-none}
 use Rattle.bits.proofs.Digits.{bit-or, bit-pow, bit-none, bits-equal, bit-above}
-use Rattle.gates.specs.declared.gate.Gate.{Gate}
-use Rattle.gates.specs.Gate.{maxLines, valid, Control, controlAt, controlsBelow, controlsOf}
+use Rattle.circuit.specs.declared.gate.Gate.{Gate}
+use Rattle.circuit.specs.Gate.{maxLines, valid, Control, controlAt, controlsBelow, controlsOf}
 use Rattle.circuit.specs.File.{among, risingFrom, maskOf, gateOf}
-use Rattle.gates.proofs.gate.Laws.{Valid, valid-facts, valid-apart, valid-by-lines, lines-valid}
+use Rattle.circuit.proofs.gate.Laws.{Valid, valid-facts, valid-apart, valid-by-lines, lines-valid}
 
 -- ---- tests
 

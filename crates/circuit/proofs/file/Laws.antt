@@ -8,17 +8,17 @@ use lib.ListN.{length, take, drop, length-append}
 use lib.Seq.{take-at}
 use borrow.Author.Tests.{le-leb, lt-leb, leb-true, leb-false}
 use Rattle.bits.proofs.Bools.{either, cond-false}
-use Rattle.gates.specs.declared.gate.Gate.{Gate}
-use Rattle.gates.specs.Gate.{maxLines, maxGates}
-use Rattle.gates.specs.Outcome.{Outcome, served, refused, andThen}
-use Rattle.gates.specs.Refusal.{wrongForm, noRoom}
+use Rattle.circuit.specs.declared.gate.Gate.{Gate}
+use Rattle.circuit.specs.Gate.{maxLines, maxGates}
+use Rattle.circuit.specs.Outcome.{Outcome, served, refused, andThen}
+use Rattle.circuit.specs.Refusal.{wrongForm, noRoom}
 use Rattle.circuit.specs.Text.{tab, lineFeed, linesWord, numberText, headerLine, endLine, gateLines, textOf}
 use Rattle.circuit.specs.File.{Line, noLine, firstLine, laterLines, linesOf, size, gateOn, gateFields, fieldsOf, headerOn, isEnd, Reading, readFrom, reading, ReadCounts, countsOf, readOutcome, writeOutcome}
 use Rattle.circuit.specs.FileLaws as laws
 use Rattle.circuit.specs.FileLaws.{FileCascade, LineOffence, FileFault, ReaderLaws, Readable, ReadFault, Writable, WriteFault}
-use Rattle.gates.specs.Words.{gatesOf, checkOutcome}
-use Rattle.gates.proofs.words.Laws.{check-served, served-check, check-refused, refused-check}
-use Rattle.gates.proofs.Outcome.{never, demand-met, demand-failed, then-served, then-refused, then-both, demanded, then-either, last-failed, same-refusal}
+use Rattle.circuit.specs.Words.{gatesOf, checkOutcome}
+use Rattle.circuit.proofs.words.Laws.{check-served, served-check, check-refused, refused-check}
+use Rattle.circuit.proofs.Outcome.{never, demand-met, demand-failed, then-served, then-refused, then-both, demanded, then-either, last-failed, same-refusal}
 use Rattle.circuit.proofs.file.Lines.{Cut, cut-first}
 use Rattle.circuit.proofs.file.Texts.{headerText, start-read, text-read}
 use Rattle.circuit.proofs.file.Offences.{HeaderFound, header-found, header-refused, offence-refused, offence-open, Walked, whole-text, stopped, walked}
@@ -182,7 +182,7 @@ module _ (text : List ℕ) (room : ℕ) where
 
 -- the text of the cascade without gates on one line
 pub refuses-all : (read : List ℕ → Outcome Reading) → ((text : List ℕ) → (number : ℕ) × (place : ℕ) × (read text ≡ refused number place)) → ReaderLaws read → ⊥
-unfolding Rattle.gates.specs.Words.allValid
+unfolding Rattle.circuit.specs.Words.allValid
 refuses-all read all r =
     let (number, place, e) = all (textOf 1 [] ++ []) in
     never (r .text-read 1 [] [] (record { lines-low = omega arith; lines-high = omega arith; few = omega arith; gates = refl })) e

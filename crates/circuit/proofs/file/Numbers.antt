@@ -7,11 +7,11 @@ use native.Mathlib.Omega.{arith}
 use lib.Dec.{eqb, leb, ltb}
 use borrow.Author.Tests.{eqb-false, not-true, le-leb, leb-true, ltb-true, ltb-false, lt-ltb, le-ltb, ne-eqb}
 use Rattle.bits.proofs.Bools.{either, and-parts, both, cond-true, cond-false}
-use Rattle.gates.specs.Outcome.{served, refused}
-use Rattle.gates.specs.Refusal.{wrongForm}
+use Rattle.circuit.specs.Outcome.{served, refused}
+use Rattle.circuit.specs.Refusal.{wrongForm}
 use Rattle.circuit.specs.Text.{digit, numberText}
 use Rattle.circuit.specs.File.{isDigit, numberOf}
-use Rattle.gates.proofs.Outcome.{never, demand-met, demand-failed, demanded}
+use Rattle.circuit.proofs.Outcome.{never, demand-met, demand-failed, demanded}
 use Rattle.circuit.proofs.file.Lines.{free}
 
 -- ---- the text of a number

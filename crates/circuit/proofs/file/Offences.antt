@@ -8,17 +8,17 @@ use lib.Dec.{eqb, leb, ltb}
 use lib.ListN.{length, drop, length-append}
 use borrow.Author.Tests.{le-leb, lt-leb, lt-ltb, ltb-true, ltb-false, leb-true, leb-false, eqb-true}
 use Rattle.bits.proofs.Bools.{either, and-parts, both, not-held, refuted, cond-true, cond-false, and-second}
-use Rattle.gates.specs.declared.gate.Gate.{Gate}
-use Rattle.gates.specs.Gate.{maxLines, maxGates, valid, Control}
-use Rattle.gates.specs.Outcome.{Outcome, served, refused, demand, andThen}
-use Rattle.gates.specs.Refusal.{wrongForm, badLineCount, lineOutside}
-use Rattle.gates.specs.Words.{allValid, lineCountGood}
+use Rattle.circuit.specs.declared.gate.Gate.{Gate}
+use Rattle.circuit.specs.Gate.{maxLines, maxGates, valid, Control}
+use Rattle.circuit.specs.Outcome.{Outcome, served, refused, demand, andThen}
+use Rattle.circuit.specs.Refusal.{wrongForm, badLineCount, lineOutside}
+use Rattle.circuit.specs.Words.{allValid, lineCountGood}
 use Rattle.circuit.specs.Text.{tab, lineFeed, plus, minus, linesWord, gateWord, endWord, numberText, controlText, controlsText, gateText, gateLine, endLine, gateLines}
 use Rattle.circuit.specs.File.{Line, noLine, firstLine, laterLines, linesOf, size, fieldsOf, same, numberOf, lineOf, controlOf, controlsFrom, among, risingFrom, gateOf, closedGate, gateFields, gateOn, headerFields, headerOn, isEnd, Reading, readFrom}
 use Rattle.circuit.specs.FileLaws as laws
 use Rattle.circuit.specs.FileLaws.{NumberField, ControlField, HeaderOffence, ControlsOffence, Inside, Among, NotRising, GoodFields, LineOffence}
-use Rattle.gates.proofs.Outcome.{never, demand-met, demand-failed, then-served, then-refused}
-use Rattle.gates.proofs.words.Laws.{lines-good, good-lines}
+use Rattle.circuit.proofs.Outcome.{never, demand-met, demand-failed, then-served, then-refused}
+use Rattle.circuit.proofs.words.Laws.{lines-good, good-lines}
 use Rattle.circuit.proofs.file.Lines.{tabbed, whole, fields-back, same-true, same-self, true-same, Cut, cut-first}
 use Rattle.circuit.proofs.file.Numbers.{number-text, text-number, number-wrong}
 use Rattle.circuit.proofs.file.Controls.{within, within-more, controls-gate, controls-valid}

@@ -7,17 +7,17 @@ use native.Mathlib.Omega.{arith}
 use lib.ListN.{length, drop, length-drop, length-append}
 use lib.Seq.{drop-drop}
 use Rattle.bits.proofs.Bools.{and-parts, cond-true, cond-false}
-use Rattle.gates.specs.declared.gate.Gate.{Gate}
-use Rattle.gates.specs.Gate.{maxLines, maxGates}
-use Rattle.gates.specs.Outcome.{Outcome, served, refused, written, Yields}
-use Rattle.gates.specs.Refusal.{wrongForm}
+use Rattle.circuit.specs.declared.gate.Gate.{Gate}
+use Rattle.circuit.specs.Gate.{maxLines, maxGates}
+use Rattle.circuit.specs.Outcome.{Outcome, served, refused, written, Yields}
+use Rattle.circuit.specs.Refusal.{wrongForm}
 use Rattle.circuit.specs.Text.{lineFeed, endWord, endLine}
 use Rattle.circuit.specs.File.{Line, noLine, firstLine, laterLines, linesOf, size, fieldsOf, same, gateFields, gateOn, headerOn, isEnd, Reading, readFrom, reading, ReadCounts, countsOf, gatesRead, readOutcome, readBuffer}
-use Rattle.gates.specs.Words.{wordsOf}
+use Rattle.circuit.specs.Words.{wordsOf}
 use Rattle.circuit.specs.Scan.{lineAt, gateNext, HeaderNext, headerNext, countsFrom}
 use Rattle.circuit.specs.Fill.{GatesAt}
-use Rattle.gates.proofs.Outcome.{never, then-served, then-refused, then-both, told}
-use Rattle.gates.proofs.words.Laws.{valid-all-more}
+use Rattle.circuit.proofs.Outcome.{never, then-served, then-refused, then-both, told}
+use Rattle.circuit.proofs.words.Laws.{valid-all-more}
 use Rattle.circuit.proofs.file.Lines.{cut-first, same-true}
 use Rattle.circuit.proofs.file.Offences.{GateFound, gate-found, HeaderFound, header-found, Walked, whole-text, stopped, walked}
 

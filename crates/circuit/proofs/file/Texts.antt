@@ -8,16 +8,16 @@ use lib.Dec.{eqb, ltb}
 use lib.ListN.{length, length-append}
 use borrow.Author.Tests.{le-leb, lt-ltb, ltb-true}
 use Rattle.bits.proofs.Bools.{and-parts, both}
-use Rattle.gates.specs.declared.gate.Gate.{Gate}
-use Rattle.gates.specs.Gate.{maxLines, maxGates, valid, Control, controlsOf}
-use Rattle.gates.specs.Outcome.{served, andThen}
-use Rattle.gates.specs.Words.{allValid}
+use Rattle.circuit.specs.declared.gate.Gate.{Gate}
+use Rattle.circuit.specs.Gate.{maxLines, maxGates, valid, Control, controlsOf}
+use Rattle.circuit.specs.Outcome.{served, andThen}
+use Rattle.circuit.specs.Words.{allValid}
 use Rattle.circuit.specs.Text.{tab, lineFeed, plus, minus, linesWord, gateWord, endWord, numberText, controlText, controlsText, gateText, headerLine, gateLine, endLine, gateLines, textOf}
 use Rattle.circuit.specs.File.{Line, firstLine, laterLines, linesOf, size, fieldsOf, same, lineOf, controlOf, controlsFrom, among, risingFrom, gateOf, closedGate, gateFields, gateOn, headerFields, headerOn, readFrom, reading}
 use Rattle.circuit.specs.FileLaws.{FileCascade}
-use Rattle.gates.proofs.Outcome.{demand-met, then-served}
-use Rattle.gates.proofs.gate.Laws.{valid-facts, valid-more}
-use Rattle.gates.proofs.words.Laws.{good-lines}
+use Rattle.circuit.proofs.Outcome.{demand-met, then-served}
+use Rattle.circuit.proofs.gate.Laws.{valid-facts, valid-more}
+use Rattle.circuit.proofs.words.Laws.{good-lines}
 use Rattle.circuit.proofs.file.Lines.{free, free-append, lines-cut, tabbed, fields-cut, fields-one, allFree, fields-joined, same-self}
 use Rattle.circuit.proofs.file.Numbers.{number-free, number-text}
 use Rattle.circuit.proofs.file.Controls.{within, gate-controls, target-apart, controls-rising, controls-within}

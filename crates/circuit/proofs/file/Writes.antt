@@ -8,18 +8,18 @@ use lib.ListN.{length, take, drop, length-append}
 use borrow.Author.Tests.{le-leb, lt-leb}
 use borrow.Rule.Slice.PartMut.{putMid}
 use Rattle.bits.proofs.Bools.{and-parts}
-use Rattle.gates.specs.declared.gate.Gate.{Gate}
-use Rattle.gates.specs.Gate.{maxLines, maxGates, valid}
-use Rattle.gates.specs.Outcome.{Outcome, served, refused, written, Yields}
-use Rattle.gates.specs.Refusal.{noRoom}
-use Rattle.gates.specs.Words.{gatesOf, gateAt, allValid, checkOutcome}
+use Rattle.circuit.specs.declared.gate.Gate.{Gate}
+use Rattle.circuit.specs.Gate.{maxLines, maxGates, valid}
+use Rattle.circuit.specs.Outcome.{Outcome, served, refused, written, Yields}
+use Rattle.circuit.specs.Refusal.{noRoom}
+use Rattle.circuit.specs.Words.{gatesOf, gateAt, allValid, checkOutcome}
 use Rattle.circuit.specs.Text.{headerLine, gateLine, gateLines, endLine, textOf}
 use Rattle.circuit.specs.File.{writeOutcome, writeBuffer}
 use Rattle.circuit.specs.Put.{Put}
 use Rattle.circuit.specs.Scan.{width}
-use Rattle.gates.proofs.Outcome.{demand-met, demand-failed, then-served, then-refused, told}
-use Rattle.gates.proofs.gate.Laws.{valid-facts}
-use Rattle.gates.proofs.words.Laws.{gates-next, gates-end}
+use Rattle.circuit.proofs.Outcome.{demand-met, demand-failed, then-served, then-refused, told}
+use Rattle.circuit.proofs.gate.Laws.{valid-facts}
+use Rattle.circuit.proofs.words.Laws.{gates-next, gates-end}
 use Rattle.circuit.proofs.file.scan.Laws.{width-two}
 use Rattle.circuit.proofs.file.put.Laws.{Written, written-none, written-more, written-put, put-as, header-length}
 

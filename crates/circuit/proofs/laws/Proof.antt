@@ -1,4 +1,10 @@
 -- `circuit::laws` meets its contract: the record of the laws. Assumes nothing.
+use Rattle.circuit.proofs.gate.Laws.{fires-lines, lines-fires, valid-by-lines, lines-valid, valid-more, apply-bit, apply-none, apply-not, apply-twice, apply-below, count-lines}
+use Rattle.circuit.proofs.gate.Controls.{controls-count, controls-fire}
+use Rattle.circuit.proofs.words.Laws.{gates-words, words-gates, check-served, served-check, check-refused, refused-check, pair-served, served-pair, pair-refused, refused-pair}
+use Rattle.circuit.proofs.run.Laws.{run-append, run-below, equal-differs, run-fault, fault-run}
+use Rattle.circuit.proofs.run.Records.{records-words}
+use Rattle.circuit.proofs.inverse.Laws.{run-inverse, inverse-run, inverse-append, inverse-twice, inverse-valid, inverse-fault, fault-inverse}
 use Rattle.circuit.proofs.file.Laws.{reader, read-served, served-read, read-refused, refused-read, write-served, served-write, write-fault, fault-write, refuses-all}
 use Rattle.circuit.proofs.laws.Statement.{statement}
 use Rattle.circuit.proofs.laws.Tie as tie
@@ -6,12 +12,52 @@ use Rattle.circuit.proofs.laws.Tie as tie
 returns : tie.Need-returns
 returns c =
     record {
-      reader = reader;
-      read-served = λ text room c. (read-served text room c, served-read text room c);
-      read-refused = λ text room number place. (read-refused text room number place, refused-read text room number place);
-      write-served = λ n ws room k. (write-served n ws room k, served-write n ws room k);
-      write-refused = λ n ws room number place. (write-fault n ws room number place, fault-write n ws room number place);
-      refuses-all = refuses-all;
+      gate =
+          record {
+            fires-lines = λ g s. (fires-lines g s, lines-fires g s);
+            valid-lines = λ n g. (valid-by-lines n g, lines-valid n g);
+            valid-more = valid-more;
+            apply-line = apply-bit;
+            apply-none = apply-none;
+            apply-not = apply-not;
+            apply-twice = apply-twice;
+            apply-below = apply-below;
+            count-lines = count-lines;
+            controls-count = controls-count;
+            controls-fire = controls-fire;
+          };
+      words =
+          record {
+            gates-words = gates-words;
+            words-gates = words-gates;
+            check-served = λ n ws limit k. (check-served n ws limit k, served-check n ws limit k);
+            check-refused = λ n ws limit number place. (check-refused n ws limit number place, refused-check n ws limit number place);
+            pair-served = λ na a nb b c. (pair-served na a nb b c, (λ x. served-pair na a nb b (c .first) (c .second) (x .0) (x .1) (x .2)));
+            pair-refused = λ na a nb b number place. (pair-refused na a nb b number place, refused-pair na a nb b number place);
+          };
+      cascade =
+          record {
+            run-append = run-append;
+            run-below = run-below;
+            run-refused = λ n ws s number place. (run-fault n ws s number place, fault-run n ws s number place);
+            inverse-refused = λ n ws room number place. (inverse-fault n ws room number place, fault-inverse n ws room number place);
+            records-words = records-words;
+            run-inverse = run-inverse;
+            inverse-run = inverse-run;
+            inverse-append = inverse-append;
+            inverse-twice = inverse-twice;
+            inverse-valid = inverse-valid;
+            equal-differs = equal-differs;
+          };
+      file =
+          record {
+            reader = reader;
+            read-served = λ text room c. (read-served text room c, served-read text room c);
+            read-refused = λ text room number place. (read-refused text room number place, refused-read text room number place);
+            write-served = λ n ws room k. (write-served n ws room k, served-write n ws room k);
+            write-refused = λ n ws room number place. (write-fault n ws room number place, fault-write n ws room number place);
+            refuses-all = refuses-all;
+          };
     }
 
 pub laws-spec : {M : Type 1} → statement M

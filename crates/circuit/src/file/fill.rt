@@ -1,7 +1,7 @@
 // Reading at a position of a text that was judged good: a number, a line, all lines. Nothing is tested again.
 
 use crate::file::scan::Numeral;
-use gates::gate::Gate;
+use crate::gate::Gate;
 ghost use mathlib.Core.Path.{_≡_};
 ghost use mathlib.Core.Bool.{cond};
 ghost use mathlib.Core.List.{List};
@@ -9,9 +9,9 @@ ghost use Prim.Native.Nat.{ℕ, _+_, _*_, _^_, _<_, _≤_};
 ghost use lib.Bits.{bitOr};
 ghost use lib.ListN.{length};
 ghost use Rattle.bits.specs.Lists.{over};
-ghost use Rattle.gates.specs.declared.gate.Gate.{Gate};
-ghost use Rattle.gates.specs.Gate.{maxLines, Control};
-ghost use Rattle.gates.specs.Words.{wordsOf};
+ghost use Rattle.circuit.specs.declared.gate.Gate.{Gate};
+ghost use Rattle.circuit.specs.Gate.{maxLines, Control};
+ghost use Rattle.circuit.specs.Words.{wordsOf};
 ghost use Rattle.circuit.specs.Text.{numberText, controlsText, gateLine};
 ghost use Rattle.circuit.specs.File.{gateOf};
 ghost use Rattle.circuit.specs.Fill.{NumberAt, ControlsAt, GateAt, GatesAt};
@@ -97,7 +97,7 @@ pub(crate) fn fill(text: &[u8], start: usize, gates: usize, out: &mut [u64])
     while i < gates {
         let read = gate_line(text, at);
         let to = Gate::WORDS * i;
-        gates::words::put_gate(&mut out[to..], read.gate);
+        crate::words::put_gate(&mut out[to..], read.gate);
         at = read.next;
         i += 1;
     }

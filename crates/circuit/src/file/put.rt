@@ -1,13 +1,13 @@
 // Writing at the start of a buffer: a number, a control, a line. Each function tells how many bytes it wrote.
 
-use gates::gate::Gate;
+use crate::gate::Gate;
 ghost use mathlib.Core.Path.{_≡_};
 ghost use mathlib.Core.Bool.{cond};
 ghost use mathlib.Core.List.{_∷_, _++_};
 ghost use Prim.Native.Nat.{_+_, _/_, _%_, _<_, _≤_};
 ghost use lib.ListN.{length};
 ghost use Rattle.bits.specs.Digits.{bit};
-ghost use Rattle.gates.specs.Gate.{maxLines, controlsOf};
+ghost use Rattle.circuit.specs.Gate.{maxLines, controlsOf};
 ghost use Rattle.circuit.specs.Text.{tab, plus, minus, digit, numberText, controlText, controlsText, headerLine, gateText, gateLine, endLine};
 ghost use Rattle.circuit.specs.Put.{Put, TwoDigits, maskGate};
 
@@ -97,7 +97,7 @@ fn put_controls(out: &mut [u8], positive: u64, negative: u64, table: &[u8]) -> u
     let mut left = positive | negative;
     let mut at = 0;
     while left != 0 {
-        let k = gates::gate::lowest(left);
+        let k = crate::gate::lowest(left);
         at += put_control(&mut out[at..], k, has(positive, k), table);
         left &= left - 1;
     }
@@ -153,7 +153,7 @@ fn controls_size(positive: u64, negative: u64) -> usize
     ensures { λ r. ⌜ (r ≡ length (controlsText (controlsOf (maskGate positive negative)))) × (r ≤ 256) ⌝ }
 {
     let lines = positive | negative;
-    (3 * gates::gate::count(lines) + gates::gate::count(lines >> 10)) as usize
+    (3 * crate::gate::count(lines) + crate::gate::count(lines >> 10)) as usize
 }
 
 // How many bytes the line of a gate has.

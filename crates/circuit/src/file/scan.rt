@@ -1,14 +1,14 @@
 // Reading at a position of a text: a byte, a field, a line.
 
-use gates::gate::Gate;
-use gates::refusal::Refusal;
+use crate::gate::Gate;
+use crate::refusal::Refusal;
 ghost use mathlib.Core.Path.{_≡_};
 ghost use mathlib.Core.Bool.{true, false, not, _&&_, _||_};
 ghost use mathlib.Core.List.{[]};
 ghost use Prim.Native.Nat.{_+_, _<_, _≤_};
 ghost use lib.Dec.{eqb, leb};
 ghost use lib.ListN.{length, drop, getD};
-ghost use Rattle.gates.specs.Gate.{maxLines};
+ghost use Rattle.circuit.specs.Gate.{maxLines};
 ghost use Rattle.circuit.specs.Text.{plus, minus};
 ghost use Rattle.circuit.specs.File.{isDigit, numberOf, lineOf, controlOf, isEnd};
 ghost use Rattle.circuit.specs.Scan.{isStop, fieldAt, lineAt, startsWith, orHundred, width, added, headerNext, gateNext, controlsNext, ofLine, ofControl, ofGate, ofHeader, LineEnds, ControlEnds};
@@ -329,7 +329,7 @@ pub(crate) fn header(text: &[u8]) -> HeaderAnswer
     if n == NO_NUMBER {
         return HeaderAnswer::Refused(Refusal::wrong_form(0));
     }
-    if !gates::words::line_count_good(n) {
+    if !crate::words::line_count_good(n) {
         return HeaderAnswer::Refused(Refusal::bad_line_count());
     }
     if text.len() <= at {

@@ -41,18 +41,18 @@ use denote.Triple.Table.{entered, cited}
 use denote.Triple.Walked.{says, needs, Stays, stay-none, walkOf, goes-none, Walks, ends-at, walked, walk-meets}
 use denote.Exit.{yes}
 use Rattle.bits.proofs.Walks.{called}
-use Rattle.gates.specs.Run.{recordsOutcome, ofRun}
-use Rattle.gates.specs.declared.gate.Gate.{Gate}
-use Rattle.gates.specs.declared.run.RunAnswer.{RunAnswer}
-use Rattle.gates.proofs.gate.Gate as G
-use Rattle.gates.proofs.gate.Gate.Laws as G′
-use Rattle.gates.proofs.run.RunAnswer as S
-use Rattle.gates.proofs.run.Answers.{makes-answer, lawful-answer}
-use Rattle.gates.proofs.run.Calls.{Lent, Records, to-records, records-asks}
-use Rattle.gates.proofs.run.run_records as run-records
-use Rattle.gates.proofs.run.run_records.Symbol as records-def
-use Rattle.gates.proofs.run.run_records.Symbol.{name as #records}
-use Rattle.gates.proofs.run.run_records.Met as records-thm
+use Rattle.circuit.specs.Run.{recordsOutcome, ofRun}
+use Rattle.circuit.specs.declared.gate.Gate.{Gate}
+use Rattle.circuit.specs.declared.run.RunAnswer.{RunAnswer}
+use Rattle.circuit.proofs.gate.Gate as G
+use Rattle.circuit.proofs.gate.Gate.Laws as G′
+use Rattle.circuit.proofs.run.RunAnswer as S
+use Rattle.circuit.proofs.run.Answers.{makes-answer, lawful-answer}
+use Rattle.circuit.proofs.run.Calls.{Lent, Records, to-records, records-asks}
+use Rattle.circuit.proofs.run.run_records as run-records
+use Rattle.circuit.proofs.run.run_records.Symbol as records-def
+use Rattle.circuit.proofs.run.run_records.Symbol.{name as #records}
+use Rattle.circuit.proofs.run.run_records.Met as records-thm
 use Rattle.bits.proofs.Lends.{behind, Row, apart, together}
 use Rattle.record_rows.proofs.run_first.Key.{name as #run-first}
 use Rattle.record_rows.proofs.run_first as run-first
@@ -174,4 +174,4 @@ run-first-spec 𝓤 H 𝓜 𝓖 𝓡 =
     entered 𝓤 H (tripleOf 𝓤 H (𝓖 .A) run-first.signature (run-first.spec 𝓤 H (𝓖 .A) (𝓜 .mem) (𝓡 .run)))
     (tables 𝓤 H 𝓜 𝓡 code.env .C) (tables 𝓤 H 𝓜 𝓡 code.env .Λ) #run-first code.function (code.unfolded 𝓤 H 𝓜 𝓡)
     (meets 𝓤 H (𝓖 .A) (givenOf 𝓤 H 𝓜 𝓖) (𝓜 .mem) (𝓡 .run) (tablesOf 𝓤 H 𝓜 (tables 𝓤 H 𝓜 𝓡 code.env))
-    (cited 𝓤 H (Records 𝓤 H (𝓖 .A) (𝓜 .mem) (𝓡 .run)) 𝓜 𝓡 code.env #records records-def.routine code.calls-gates·run·run-records (records-thm.met 𝓤 H 𝓜 𝓖 𝓡)))
+    (cited 𝓤 H (Records 𝓤 H (𝓖 .A) (𝓜 .mem) (𝓡 .run)) 𝓜 𝓡 code.env #records records-def.routine code.calls-circuit·run·run-records (records-thm.met 𝓤 H 𝓜 𝓖 𝓡)))

@@ -12,25 +12,25 @@ use borrow.Author.Tests.{eqb-true, eqb-false, eq-eqb, ne-eqb, le-leb, lt-leb, le
 use Rattle.bits.specs.Lists.{over}
 use Rattle.bits.proofs.Bools.{either, cond-true, cond-false}
 use Rattle.bits.proofs.Lists.{over-length}
-use Rattle.gates.specs.declared.gate.Gate.{Gate}
-use Rattle.gates.specs.declared.refusal.Refusal.{Refusal}
-use Rattle.gates.specs.Gate.{maxGates, maxMiterGates}
-use Rattle.gates.specs.Outcome.{Outcome, served, refused, demand, andThen, written}
-use Rattle.gates.specs.Refusal.{wrongForm, lineCountsDiffer, noRoom}
-use Rattle.gates.specs.Words.{gatesOf, wordsOf, Cascade, differ}
-use Rattle.gates.proofs.Outcome.{never, demand-met, demand-failed, then-served}
-use Rattle.gates.proofs.words.Laws.{gates-words, words-length, served-check, refused-pair}
+use Rattle.circuit.specs.declared.gate.Gate.{Gate}
+use Rattle.circuit.specs.declared.refusal.Refusal.{Refusal}
+use Rattle.circuit.specs.Gate.{maxGates, maxMiterGates}
+use Rattle.circuit.specs.Outcome.{Outcome, served, refused, demand, andThen, written}
+use Rattle.circuit.specs.Refusal.{wrongForm, lineCountsDiffer, noRoom}
+use Rattle.circuit.specs.Words.{gatesOf, wordsOf, Cascade, differ}
+use Rattle.circuit.proofs.Outcome.{never, demand-met, demand-failed, then-served}
+use Rattle.circuit.proofs.words.Laws.{gates-words, words-length, served-check, refused-pair}
 use Rattle.circuit.specs.Text.{textOf}
 use Rattle.circuit.specs.File.{Reading, reading, ReadCounts, gatesRead, readOutcome, readBuffer}
 use Rattle.circuit.specs.FileLaws.{ReadFault, wrong, short}
 use Rattle.circuit.proofs.file.Laws.{reader, read-served, read-refused}
 use Rattle.checking.specs.declared.clauses.Totals.{Totals}
-use Rattle.reduction.specs.Miter.{miterGates, miterOutcome, miterBuffer}
+use Rattle.checking.specs.Miter.{miterGates, miterOutcome, miterBuffer}
 use Rattle.checking.specs.Clauses.{Clause, clausesOf, variablesOf}
 use Rattle.checking.specs.Stored.{stored}
 use Rattle.checking.specs.Sizes.{totals, sizesOf, sizesOutcome}
 use Rattle.checking.specs.Emit.{emitOutcome, emitBuffer}
-use Rattle.reduction.proofs.miter.Laws.{miter-laws, miter-refused}
+use Rattle.checking.proofs.miter.Laws.{miter-laws, miter-refused}
 use Rattle.checking.proofs.clauses.Laws.{clause-laws}
 use Rattle.text.specs.declared.list.ListAnswer.{ListAnswer}
 use Rattle.text.specs.declared.list.ListAnswer.the-variants as list
@@ -206,7 +206,7 @@ module _ (text : List ℕ) (room : ℕ) (long : room ≡ 3072) where
                     lines-high = g .lines-high;
                     size = l;
                     few = few;
-                    gates = ap (Rattle.gates.specs.Words.allValid lines) (gates-words hs) ∙ g .gates;
+                    gates = ap (Rattle.circuit.specs.Words.allValid lines) (gates-words hs) ∙ g .gates;
                   };
             });
         gates-are = ap gatesOf t ∙ gates-words hs;

@@ -6,10 +6,10 @@ use lib.IntN.{ℤ}
 use lib.ListN.{length, take, drop}
 use lib.Seq.{take-at}
 use borrow.Author.Tests.{le-leb, lt-leb}
-use Rattle.gates.specs.declared.refusal.Refusal.{Refusal}
-use Rattle.gates.specs.Outcome.{Outcome, served, refused, written, Yields}
-use Rattle.gates.specs.Refusal.{noRoom}
-use Rattle.gates.proofs.Outcome.{demand-met, demand-failed, told}
+use Rattle.circuit.specs.declared.refusal.Refusal.{Refusal}
+use Rattle.circuit.specs.Outcome.{Outcome, served, refused, written, Yields}
+use Rattle.circuit.specs.Refusal.{noRoom}
+use Rattle.circuit.proofs.Outcome.{demand-met, demand-failed, told}
 use Rattle.circuit.specs.Put.{Put}
 use Rattle.checking.specs.declared.clauses.Totals.{Totals}
 use Rattle.text.specs.declared.list.ListAnswer.the-variants as list

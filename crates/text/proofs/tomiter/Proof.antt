@@ -6,9 +6,9 @@ use native.Mathlib.Omega.{arith}
 use lib.ListN.{length}
 use lib.Seq.{length-take-le}
 use Rattle.bits.specs.Lists.{over}
-use Rattle.gates.specs.Outcome.{served, refused}
-use Rattle.gates.specs.Refusal.{noRoom}
-use Rattle.gates.proofs.Outcome.{why}
+use Rattle.circuit.specs.Outcome.{served, refused}
+use Rattle.circuit.specs.Refusal.{noRoom}
+use Rattle.circuit.proofs.Outcome.{why}
 use Rattle.text.specs.Tomiter.{tomiterText}
 use Rattle.text.proofs.Sizes.{room-enough}
 use Rattle.text.proofs.program.Laws.{short, fits, text-told, made}

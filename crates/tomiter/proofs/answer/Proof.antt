@@ -3,8 +3,8 @@ use mathlib.Core.Path.{_≡_, sym, ap, _∙_}
 use mathlib.Core.List.{List}
 use Prim.Native.Nat.{ℕ, _≤_}
 use lib.ListN.{length}
-use Rattle.gates.specs.Outcome.{Outcome, served, written}
-use Rattle.gates.proofs.Outcome.{never}
+use Rattle.circuit.specs.Outcome.{Outcome, served, written}
+use Rattle.circuit.proofs.Outcome.{never}
 use Rattle.circuit.specs.Put.{Put}
 use Rattle.text.specs.Tomiter.{maxText, tomiterText, tomiterOutcome, tomiterBuffer}
 use Rattle.text.specs.Answers.{ofText}

@@ -1,7 +1,7 @@
 -- `capi::compare::cascade_differs` meets its contract. Assumes nothing.
 use mathlib.Core.Path.{sym, ap, _∙_}
 use borrow.Author.Needs.{needs}
-use Rattle.diagnosis.specs.Compare.{ofDiffers}
+use Rattle.checking.specs.Compare.{ofDiffers}
 use Rattle.capi.specs.Compare.{differsAnswer}
 use Rattle.capi.proofs.compare.cascade_differs.Statement.{statement}
 use Rattle.capi.proofs.compare.cascade_differs.Tie as tie

@@ -1,7 +1,7 @@
 -- `capi::compare::cascade_fewer_gates` meets its contract. Assumes nothing.
 use mathlib.Core.Path.{sym, ap, _∙_}
 use borrow.Author.Needs.{needs}
-use Rattle.diagnosis.specs.Compare.{ofRefusal}
+use Rattle.checking.specs.Compare.{ofRefusal}
 use Rattle.capi.proofs.compare.Laws.{fewer-refused, fewer-second, fewer-first}
 use Rattle.capi.proofs.compare.cascade_fewer_gates.Statement.{statement}
 use Rattle.capi.proofs.compare.cascade_fewer_gates.Tie as tie

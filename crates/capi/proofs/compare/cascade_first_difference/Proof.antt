@@ -1,7 +1,7 @@
 -- `capi::compare::cascade_first_difference` meets its contract. Assumes nothing.
 use mathlib.Core.Path.{sym, ap, _∙_}
 use borrow.Author.Needs.{needs}
-use Rattle.diagnosis.specs.Compare.{ofDifference}
+use Rattle.checking.specs.Compare.{ofDifference}
 use Rattle.capi.specs.Compare.{stateAnswer}
 use Rattle.capi.proofs.compare.cascade_first_difference.Statement.{statement}
 use Rattle.capi.proofs.compare.cascade_first_difference.Tie as tie

@@ -1,8 +1,8 @@
 -- `capi::count::count_answer` meets its contract. Assumes nothing.
 use mathlib.Core.Path.{sym, ap}
 use borrow.Author.Needs.{needs}
-use Rattle.gates.specs.declared.words.CountAnswer.{CountAnswer}
-use Rattle.gates.specs.Words.{ofCount}
+use Rattle.circuit.specs.declared.words.CountAnswer.{CountAnswer}
+use Rattle.circuit.specs.Words.{ofCount}
 use Rattle.capi.specs.Count.{countAnswer}
 use Rattle.capi.proofs.count.count_answer.Statement.{statement}
 use Rattle.capi.proofs.count.count_answer.Tie as tie

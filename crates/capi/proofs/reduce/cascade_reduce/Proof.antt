@@ -1,7 +1,7 @@
 -- `capi::reduce::cascade_reduce` meets its contract. Assumes nothing.
 use mathlib.Core.Path.{sym, ap, _∙_}
 use borrow.Author.Needs.{needs}
-use Rattle.reduction.specs.Reduce.{ofReduce}
+use Rattle.checking.specs.Reduce.{ofReduce}
 use Rattle.capi.specs.Reduce.{reduceAnswer}
 use Rattle.capi.proofs.reduce.cascade_reduce.Statement.{statement}
 use Rattle.capi.proofs.reduce.cascade_reduce.Tie as tie

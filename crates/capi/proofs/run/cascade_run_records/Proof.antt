@@ -36,18 +36,18 @@ use denote.Triple.Table.{entered, cited}
 use denote.Triple.Walked.{says, Stays, stay-none-slice, stay-none, walkOf, goes-none-slice, goes-none, Walks, ends-at, walked, walk-meets}
 use denote.Exit.{yes}
 use Rattle.bits.proofs.Walks.{promise, called, called-on-values}
-use Rattle.gates.specs.Run.{recordsOutcome, ofRun}
-use Rattle.gates.specs.declared.gate.Gate.{Gate}
-use Rattle.gates.specs.declared.run.RunAnswer.{RunAnswer}
-use Rattle.gates.proofs.gate.Gate as G
-use Rattle.gates.proofs.run.RunAnswer as S
-use Rattle.gates.proofs.run.RunAnswer.Laws as S′
-use Rattle.gates.proofs.run.Answers.{told, as-told, makes-answer, lawful-answer}
-use Rattle.gates.proofs.run.Calls.{slice-of, Lent, Records, to-records, records-asks}
-use Rattle.gates.proofs.run.run_records as run-records
-use Rattle.gates.proofs.run.run_records.Symbol as records-def
-use Rattle.gates.proofs.run.run_records.Symbol.{name as #records}
-use Rattle.gates.proofs.run.run_records.Met as records-thm
+use Rattle.circuit.specs.Run.{recordsOutcome, ofRun}
+use Rattle.circuit.specs.declared.gate.Gate.{Gate}
+use Rattle.circuit.specs.declared.run.RunAnswer.{RunAnswer}
+use Rattle.circuit.proofs.gate.Gate as G
+use Rattle.circuit.proofs.run.RunAnswer as S
+use Rattle.circuit.proofs.run.RunAnswer.Laws as S′
+use Rattle.circuit.proofs.run.Answers.{told, as-told, makes-answer, lawful-answer}
+use Rattle.circuit.proofs.run.Calls.{slice-of, Lent, Records, to-records, records-asks}
+use Rattle.circuit.proofs.run.run_records as run-records
+use Rattle.circuit.proofs.run.run_records.Symbol as records-def
+use Rattle.circuit.proofs.run.run_records.Symbol.{name as #records}
+use Rattle.circuit.proofs.run.run_records.Met as records-thm
 use Rattle.capi.specs.Run.{runAnswer}
 use Rattle.capi.specs.declared.run.CascadeRunAnswer.{CascadeRunAnswer}
 use Rattle.capi.proofs.run.CascadeRunAnswer as R
@@ -142,6 +142,6 @@ cascade-run-records-spec 𝓤 H 𝓜 𝓖 𝓡 =
     (tables 𝓤 H 𝓜 𝓡 code.env .C) (tables 𝓤 H 𝓜 𝓡 code.env .Λ) #cascade-run-records code.function (code.unfolded 𝓤 H 𝓜 𝓡)
     (meets 𝓤 H (𝓖 .A) (givenOf 𝓤 H 𝓜 𝓖) (𝓜 .mem) (𝓡 .run) (tablesOf 𝓤 H 𝓜 (tables 𝓤 H 𝓜 𝓡 code.env))
     (record {
-      runs-records = cited 𝓤 H (Records 𝓤 H (𝓖 .A) (𝓜 .mem) (𝓡 .run)) 𝓜 𝓡 code.env #records records-def.routine code.calls-gates·run·run-records (records-thm.met 𝓤 H 𝓜 𝓖 𝓡);
+      runs-records = cited 𝓤 H (Records 𝓤 H (𝓖 .A) (𝓜 .mem) (𝓡 .run)) 𝓜 𝓡 code.env #records records-def.routine code.calls-circuit·run·run-records (records-thm.met 𝓤 H 𝓜 𝓖 𝓡);
       answers = cited 𝓤 H (promise 𝓤 H (𝓖 .A) answer.ended (answer.clauses 𝓤 H (𝓖 .A) (𝓜 .mem) (𝓡 .run))) 𝓜 𝓡 code.env #answer answer-def.routine code.calls-capi·run·run-answer (answer-thm.met 𝓤 H 𝓜 𝓖 𝓡);
     }))

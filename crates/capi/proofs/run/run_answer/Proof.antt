@@ -1,8 +1,8 @@
 -- `capi::run::run_answer` meets its contract. Assumes nothing.
 use mathlib.Core.Path.{sym, ap}
 use borrow.Author.Needs.{needs}
-use Rattle.gates.specs.declared.run.RunAnswer.{RunAnswer}
-use Rattle.gates.specs.Run.{ofRun}
+use Rattle.circuit.specs.declared.run.RunAnswer.{RunAnswer}
+use Rattle.circuit.specs.Run.{ofRun}
 use Rattle.capi.specs.Run.{runAnswer}
 use Rattle.capi.proofs.run.run_answer.Statement.{statement}
 use Rattle.capi.proofs.run.run_answer.Tie as tie

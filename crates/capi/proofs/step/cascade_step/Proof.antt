@@ -2,7 +2,7 @@
 use mathlib.Core.Path.{sym, ap, _∙_}
 use Prim.Native.Nat.{ℕ}
 use borrow.Author.Needs.{needs}
-use Rattle.reduction.specs.Step.{ofStep}
+use Rattle.checking.specs.Step.{ofStep}
 use Rattle.capi.specs.declared.step.CascadeStepAnswer.{CascadeStepAnswer}
 use Rattle.capi.specs.Step.{stepAnswer}
 use Rattle.capi.proofs.step.cascade_step.Statement.{statement}

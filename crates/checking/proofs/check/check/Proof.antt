@@ -6,9 +6,9 @@ use native.Mathlib.Omega.{arith}
 use lib.ListN.{length}
 use lib.Seq.{length-take-le}
 use borrow.Author.Needs.{needs}
-use Rattle.gates.specs.Outcome.{served, Yields}
-use Rattle.gates.specs.Words.{ofCount}
-use Rattle.reduction.specs.Miter.{miterOutcome}
+use Rattle.circuit.specs.Outcome.{served, Yields}
+use Rattle.circuit.specs.Words.{ofCount}
+use Rattle.checking.specs.Miter.{miterOutcome}
 use Rattle.checking.specs.Check.{Held, callsOf, calledAll, held}
 use Rattle.checking.proofs.check.Claim.{miter-room, held-few, held-room, check-refused, check-served}
 use Rattle.checking.proofs.check.check.Statement.{statement}

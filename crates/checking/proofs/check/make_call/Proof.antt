@@ -4,8 +4,8 @@ use Prim.Native.Nat.{_*_}
 use native.Mathlib.Omega.{arith}
 use lib.Seq.{length-take-le}
 use borrow.Author.Needs.{needs}
-use Rattle.reduction.specs.Step.{ofStep}
-use Rattle.reduction.specs.Reduce.{ofReduce}
+use Rattle.checking.specs.Step.{ofStep}
+use Rattle.checking.specs.Reduce.{ofReduce}
 use Rattle.checking.proofs.check.Laws.{step-called, reduce-called}
 use Rattle.checking.proofs.check.make_call.Statement.{statement}
 use Rattle.checking.proofs.check.make_call.Tie as tie

@@ -1,8 +1,8 @@
 -- `checking::clauses::emit` meets its contract. Assumes nothing.
 use mathlib.Core.Path.{_≡_, refl, sym, ap, _∙_}
 use borrow.Author.Needs.{needs}
-use Rattle.gates.specs.Outcome.{served}
-use Rattle.gates.proofs.Outcome.{why}
+use Rattle.circuit.specs.Outcome.{served}
+use Rattle.circuit.proofs.Outcome.{why}
 use Rattle.checking.specs.Sizes.{sizesOutcome, ofSizes}
 use Rattle.checking.proofs.clauses.Answers.{emit-refused, emit-short, emit-served, list-ready}
 use Rattle.checking.proofs.clauses.emit.Statement.{statement}

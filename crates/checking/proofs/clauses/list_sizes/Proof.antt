@@ -6,11 +6,11 @@ use native.Mathlib.Omega.{arith}
 use lib.ListN.{length}
 use borrow.Author.Needs.{needs}
 use borrow.Author.Tests.{not-true, not-false}
-use Rattle.gates.specs.Gate.{maxLines, valid}
-use Rattle.gates.specs.Outcome.{served}
-use Rattle.gates.proofs.Outcome.{why, then-refused}
-use Rattle.gates.proofs.gate.Laws.{valid-facts}
-use Rattle.gates.proofs.words.Laws.{next-bad}
+use Rattle.circuit.specs.Gate.{maxLines, valid}
+use Rattle.circuit.specs.Outcome.{served}
+use Rattle.circuit.proofs.Outcome.{why, then-refused}
+use Rattle.circuit.proofs.gate.Laws.{valid-facts}
+use Rattle.circuit.proofs.words.Laws.{next-bad}
 use Rattle.checking.proofs.clauses.Loop.{one-more, controls-more, controls-few, Summed, summed-start, summed-next, summed, summed-all}
 use Rattle.checking.proofs.clauses.list_sizes.Statement.{statement}
 use Rattle.checking.proofs.clauses.list_sizes.Tie as tie

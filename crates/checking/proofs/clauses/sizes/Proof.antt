@@ -3,11 +3,11 @@ use mathlib.Core.Path.{_≡_, sym, ap, _∙_}
 use mathlib.Core.Bool.{true}
 use borrow.Author.Needs.{needs}
 use borrow.Author.Tests.{not-true, not-false}
-use Rattle.gates.specs.Gate.{maxMiterGates}
-use Rattle.gates.specs.Outcome.{served}
-use Rattle.gates.specs.Words.{ofCount, lineCountGood, sizeOutcome}
-use Rattle.gates.proofs.Outcome.{why}
-use Rattle.gates.proofs.words.Laws.{lines-good, size-served}
+use Rattle.circuit.specs.Gate.{maxMiterGates}
+use Rattle.circuit.specs.Outcome.{served}
+use Rattle.circuit.specs.Words.{ofCount, lineCountGood, sizeOutcome}
+use Rattle.circuit.proofs.Outcome.{why}
+use Rattle.circuit.proofs.words.Laws.{lines-good, size-served}
 use Rattle.checking.proofs.clauses.Loop.{sizes-lines, sizes-refused, sizes-tested}
 use Rattle.checking.proofs.clauses.sizes.Statement.{statement}
 use Rattle.checking.proofs.clauses.sizes.Tie as tie

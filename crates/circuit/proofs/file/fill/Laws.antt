@@ -13,9 +13,9 @@ use borrow.Rule.Slice.PartMut.{putMid}
 use Rattle.bits.specs.Lists.{over}
 use Rattle.bits.proofs.Bools.{either, and-parts}
 use Rattle.bits.proofs.Lists.{lent-over}
-use Rattle.gates.specs.declared.gate.Gate.{Gate}
-use Rattle.gates.specs.Gate.{maxLines, valid, Control, controlsOf}
-use Rattle.gates.specs.Words.{gateWords, wordsOf, putGate, allValid}
+use Rattle.circuit.specs.declared.gate.Gate.{Gate}
+use Rattle.circuit.specs.Gate.{maxLines, valid, Control, controlsOf}
+use Rattle.circuit.specs.Words.{gateWords, wordsOf, putGate, allValid}
 use Rattle.circuit.specs.declared.file.scan.Numeral.{Numeral}
 use Rattle.circuit.specs.declared.file.fill.GateRead.{GateRead}
 use Rattle.circuit.specs.Text.{tab, lineFeed, plus, minus, digit, numberText, controlText, controlsText, gateLine, gateLines}
@@ -23,8 +23,8 @@ use Rattle.circuit.specs.File.{maskOf, gateOf}
 use Rattle.circuit.specs.FileLaws as laws
 use Rattle.circuit.specs.FileLaws.{Inside}
 use Rattle.circuit.specs.Fill.{Stands, NumberAt, ControlsAt, GateAt, GatesAt}
-use Rattle.gates.proofs.gate.Laws.{valid-facts}
-use Rattle.gates.proofs.words.Laws.{words-append, words-length, put-fits}
+use Rattle.circuit.proofs.gate.Laws.{valid-facts}
+use Rattle.circuit.proofs.words.Laws.{words-append, words-length, put-fits}
 use Rattle.circuit.proofs.file.Numbers.{text-short, text-long}
 use Rattle.circuit.proofs.file.Controls.{mask-push, gate-controls, controls-within}
 use Rattle.circuit.proofs.file.Offences.{within-inside}

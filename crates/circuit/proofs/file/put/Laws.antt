@@ -18,9 +18,9 @@ use Rattle.bits.specs.Lists.{over}
 use Rattle.bits.proofs.Digits.{bit-shifted, lines-ones}
 use Rattle.bits.proofs.Lists.{lent-over}
 use Rattle.bits.proofs.Lowest.{lowest-below, lines-on, lines-done}
-use Rattle.gates.specs.declared.gate.Gate.{Gate}
-use Rattle.gates.specs.Gate.{maxLines, Control, controlAt, controlsBelow, controlsOf}
-use Rattle.gates.proofs.gate.Controls.{controlOn, controls-lines}
+use Rattle.circuit.specs.declared.gate.Gate.{Gate}
+use Rattle.circuit.specs.Gate.{maxLines, Control, controlAt, controlsBelow, controlsOf}
+use Rattle.circuit.proofs.gate.Controls.{controlOn, controls-lines}
 use Rattle.circuit.specs.Text.{tab, lineFeed, numberText, controlText, controlsText, gateText, gateLine, headerLine}
 use Rattle.circuit.specs.Put.{Put, maskGate}
 use Rattle.circuit.specs.Scan.{width}

@@ -3,7 +3,7 @@ use mathlib.Core.List.{_++_}
 use native.Mathlib.Omega.{arith}
 use lib.ListN.{length}
 use borrow.Author.Needs.{needs}
-use Rattle.gates.specs.Words.{gatesOf}
+use Rattle.circuit.specs.Words.{gatesOf}
 use Rattle.circuit.specs.Text.{headerLine, gateLines, endLine}
 use Rattle.circuit.proofs.file.put.Laws.{written-first, written-more, written-put, room-after, rest-room}
 use Rattle.circuit.proofs.file.Writes.{text-parts}

@@ -4,12 +4,12 @@ use native.Mathlib.Omega.{arith}
 use lib.ListN.{length}
 use borrow.Author.Needs.{needs}
 use Rattle.bits.specs.Lists.{over}
-use Rattle.gates.specs.Outcome.{Outcome, served, refused}
-use Rattle.gates.specs.Refusal.{noRoom}
-use Rattle.gates.specs.Words.{wordsOf}
+use Rattle.circuit.specs.Outcome.{Outcome, served, refused}
+use Rattle.circuit.specs.Refusal.{noRoom}
+use Rattle.circuit.specs.Words.{wordsOf}
 use Rattle.circuit.specs.File.{Reading, reading, ReadCounts, countsOf, gatesRead, ofRead}
 use Rattle.circuit.specs.Scan.{ofHeader}
-use Rattle.gates.proofs.Outcome.{why}
+use Rattle.circuit.proofs.Outcome.{why}
 use Rattle.circuit.proofs.file.Laws.{read-bad, read-short, read-fits}
 use Rattle.circuit.proofs.file.Steps.{Started, header-bad, header-start, judged, judged-bad, judged-good, read-told}
 use Rattle.circuit.proofs.file.read.Statement.{statement}

@@ -9,12 +9,12 @@ use lib.ListN.{length, drop, getD, drop-of-length-le}
 use lib.Seq.{getD-drop, drop-cons}
 use borrow.Author.Tests.{eqb-true, eq-eqb, ne-eqb, le-leb, lt-leb, leb-true, le-ltb, lt-ltb, ltb-true, ltb-false}
 use Rattle.bits.proofs.Bools.{either, and-parts, both, cond-true, cond-false, and-second}
-use Rattle.gates.specs.Outcome.{Outcome, served, refused, demand, andThen}
-use Rattle.gates.specs.Refusal.{wrongForm, lineOutside}
+use Rattle.circuit.specs.Outcome.{Outcome, served, refused, demand, andThen}
+use Rattle.circuit.specs.Refusal.{wrongForm, lineOutside}
 use Rattle.circuit.specs.Text.{tab, lineFeed, plus, minus}
 use Rattle.circuit.specs.File.{isDigit, numberOf, lineOf, controlOf}
 use Rattle.circuit.specs.Scan.{isStop, fieldAt, startsWith, orHundred, width}
-use Rattle.gates.proofs.Outcome.{demand-met, demand-failed, then-served, then-refused}
+use Rattle.circuit.proofs.Outcome.{demand-met, demand-failed, then-served, then-refused}
 use Rattle.circuit.proofs.file.Numbers.{text-number, number-else, number-wrong}
 
 -- ---- a byte

@@ -9,16 +9,16 @@ use lib.ListN.{length, drop, getD, length-drop}
 use lib.Seq.{drop-drop, drop-append-seam, append-snoc}
 use borrow.Author.Tests.{eqb-true, eq-eqb, ne-eqb, le-leb, lt-leb, ltb-true, ltb-false}
 use Rattle.bits.proofs.Bools.{either, and-parts, not-held, refuted, same-test, or-none}
-use Rattle.gates.specs.declared.gate.Gate.{Gate}
+use Rattle.circuit.specs.declared.gate.Gate.{Gate}
 use Rattle.circuit.specs.declared.file.scan.Seen.{Seen}
-use Rattle.gates.specs.Gate.{maxGates, Control}
-use Rattle.gates.specs.Outcome.{Outcome, served, refused, demand, andThen}
-use Rattle.gates.specs.Refusal.{wrongForm, badLineCount, lineOutside, targetControlled, notRising, tooManyGates}
-use Rattle.gates.specs.Words.{lineCountGood}
+use Rattle.circuit.specs.Gate.{maxGates, Control}
+use Rattle.circuit.specs.Outcome.{Outcome, served, refused, demand, andThen}
+use Rattle.circuit.specs.Refusal.{wrongForm, badLineCount, lineOutside, targetControlled, notRising, tooManyGates}
+use Rattle.circuit.specs.Words.{lineCountGood}
 use Rattle.circuit.specs.Text.{tab, lineFeed, linesWord, gateWord, endWord, numberText}
 use Rattle.circuit.specs.File.{Line, noLine, firstLine, linesOf, size, longer, fieldsOf, same, numberOf, lineOf, controlOf, controlsFrom, among, risingFrom, gateOf, closedGate, gateFields, gateOn, headerFields, headerOn, isEnd}
 use Rattle.circuit.specs.Scan.{isStop, fieldAt, lineAt, startsWith, orHundred, width, added, laterFields, headerNext, gateNext, controlsNext}
-use Rattle.gates.proofs.Outcome.{never, demand-met, demand-failed, demanded, then-served, then-refused, then-both}
+use Rattle.circuit.proofs.Outcome.{never, demand-met, demand-failed, demanded, then-served, then-refused, then-both}
 use Rattle.circuit.proofs.file.Lines.{line-more, line-over, lines-none, field-over, fields-none, fields-some, same-self, same-true, cut-first, tabbed, whole, fields-back}
 use Rattle.circuit.proofs.file.Lines as lines
 use Rattle.circuit.proofs.file.Numbers.{text-short, text-long, text-number, number-wrong}

@@ -3,13 +3,13 @@ use mathlib.Core.Path.{_≡_, refl, sym, ap, _∙_}
 use native.Mathlib.Omega.{arith}
 use lib.ListN.{length}
 use borrow.Author.Needs.{needs}
-use Rattle.gates.specs.Gate.{maxLines, maxGates}
-use Rattle.gates.specs.Outcome.{served, refused}
-use Rattle.gates.specs.Refusal.{noRoom}
-use Rattle.gates.specs.Words.{gatesOf, ofCount, checkOutcome, Cascade}
+use Rattle.circuit.specs.Gate.{maxLines, maxGates}
+use Rattle.circuit.specs.Outcome.{served, refused}
+use Rattle.circuit.specs.Refusal.{noRoom}
+use Rattle.circuit.specs.Words.{gatesOf, ofCount, checkOutcome, Cascade}
 use Rattle.circuit.specs.Text.{textOf}
-use Rattle.gates.proofs.Outcome.{why}
-use Rattle.gates.proofs.words.Laws.{check-served, valid-all-more}
+use Rattle.circuit.proofs.Outcome.{why}
+use Rattle.circuit.proofs.words.Laws.{check-served, valid-all-more}
 use Rattle.circuit.proofs.file.Writes.{write-refused, write-short, write-made, write-told}
 use Rattle.circuit.proofs.file.put.Table.{digits, two-digits}
 use Rattle.circuit.proofs.file.write.Statement.{statement}

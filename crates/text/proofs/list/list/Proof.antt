@@ -4,9 +4,9 @@ use mathlib.Core.List.{List}
 use Prim.Native.Nat.{ℕ}
 use native.Mathlib.Omega.{arith}
 use lib.Seq.{length-take-le}
-use Rattle.gates.specs.declared.gate.Gate.{Gate}
-use Rattle.gates.specs.Refusal.{noRoom}
-use Rattle.gates.proofs.Outcome.{why}
+use Rattle.circuit.specs.declared.gate.Gate.{Gate}
+use Rattle.circuit.specs.Refusal.{noRoom}
+use Rattle.circuit.proofs.Outcome.{why}
 use Rattle.bits.proofs.Lists.{rest-lent}
 use Rattle.circuit.specs.File.{ofRead}
 use Rattle.text.specs.Tomiter.{secondVerdict}

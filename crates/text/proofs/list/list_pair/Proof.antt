@@ -3,7 +3,7 @@ use mathlib.Core.Path.{refl, sym, ap, _∙_}
 use native.Mathlib.Omega.{arith}
 use lib.ListN.{length}
 use lib.Seq.{length-take-le}
-use Rattle.gates.specs.Words.{ofCount}
+use Rattle.circuit.specs.Words.{ofCount}
 use Rattle.checking.specs.Sizes.{ofSizes}
 use Rattle.text.specs.declared.list.ListAnswer.the-variants as list
 use Rattle.text.proofs.list.Laws.{Mitered, says-as, mitered, pair-bad, list-bad, list-good}

@@ -4,10 +4,10 @@ use mathlib.Core.List.{List}
 use Prim.Native.Nat.{ℕ, _+_}
 use native.Mathlib.Omega.{arith}
 use lib.Seq.{length-take-le}
-use Rattle.gates.specs.declared.gate.Gate.{Gate}
-use Rattle.gates.proofs.Outcome.{why}
-use Rattle.gates.specs.Refusal.{wrongForm}
-use Rattle.gates.specs.Words.{gatesOf}
+use Rattle.circuit.specs.declared.gate.Gate.{Gate}
+use Rattle.circuit.proofs.Outcome.{why}
+use Rattle.circuit.specs.Refusal.{wrongForm}
+use Rattle.circuit.specs.Words.{gatesOf}
 use Rattle.circuit.specs.File.{ofRead}
 use Rattle.text.specs.Tomiter.{refusedAt, pairVerdict}
 use Rattle.text.proofs.list.Laws.{says-as, says-refusal, FileRead, file-bad, file-read, second-bad, second-more, second-pair}

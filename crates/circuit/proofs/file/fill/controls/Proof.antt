@@ -6,8 +6,8 @@ use Prim.Native.Nat.{ℕ, _-_, _^_, _<_}
 use native.Mathlib.Omega.{arith}
 use lib.Bits.{bitOr}
 use lib.ListN.{length}
-use Rattle.gates.specs.declared.gate.Gate.{Gate}
-use Rattle.gates.specs.Gate.{maxLines, Control}
+use Rattle.circuit.specs.declared.gate.Gate.{Gate}
+use Rattle.circuit.specs.Gate.{maxLines, Control}
 use Rattle.circuit.specs.declared.file.scan.Numeral.{Numeral}
 use Rattle.circuit.specs.Fill.{ControlsAt}
 use Rattle.circuit.proofs.file.fill.Laws.{Passing, passing-start, passing-inside, Next, passing-next, passing-done, sign-told}

@@ -6,7 +6,7 @@ use native.Mathlib.Omega.{arith}
 use lib.ListN.{length}
 use borrow.Author.Needs.{needs}
 use borrow.Rule.Slice.PartMut.{same-len-mid}
-use Rattle.gates.specs.declared.gate.Gate.{Gate}
+use Rattle.circuit.specs.declared.gate.Gate.{Gate}
 use Rattle.circuit.specs.declared.file.fill.GateRead.{GateRead}
 use Rattle.circuit.specs.Fill.{GatesAt}
 use Rattle.circuit.proofs.file.fill.Laws.{Filling, filling-start, NextLine, filling-next, filling-done}

@@ -2,7 +2,7 @@
 use mathlib.Core.Path.{sym, ap, subst}
 use Prim.Native.Nat.{ℕ}
 use native.Mathlib.Omega.{arith}
-use Rattle.gates.specs.Gate.{controlsOf}
+use Rattle.circuit.specs.Gate.{controlsOf}
 use Rattle.circuit.specs.declared.file.scan.Numeral.{Numeral}
 use Rattle.circuit.specs.Fill.{ControlsAt}
 use Rattle.circuit.proofs.file.fill.Laws.{gate-parts, digits-there, gate-there}

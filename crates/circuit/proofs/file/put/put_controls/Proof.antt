@@ -7,8 +7,8 @@ use native.Mathlib.Omega.{arith}
 use lib.Bits.{or-lt, and-le-r}
 use lib.ListN.{length}
 use borrow.Author.Needs.{needs}
-use Rattle.gates.specs.Gate.{maxLines}
-use Rattle.gates.proofs.gate.Controls.{controlOn}
+use Rattle.circuit.specs.Gate.{maxLines}
+use Rattle.circuit.proofs.gate.Controls.{controlOn}
 use Rattle.circuit.specs.Text.{tab, controlText}
 use Rattle.circuit.proofs.file.put.Laws.{Putting, putting-start, putting-room, putting-on, putting-done, line-below, control-length, rest-length}
 use Rattle.circuit.proofs.file.put.put_controls.Statement.{statement}

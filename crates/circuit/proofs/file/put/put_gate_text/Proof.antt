@@ -6,7 +6,7 @@ use native.Mathlib.Omega.{arith}
 use lib.ListN.{length}
 use borrow.Author.Needs.{needs}
 use Rattle.circuit.specs.Text.{tab, numberText}
-use Rattle.gates.specs.Gate.{controlsOf}
+use Rattle.circuit.specs.Gate.{controlsOf}
 use Rattle.circuit.specs.Text.{controlsText}
 use Rattle.circuit.specs.Put.{maskGate}
 use Rattle.circuit.proofs.file.put.Laws.{written-first, written-more, written-put, room-after, rest-room, put-as, text-length, same-controls}

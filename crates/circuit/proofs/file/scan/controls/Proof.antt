@@ -5,10 +5,10 @@ use native.Mathlib.Omega.{arith}
 use lib.ListN.{length, drop, getD}
 use borrow.Author.Needs.{needs}
 use borrow.Author.Tests.{not-true, not-false}
-use Rattle.gates.specs.Gate.{maxLines, Control}
+use Rattle.circuit.specs.Gate.{maxLines, Control}
 use Rattle.circuit.specs.Text.{tab}
 use Rattle.circuit.specs.Scan.{width, ofControl, ControlEnds}
-use Rattle.gates.proofs.Outcome.{why}
+use Rattle.circuit.proofs.Outcome.{why}
 use Rattle.circuit.proofs.file.scan.Laws.{byte-at}
 use Rattle.circuit.proofs.file.scan.Rest.{Going, going-start, going-room, going-refused, going-below, going-inside, going-on, going-open, going-controlled, going-falls, going-gate}
 use Rattle.circuit.proofs.file.scan.controls.Statement.{statement}

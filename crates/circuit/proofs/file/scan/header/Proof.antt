@@ -6,10 +6,10 @@ use Prim.Native.Nat.{ℕ, _+_}
 use native.Mathlib.Omega.{arith}
 use lib.ListN.{getD}
 use borrow.Author.Tests.{not-true, not-false}
-use Rattle.gates.specs.Outcome.{served}
-use Rattle.gates.specs.Words.{lineCountGood}
+use Rattle.circuit.specs.Outcome.{served}
+use Rattle.circuit.specs.Words.{lineCountGood}
 use Rattle.circuit.specs.Scan.{startsWith, width}
-use Rattle.gates.proofs.Outcome.{why}
+use Rattle.circuit.proofs.Outcome.{why}
 use Rattle.circuit.proofs.file.scan.Laws.{default-any}
 use Rattle.circuit.proofs.file.scan.Rest.{header-other, header-room, header-wrong, header-outside, header-missing, header-further, header-good}
 use borrow.Author.Needs.{needs}

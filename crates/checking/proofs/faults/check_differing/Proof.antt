@@ -1,0 +1,77 @@
+-- `checking::faults::check_differing` meets its contract. The loop's invariant: the cascades differ on the states that were passed, so what is left decides. Assumes nothing.
+use mathlib.Core.Path.{_≡_, refl, sym, _∙_}
+use Prim.Native.Nat.{_≤_, _-_}
+use native.Mathlib.Omega.{arith}
+use lib.ListN.{length, drop}
+use borrow.Author.Needs.{needs}
+use borrow.Author.Tests.{not-true, not-false}
+use Rattle.circuit.specs.Refusal.{agreeingState}
+use Rattle.circuit.specs.Words.{gatesOf}
+use Rattle.circuit.proofs.Outcome.{why}
+use Rattle.checking.specs.Compare.{outputsDiffer}
+use Rattle.checking.specs.Faults.{eachFrom}
+use Rattle.checking.proofs.faults.Loops.{each-next, each-fails, each-end}
+use Rattle.checking.proofs.faults.check_differing.Statement.{statement}
+use Rattle.checking.proofs.faults.check_differing.Tie as tie
+
+abbrev Inv-loop : tie.InvT-loop
+Inv-loop a b states i₀ i =
+    (i ≤ length states)
+    × (eachFrom (outputsDiffer (gatesOf a) (gatesOf b)) agreeingState 0 states ≡ eachFrom (outputsDiffer (gatesOf a) (gatesOf b)) agreeingState i (drop i states))
+
+abbrev μ-loop : tie.MeasureT-loop
+μ-loop a b states i₀ i = length states - i
+
+loop-holds : tie.Need-loop-holds Inv-loop μ-loop
+loop-holds c = (omega arith, refl)
+
+mul-tested-differ : tie.Need-mul-tested-differ Inv-loop μ-loop
+mul-tested-differ c = search needs
+
+shared-slice-read-tested-differ : tie.Need-shared-slice-read-tested-differ Inv-loop μ-loop
+shared-slice-read-tested-differ c = search needs
+
+tested-differ-requires : tie.Need-tested-differ-requires Inv-loop μ-loop
+tested-differ-requires c κs = let s = c .before .before .before .before .before .before in (s .pre .0, s .pre .1)
+
+agreeing-state-requires : tie.Need-agreeing-state-requires Inv-loop μ-loop
+agreeing-state-requires c κs = search needs
+
+returns : tie.Need-returns Inv-loop μ-loop
+returns c =
+    let d = c .before .before in
+    let l = d .before .before .before in
+    why (c .agreeing-state .ensures)
+    ∙ sym (l .loop .inv .1 ∙ each-fails _ agreeingState _ (l .loop .i) _ (omega arith) refl (sym (d .tested-differ .ensures) ∙ not-true _ (c .before .if1 .taken)))
+
+add-i : tie.Need-add-i Inv-loop μ-loop
+add-i c = omega arith
+
+loop-less : tie.Need-loop-less Inv-loop μ-loop
+loop-less c = omega arith
+
+loop-again : tie.Need-loop-again Inv-loop μ-loop
+loop-again c =
+    let d = c .before in
+    let l = d .before .before .before in
+    (omega arith, l .loop .inv .1 ∙ each-next _ agreeingState _ (l .loop .i) _ (omega arith) refl (sym (d .tested-differ .ensures) ∙ not-false _ (c .if1 .left)))
+
+returns-2 : tie.Need-returns-2 Inv-loop μ-loop
+returns-2 c = let l = c .before in sym (l .loop .inv .1 ∙ each-end _ agreeingState _ (l .loop .i) (omega arith))
+
+pub check-differing-spec : {M : Type 1} → statement M
+check-differing-spec =
+    tie.close
+    (tie.spec
+    Inv-loop
+    μ-loop
+    loop-holds
+    mul-tested-differ
+    shared-slice-read-tested-differ
+    tested-differ-requires
+    agreeing-state-requires
+    returns
+    add-i
+    loop-less
+    loop-again
+    returns-2)

@@ -1,0 +1,91 @@
+-- What is proved of comparing cascades and of faults.
+use mathlib.Core.Path.{_≡_}
+use mathlib.Core.Logic.{_↔_}
+use mathlib.Core.Bool.{Bool, true, false, not}
+use mathlib.Core.List.{List, [], _∷_, _++_}
+use Prim.Native.Nat.{ℕ, _+_, _*_, _-_, _^_, _<_, _≤_}
+use lib.Bits.{bitOr}
+use lib.ListN.{length, take, drop, getD}
+use Rattle.bits.specs.Digits.{bit}
+use Rattle.circuit.specs.declared.gate.Gate.{Gate}
+use Rattle.circuit.specs.Gate.{maxLines, notGate, valid, fires, apply}
+use Rattle.circuit.specs.Outcome.{served}
+use Rattle.circuit.specs.Words.{allValid}
+use Rattle.circuit.specs.Run.{run, Differs}
+use Rattle.checking.specs.Compare.{Difference, none, lowestFrom, Says}
+use Rattle.checking.specs.Faults.{isFree, missing, maskWhere, faultMasks}
+
+-- ---- the sweep
+
+-- a sweep that says what it found of every two cascades
+abbrev pub Sweeping : (ℕ → List Gate → List Gate → Difference) → Type 0
+Sweeping sweep = (n : ℕ) (a b : List Gate) → Says n a b (served (sweep n a b))
+
+-- ---- candidates and excluded lines
+
+-- gate i of the suspect, and the state before it
+abbrev pub gateOf : List Gate → ℕ → Gate
+gateOf gs i = getD gs i (notGate 0)
+
+abbrev pub stateAt : List Gate → ℕ → List ℕ → ℕ → ℕ
+stateAt gs i xs j = run (take i gs) (getD xs j 0)
+
+-- line k may be a missing control of gate i: it is neither target nor control, and for every given state the gate fires and the line is 0 (1 for a negative control)
+pub record Candidate (n : ℕ) (gs : List Gate) (xs : List ℕ) (i : ℕ) (positive : Bool) (k : ℕ) : Type 0 where
+  pub below : k < n
+  pub not-target : k ≡ gateOf gs i .target → ⊥
+  pub not-positive : bit (gateOf gs i .positive) k ≡ false
+  pub not-negative : bit (gateOf gs i .negative) k ≡ false
+  pub fired : (j : ℕ) → j < length xs → fires (gateOf gs i) (stateAt gs i xs j) ≡ true
+  pub line : (j : ℕ) → j < length xs → bit (stateAt gs i xs j) k ≡ not positive
+
+-- two masks a gate, positive then negative, in which exactly the candidates stand
+pub record Masking (masks : ℕ → List Gate → List ℕ → List ℕ) : Type 0 where
+  pub size : (n : ℕ) (gs : List Gate) (xs : List ℕ) → length (masks n gs xs) ≡ 2 * length gs
+  pub first : (n : ℕ) (gs : List Gate) (xs : List ℕ) (i k : ℕ) → i < length gs → (bit (getD (masks n gs xs) (2 * i) 0) k ≡ true) ↔ Candidate n gs xs i true k
+  pub second : (n : ℕ) (gs : List Gate) (xs : List ℕ) (i k : ℕ) → i < length gs → (bit (getD (masks n gs xs) (2 * i + 1) 0) k ≡ true) ↔ Candidate n gs xs i false k
+
+-- 01's stand-ins: nothing struck, everything struck
+abbrev pub strikesNothing : ℕ → List Gate → List ℕ → List ℕ
+strikesNothing n [] xs = []
+strikesNothing n (g ∷ gs) xs = maskWhere n (isFree g) ∷ maskWhere n (isFree g) ∷ strikesNothing n gs xs
+
+abbrev pub strikesAll : ℕ → List Gate → List ℕ → List ℕ
+strikesAll n [] xs = []
+strikesAll n (g ∷ gs) xs = 0 ∷ 0 ∷ strikesAll n gs xs
+
+-- ---- repairs
+
+-- the cascade with gate i repaired, and every other gate as it was
+abbrev pub repairedAt : ℕ → (Gate → Gate) → List Gate → List Gate
+repairedAt i repair gs = take i gs ++ (repair (gateOf gs i) ∷ drop (i + 1) gs)
+
+-- a fault: where its pattern does not match, the repaired gate acts as before
+abbrev pub Repairs : (Gate → ℕ → Bool) → (Gate → Gate) → Gate → Type 0
+Repairs pattern repair g = (s : ℕ) → pattern g s ≡ false → apply (repair g) s ≡ apply g s
+
+-- a gate with one control more on line k
+abbrev pub withControl : Bool → ℕ → Gate → Gate
+withControl true k g = record { positive = bitOr (g .positive) (2 ^ k); negative = g .negative; target = g .target }
+withControl false k g = record { positive = g .positive; negative = bitOr (g .negative) (2 ^ k); target = g .target }
+
+pub record FaultLaws : Type 0 where
+  -- the sweep says what it found; one that says none untried, or starts at 1, does not
+  pub sweep : Sweeping (λ n a b. lowestFrom a b 0 (2 ^ n))
+  pub untried : Sweeping (λ n a b. none) → ⊥
+  pub from-one : Sweeping (λ n a b. lowestFrom a b 1 (2 ^ n - 1)) → ⊥
+  -- the masks are those of the candidates; a call that strikes nothing, or everything, is none
+  pub masks : Masking faultMasks
+  pub nothing-struck : Masking strikesNothing → ⊥
+  pub all-struck : Masking strikesAll → ⊥
+  -- for any fault: where the pattern does not match on a state, the repair leaves that state as it was
+  pub repair-leaves : (pattern : Gate → ℕ → Bool) (repair : Gate → Gate) (gs : List Gate) (i : ℕ) → i < length gs → Repairs pattern repair (gateOf gs i)
+      → (x : ℕ) → pattern (gateOf gs i) (run (take i gs) x) ≡ false → run (repairedAt i repair gs) x ≡ run gs x
+  -- an added control is such a repair, and gives a gate
+  pub control-repairs : (positive : Bool) (k : ℕ) (g : Gate) → valid maxLines g ≡ true → k < maxLines → isFree g k ≡ true → Repairs (missing positive k) (withControl positive k) g
+  pub control-valid : (n : ℕ) (positive : Bool) (k : ℕ) (g : Gate) → valid n g ≡ true → k < n → isFree g k ≡ true → valid n (withControl positive k g) ≡ true
+  -- so for each line that is excluded and is neither target nor control, adding that control leaves some given state wrong
+  pub excluded : (n : ℕ) (suspect reference : List Gate) (xs : List ℕ) (i k : ℕ) (positive : Bool) → n ≤ maxLines → allValid n suspect ≡ true
+      → ((j : ℕ) → j < length xs → Differs n suspect reference (getD xs j 0)) → i < length suspect → k < n → isFree (gateOf suspect i) k ≡ true
+      → (Candidate n suspect xs i positive k → ⊥)
+      → (j : ℕ) × (j < length xs) × Differs n (repairedAt i (withControl positive k) suspect) reference (getD xs j 0)

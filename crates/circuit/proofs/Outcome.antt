@@ -1,0 +1,73 @@
+-- The laws of outcomes: a test that holds or fails, a call that goes on, and what a call that writes a buffer owes. Assumes nothing.
+use mathlib.Core.Path.{_≡_, refl, sym, ap, ap₂, subst₂, _∙_}
+use mathlib.Core.Bool.{Bool, true, false}
+use mathlib.Core.List.{List}
+use Prim.Native.Nat.{ℕ}
+use native.Mathlib.Omega.{arith}
+use Rattle.bits.proofs.Bools.{either, cond-true, cond-false}
+use Rattle.circuit.specs.declared.refusal.Refusal.{Refusal}
+use Rattle.circuit.specs.Refusal.{refusal}
+use Rattle.circuit.specs.Outcome.{Outcome, served, refused, demand, andThen, written, Yields}
+
+-- an outcome is served or refused, and not both
+pub never : {A : Type 0} {o : Outcome A} {a : A} {number place : ℕ} → o ≡ served a → o ≡ refused number place → ⊥
+never p q = let z : _≡_ {A = ℕ} 0 1 = cc in omega arith
+
+-- a refusal in document 01's numbers
+pub why : {A : Type 0} {r : Refusal} {number place : ℕ} → r ≡ refusal number place → _≡_ {A = Outcome A} (refused (r .number) (r .place)) (refused number place)
+why e = ap (λ (r : Refusal). refused (r .number) (r .place)) e
+
+module _ {A : Type 0} (test : Bool) (number place : ℕ) (more : Outcome A) where
+  pub demand-met : test ≡ true → demand test number place more ≡ more
+  demand-met e = cond-true test more (refused number place) e
+
+  pub demand-failed : test ≡ false → demand test number place more ≡ refused number place
+  demand-failed e = cond-false test more (refused number place) e
+
+  -- what a served call tells of its test
+  pub demanded : (a : A) → demand test number place more ≡ served a → (test ≡ true) × (more ≡ served a)
+  demanded a e =
+      either test (λ t. (t, sym (demand-met t) ∙ e)) (λ t. absurd (never e (demand-failed t)))
+
+module _ {A B : Type 0} (first : Outcome A) (more : A → Outcome B) where
+  pub then-served : (a : A) → first ≡ served a → andThen first more ≡ more a
+  then-served a e = ap (λ (o : Outcome A). andThen o more) e
+
+  pub then-refused : (number place : ℕ) → first ≡ refused number place → andThen first more ≡ refused number place
+  then-refused number place e = ap (λ (o : Outcome A). andThen o more) e
+
+-- a call that is served in the end was served before
+pub then-both : {A B : Type 0} (first : Outcome A) (more : A → Outcome B) (b : B) → andThen first more ≡ served b
+    → (a : A) × (first ≡ served a) × (more a ≡ served b)
+then-both (served a) more b e = (a, refl, e)
+then-both (refused number place) more b e = absurd (never refl (sym e))
+
+-- where nothing after it refuses, a refusal is the first call's
+pub then-fails : {A B : Type 0} (first : Outcome A) (value : A → B) (number place : ℕ) → andThen first (λ a. served (value a)) ≡ refused number place
+    → first ≡ refused number place
+then-fails (served a) value number place e = absurd (never refl e)
+then-fails (refused x y) value number place e = let p : x ≡ number = cc in let q : y ≡ place = cc in ap₂ refused p q
+
+-- what a refused call tells
+module _ (F : ℕ → ℕ → Type 0) where
+  pub same-refusal : {A : Type 0} {u v x y : ℕ} → _≡_ {A = Outcome A} (refused u v) (refused x y) → F u v → F x y
+  same-refusal {A} {u} {v} {x} {y} e w = let p : u ≡ x = cc in let q : v ≡ y = cc in subst₂ F p q w
+
+  -- it was refused before, or went on and was refused then
+  pub then-either : {A B : Type 0} (first : Outcome A) (more : A → Outcome B)
+      → ((x y : ℕ) → first ≡ refused x y → F x y)
+      → ((a : A) → first ≡ served a → (x y : ℕ) → more a ≡ refused x y → F x y)
+      → (x y : ℕ) → andThen first more ≡ refused x y → F x y
+  then-either (served a) more p q x y e = q a refl x y e
+  then-either (refused u v) more p q x y e = same-refusal e (p u v refl)
+
+  -- its last test failed
+  pub last-failed : {A : Type 0} (test : Bool) (number place : ℕ) (value : A) → (test ≡ false → F number place)
+      → (x y : ℕ) → demand test number place (served value) ≡ refused x y → F x y
+  last-failed true number place value p x y e = absurd (never refl e)
+  last-failed false number place value p x y e = same-refusal e (p refl)
+
+-- a call owes this where its outcome and the buffer that goes with it are known
+pub told : {A B : Type 0} (front out : List B) (r : Outcome A) (last : List B) (outcome o : Outcome A) → r ≡ o → outcome ≡ o → last ≡ written o front out
+    → Yields r last outcome (written outcome front out)
+told front out r last outcome o e f l = record { answer = e ∙ sym f; buffer = l ∙ sym (ap (λ (x : Outcome _). written x front out) f) }

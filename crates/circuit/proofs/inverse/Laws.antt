@@ -1,0 +1,121 @@
+-- The laws of the inverse: its words one gate at a time, its validity, and what its call answers and leaves. Assumes nothing.
+use mathlib.Core.Path.{_≡_, refl, sym, ap, _∙_}
+use mathlib.Core.Bool.{true}
+use mathlib.Core.List.{List, [], _∷_, _++_, reverse, reverse-cons}
+use Prim.Native.Nat.{ℕ, _+_, _-_, _*_, _/_, _≤_, _<_}
+use native.Mathlib.Omega.{arith}
+use lib.Dec.{leb}
+use lib.ListN.{length, drop, take, length-reverse, length-drop}
+use borrow.Author.Tests.{le-leb, lt-leb, leb-false}
+use borrow.Rule.Slice.PartMut.{putMid}
+use Rattle.bits.specs.Lists.{over}
+use Rattle.bits.proofs.Bools.{and-parts, both}
+use Rattle.bits.proofs.Lists.{lent-over, fold-back, reverse-append, reverse-twice}
+use Rattle.circuit.specs.declared.gate.Gate.{Gate}
+use Rattle.circuit.specs.Gate.{maxGates, valid, apply}
+use Rattle.circuit.specs.Outcome.{Outcome, served, refused, written, Yields}
+use Rattle.circuit.specs.Refusal.{noRoom}
+use Rattle.circuit.specs.Words.{gateAt, gateWords, gatesOf, wordsOf, allValid, checkOutcome}
+use Rattle.circuit.specs.Inverse.{inverse, inverseOutcome, inverseBuffer}
+use Rattle.circuit.specs.Run.{run}
+use Rattle.circuit.specs.Laws.{InverseFault, inverse-words, short}
+use Rattle.circuit.proofs.gate.Laws.{apply-twice}
+use Rattle.circuit.proofs.Outcome.{demand-met, demand-failed, then-served, then-refused, told, then-either, last-failed}
+use Rattle.circuit.proofs.words.Laws.{gates-next, gates-end, gates-length, words-length, words-reverse, valid-append, check-served, served-check, check-refused, refused-check}
+
+-- the words of the gates from j on, in reverse order
+abbrev pub tailBack : List ℕ → ℕ → List ℕ
+tailBack ws j = wordsOf (inverse (gatesOf (drop (3 * j) ws)))
+
+pub back-length : (ws : List ℕ) (j : ℕ) → length (tailBack ws j) ≡ 3 * (length ws / 3 - j)
+back-length ws j =
+    let a = words-length (reverse (gatesOf (drop (3 * j) ws))) in
+    let b = length-reverse (gatesOf (drop (3 * j) ws)) in
+    let c = gates-length (drop (3 * j) ws) in
+    let d = length-drop (3 * j) ws in
+    omega arith
+
+back-more : (ws : List ℕ) (j : ℕ) (g : Gate) → j < length ws / 3 → g ≡ gateAt ws j → tailBack ws j ≡ tailBack ws (j + 1) ++ gateWords g
+back-more ws j g h e =
+    ap (λ (l : List Gate). wordsOf (reverse l)) (gates-next ws j h ∙ ap (λ (f : Gate). f ∷ gatesOf (drop (3 * (j + 1)) ws)) (sym e))
+    ∙ words-reverse g (gatesOf (drop (3 * (j + 1)) ws))
+
+pub back-none : (ws : List ℕ) → tailBack ws (length ws / 3) ≡ []
+unfolding wordsOf
+back-none ws = ap (λ (l : List Gate). wordsOf (reverse l)) (gates-end ws (length ws / 3) (omega arith))
+
+-- a turn of the loop: gate j - 1 is put into the rest of the buffer
+pub back-turn : (ws first out last : List ℕ) (j at : ℕ) (g : Gate) → 0 < j → at + 3 * j ≡ 3 * (length ws / 3) → at ≤ length out
+    → out ≡ over (tailBack ws j) first → g ≡ gateAt ws (j - 1) → last ≡ over (gateWords g) (take (length out - at) (drop at out))
+    → putMid at (length out - at) out last ≡ over (tailBack ws (j - 1)) first
+back-turn ws first out last j at g some here room was is put =
+    let n : length (tailBack ws j) ≡ 3 * (length ws / 3 - j) = back-length ws j in
+    let up : j - 1 + 1 ≡ j = omega arith in
+    lent-over (tailBack ws j) (gateWords g) first out last at was (omega arith) (omega arith) put
+    ∙ ap (λ (l : List ℕ). over l first)
+    (sym (back-more ws (j - 1) g (omega arith) is ∙ ap (λ (k : ℕ). tailBack ws k ++ gateWords g) up))
+
+-- the inverse undoes the run, both ways
+pub run-inverse : (gs : List Gate) (s : ℕ) → run (inverse gs) (run gs s) ≡ s
+run-inverse gs s = fold-back apply apply-twice gs s
+
+pub inverse-twice : (gs : List Gate) → inverse (inverse gs) ≡ gs
+inverse-twice gs = reverse-twice gs
+
+pub inverse-run : (gs : List Gate) (s : ℕ) → run gs (run (inverse gs) s) ≡ s
+inverse-run gs s = ap (λ (l : List Gate). run l (run (inverse gs) s)) (sym (inverse-twice gs)) ∙ run-inverse (inverse gs) s
+
+pub inverse-append : (a b : List Gate) → inverse (a ++ b) ≡ inverse b ++ inverse a
+inverse-append a b = reverse-append a b
+
+-- the inverse of valid gates is valid
+pub inverse-valid : (n : ℕ) (gs : List Gate) → allValid n gs ≡ true → allValid n (inverse gs) ≡ true
+unfolding allValid
+inverse-valid n [] v = refl
+inverse-valid n (g ∷ gs) v =
+    let (a, b) = and-parts (valid n g) (allValid n gs) v in
+    ap (allValid n) (reverse-cons g gs) ∙ valid-append n (reverse gs) (g ∷ []) (inverse-valid n gs b) (both a refl)
+
+-- ---- what the call answers and leaves
+
+module _ (n : ℕ) (ws : List ℕ) (room : ℕ) where
+  pub inverse-refused : (number place : ℕ) → checkOutcome n ws maxGates ≡ refused number place → inverseOutcome n ws room ≡ refused number place
+  unfolding inverseOutcome
+  inverse-refused number place e = then-refused _ _ number place e
+
+  module _ (k : ℕ) (good : checkOutcome n ws maxGates ≡ served k) where
+    pub inverse-short : room < length ws → inverseOutcome n ws room ≡ refused noRoom 0
+    unfolding inverseOutcome
+    inverse-short h = then-served _ _ k good ∙ demand-failed _ _ _ _ (lt-leb _ _ h)
+
+    pub inverse-made : length ws ≤ room → inverseOutcome n ws room ≡ served k
+    unfolding inverseOutcome
+    inverse-made h = then-served _ _ k good ∙ demand-met _ _ _ _ (le-leb _ _ h)
+
+-- the call owes this where its outcome and the buffer that goes with it are known
+pub inverse-told : (n : ℕ) (ws out : List ℕ) (r o : Outcome ℕ) (last : List ℕ) → r ≡ o → inverseOutcome n ws (length out) ≡ o
+    → last ≡ written o (wordsOf (inverse (gatesOf ws))) out → Yields r last (inverseOutcome n ws (length out)) (inverseBuffer n ws out)
+unfolding inverseBuffer
+inverse-told n ws out r o last e f l = told (wordsOf (inverse (gatesOf ws))) out r last (inverseOutcome n ws (length out)) o e f l
+
+-- the buffer of a served call
+pub inverse-written : (n : ℕ) (ws out : List ℕ) (k : ℕ) → checkOutcome n ws maxGates ≡ served k → length ws ≤ length out
+    → inverseBuffer n ws out ≡ over (wordsOf (inverse (gatesOf ws))) out
+unfolding inverseBuffer
+inverse-written n ws out k good room =
+    ap (λ (o : Outcome ℕ). written o (wordsOf (inverse (gatesOf ws))) out) (inverse-made n ws (length out) k good room)
+
+-- ---- refused exactly by what is wrong
+
+module _ (n : ℕ) (ws : List ℕ) (room : ℕ) where
+  pub fault-inverse : (number place : ℕ) → InverseFault n ws room number place → inverseOutcome n ws room ≡ refused number place
+  unfolding inverseOutcome
+  fault-inverse number place (inverse-words w) = then-refused _ _ number place (refused-check n ws maxGates number place w)
+  fault-inverse number place (short k c h) = then-served _ _ k (served-check n ws maxGates k c) ∙ demand-failed _ _ _ _ (lt-leb (length ws) room h)
+
+  pub inverse-fault : (number place : ℕ) → inverseOutcome n ws room ≡ refused number place → InverseFault n ws room number place
+  unfolding inverseOutcome
+  inverse-fault =
+      then-either (InverseFault n ws room) (checkOutcome n ws maxGates) _
+      (λ x y p. inverse-words (check-refused n ws maxGates x y p))
+      (λ k p. last-failed (InverseFault n ws room) (leb (length ws) room) noRoom 0 k (λ t. short k (check-served n ws maxGates k p) (leb-false _ _ t)))

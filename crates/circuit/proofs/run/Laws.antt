@@ -1,0 +1,100 @@
+-- The laws of a run: one gate at a time over words, of two cascades in a row, of the inverse, and its bound. Assumes nothing.
+use mathlib.Core.Path.{_≡_, sym, ap, _∙_}
+use mathlib.Core.Logic.{_↔_}
+use mathlib.Core.Bool.{true, false}
+use mathlib.Core.List.{List, [], _∷_, _++_}
+use Prim.Native.Nat.{ℕ, _+_, _*_, _/_, _^_, _<_, _≤_}
+use lib.Dec.{eqb, ltb}
+use lib.ListN.{length, drop}
+use borrow.Author.Tests.{eqb-true, eqb-false, le-ltb, ltb-false}
+use Rattle.bits.specs.Lists.{fold}
+use Rattle.bits.proofs.Lists.{fold-append}
+use Rattle.bits.proofs.Bools.{and-parts, either}
+use Rattle.circuit.specs.declared.gate.Gate.{Gate}
+use Rattle.circuit.specs.Gate.{maxGates, apply, valid}
+use Rattle.circuit.specs.Outcome.{Outcome, served, refused, andThen}
+use Rattle.circuit.specs.Refusal.{badState, badLineCount}
+use Rattle.circuit.specs.Words.{gateAt, gatesOf, allValid, lineCountGood, validFrom, sizeOutcome, checkOutcome}
+use Rattle.circuit.specs.Run.{run, Equal, Differs, runOutcome}
+use Rattle.circuit.specs.Laws.{RunFault, run-words, outside}
+use Rattle.circuit.proofs.Outcome.{demand-met, demand-failed, then-served, then-refused, then-both, then-fails, then-either, last-failed}
+use Rattle.circuit.proofs.gate.Laws.{apply-below}
+use Rattle.circuit.proofs.words.Laws.{gates-next, gates-end, check-lines, check-gates, gates-refused, gates-sized, check-served, served-check, check-refused, refused-check}
+
+-- a turn over the words: gate i acts, and the others after it
+pub run-turn : (ws : List ℕ) (i : ℕ) (g : Gate) (s : ℕ) → i < length ws / 3 → g ≡ gateAt ws i
+    → run (gatesOf (drop (3 * i) ws)) s ≡ run (gatesOf (drop (3 * (i + 1)) ws)) (apply g s)
+unfolding fold
+run-turn ws i g s inside is =
+    ap (λ (gs : List Gate). run gs s) (gates-next ws i inside) ∙ ap (λ (f : Gate). run (gatesOf (drop (3 * (i + 1)) ws)) (apply f s)) (sym is)
+
+pub run-end : (ws : List ℕ) (i s : ℕ) → length ws / 3 ≤ i → run (gatesOf (drop (3 * i) ws)) s ≡ s
+unfolding fold
+run-end ws i s h = ap (λ (gs : List Gate). run gs s) (gates-end ws i h)
+
+-- two cascades in a row
+pub run-append : (a b : List Gate) (s : ℕ) → run (a ++ b) s ≡ run b (run a s)
+run-append a b s = fold-append apply a b s
+
+-- a cascade on n lines keeps a state below 2 ^ n
+pub run-below : (n : ℕ) (gs : List Gate) → allValid n gs ≡ true → (s : ℕ) → s < 2 ^ n → run gs s < 2 ^ n
+unfolding fold allValid
+run-below n [] v s h = h
+run-below n (g ∷ gs) v s h = let (a, b) = and-parts (valid n g) (allValid n gs) v in run-below n gs b (apply g s) (apply-below n g s a h)
+
+-- equal exactly when they differ on no state
+pub equal-differs : (n : ℕ) (a b : List Gate) → Equal n a b ↔ ((x : ℕ) → Differs n a b x → ⊥)
+equal-differs n a b = (
+  (λ e x d. d .outputs (e x (d .state))),
+  (λ f x h. either (eqb (run a x) (run b x)) (λ t. eqb-true _ _ t) (λ t. absurd (f x (record { state = h; outputs = eqb-false _ _ t })))),
+)
+
+-- ---- what the call answers
+
+module _ (n : ℕ) (ws : List ℕ) (s : ℕ) where
+  pub run-lines : lineCountGood n ≡ false → runOutcome n ws s ≡ refused badLineCount 0
+  unfolding runOutcome
+  run-lines e = then-refused _ _ badLineCount 0 (check-lines n ws maxGates e)
+
+  module _ (lines : lineCountGood n ≡ true) where
+    pub run-size : (number place : ℕ) → sizeOutcome ws maxGates ≡ refused number place → runOutcome n ws s ≡ refused number place
+    unfolding runOutcome
+    run-size number place e = then-refused _ _ number place (check-gates n ws maxGates lines ∙ gates-refused n ws maxGates number place e)
+
+    module _ (k : ℕ) (size : sizeOutcome ws maxGates ≡ served k) where
+      found : (o : Outcome ℕ) → validFrom n 0 (gatesOf ws) ≡ o → checkOutcome n ws maxGates ≡ o
+      found o e = check-gates n ws maxGates lines ∙ gates-sized n ws maxGates k size ∙ e
+
+      -- what the walk over the gates answers
+      abbrev pub walked : Outcome ℕ
+      walked = andThen (validFrom n 0 (gatesOf ws)) (λ k. served (run (gatesOf ws) s))
+
+      pub run-gate : (number place : ℕ) → refused number place ≡ walked → runOutcome n ws s ≡ refused number place
+      unfolding runOutcome
+      run-gate number place e =
+          then-refused _ _ number place (found _ (then-fails (validFrom n 0 (gatesOf ws)) (λ m. run (gatesOf ws) s) number place (sym e)))
+
+      pub run-outside : (t : ℕ) → served t ≡ walked → ltb s (2 ^ n) ≡ false → runOutcome n ws s ≡ refused badState 0
+      unfolding runOutcome
+      run-outside t f e = let (m, v, w) = then-both (validFrom n 0 (gatesOf ws)) _ t (sym f) in then-served _ _ m (found _ v) ∙ demand-failed _ _ _ _ e
+
+      pub run-made : (t : ℕ) → served t ≡ walked → ltb s (2 ^ n) ≡ true → runOutcome n ws s ≡ served t
+      unfolding runOutcome
+      run-made t f e =
+          let (m, v, w) = then-both (validFrom n 0 (gatesOf ws)) _ t (sym f) in
+          then-served _ _ m (found _ v) ∙ demand-met _ _ _ _ e ∙ w
+
+-- ---- refused exactly by what is wrong
+
+module _ (n : ℕ) (ws : List ℕ) (s : ℕ) where
+  pub fault-run : (number place : ℕ) → RunFault n ws s number place → runOutcome n ws s ≡ refused number place
+  unfolding runOutcome
+  fault-run number place (run-words w) = then-refused _ _ number place (refused-check n ws maxGates number place w)
+  fault-run number place (outside k c h) = then-served _ _ k (served-check n ws maxGates k c) ∙ demand-failed _ _ _ _ (le-ltb s (2 ^ n) h)
+
+  pub run-fault : (number place : ℕ) → runOutcome n ws s ≡ refused number place → RunFault n ws s number place
+  unfolding runOutcome
+  run-fault =
+      then-either (RunFault n ws s) (checkOutcome n ws maxGates) _
+      (λ x y p. run-words (check-refused n ws maxGates x y p))
+      (λ k p. last-failed (RunFault n ws s) (ltb s (2 ^ n)) badState 0 _ (λ t. outside k (check-served n ws maxGates k p) (ltb-false _ _ t)))

@@ -1,0 +1,66 @@
+-- A cascade on a state: the first gate acts first.
+use mathlib.Core.Path.{_≡_}
+use mathlib.Core.Bool.{Bool, false}
+use mathlib.Core.List.{List}
+use Prim.Native.Nat.{ℕ, _^_, _<_}
+use lib.Dec.{leb, ltb}
+use lib.ListN.{length}
+use Rattle.bits.specs.Lists.{fold}
+use Rattle.circuit.specs.declared.gate.Gate.{Gate}
+use Rattle.circuit.specs.declared.run.RunAnswer.{RunAnswer}
+use Rattle.circuit.specs.declared.run.RunAnswer.the-variants.{State, Refused}
+use Rattle.circuit.specs.Gate.{maxGates, valid, apply}
+use Rattle.circuit.specs.Outcome.{Outcome, served, refused, demand, andThen}
+use Rattle.circuit.specs.Refusal.{badLineCount, tooManyGates, noGate, badState}
+use Rattle.circuit.specs.Words.{gatesOf, lineCountGood, validFrom, checkOutcome}
+
+-- the output state
+abbrev pub run : List Gate → ℕ → ℕ
+run gates state = fold apply gates state
+
+-- two cascades on n lines give the same output on every state
+abbrev pub Equal : ℕ → List Gate → List Gate → Type 0
+Equal n a b = (x : ℕ) → x < 2 ^ n → run a x ≡ run b x
+
+-- x is a state of n lines on which two cascades give different outputs
+pub record Differs (n : ℕ) (a b : List Gate) (x : ℕ) : Type 0 where
+  pub state : x < 2 ^ n
+  pub outputs : run a x ≡ run b x → ⊥
+
+-- 2, 11, 6, 7, 9
+unfoldable pub runOutcome : ℕ → List ℕ → ℕ → Outcome ℕ
+runOutcome n ws s =
+    andThen (checkOutcome n ws maxGates) (λ k.
+    demand (ltb s (2 ^ n)) badState 0 (served (run (gatesOf ws) s)))
+
+-- the same of a list of gate records: 2, 6, 7, 9
+unfoldable pub recordsOutcome : ℕ → List Gate → ℕ → Outcome ℕ
+recordsOutcome n gates s =
+    demand (lineCountGood n) badLineCount 0
+    (demand (leb (length gates) maxGates) tooManyGates 0
+    (andThen (validFrom n 0 gates) (λ k.
+    demand (ltb s (2 ^ n)) badState 0 (served (run gates s)))))
+
+-- ---- a run over records, gate by gate: its outcome so far
+
+-- before the first of `count` gates: 2, 6
+abbrev pub begun : ℕ → ℕ → ℕ → Outcome ℕ
+begun n count s = demand (lineCountGood n) badLineCount 0 (demand (leb count maxGates) tooManyGates 0 (served s))
+
+-- gate i of `count` is still to be run
+abbrev pub goesOn : Outcome ℕ → ℕ → ℕ → Bool
+goesOn (served s) i count = ltb i count
+goesOn (refused number place) i count = false
+
+-- after gate i: 7
+abbrev pub advanced : ℕ → ℕ → Gate → Outcome ℕ → Outcome ℕ
+advanced n i g o = andThen o (λ s. demand (valid n g) noGate i (served (apply g s)))
+
+-- after the last gate: 9
+abbrev pub ended : ℕ → ℕ → Outcome ℕ → Outcome ℕ
+ended n input o = andThen o (λ s. demand (ltb input (2 ^ n)) badState 0 (served s))
+
+-- the answer in document 01's numbers and values
+abbrev pub ofRun : RunAnswer → Outcome ℕ
+ofRun (State s) = served s
+ofRun (Refused r) = refused (r .number) (r .place)
