@@ -6,13 +6,6 @@ use libc::STDOUT_FILENO;
 ghost use Prim.Native.Nat.{_≤_};
 ghost use lib.ListN.{length};
 
-fn print_pair(name: &[u8], first: u64, second: u64) {
-    io::write_all(STDOUT_FILENO, name);
-    io::print_decimal(STDOUT_FILENO, first);
-    io::write_all(STDOUT_FILENO, b" ");
-    io::print_decimal(STDOUT_FILENO, second);
-}
-
 // Lines, gates and bytes taken.
 fn print_read(text: &[u8]) {
     let mut out = [0u64; 3072];
@@ -22,13 +15,10 @@ fn print_read(text: &[u8]) {
             gates,
             taken,
         } => {
-            print_pair(b"read ", header.lines, gates as u64);
-            io::write_all(STDOUT_FILENO, b" ");
-            io::print_decimal(STDOUT_FILENO, taken as u64);
+            rows::print_row(b"read ", &[header.lines, gates as u64, taken as u64]);
         }
-        ReadAnswer::Refused(why) => print_pair(b"refused ", why.number, why.place),
+        ReadAnswer::Refused(why) => rows::print_row(b"refused ", &[why.number, why.place]),
     }
-    io::write_all(STDOUT_FILENO, b"\n");
 }
 
 // Copies the word to the start of the buffer where it fits, and tells how many bytes that are.
@@ -94,8 +84,7 @@ fn print_write(lines: u64, words: &[u64]) {
             }
         }
         WriteAnswer::Refused(why) => {
-            print_pair(b"refused ", why.number, why.place);
-            io::write_all(STDOUT_FILENO, b"\n");
+            rows::print_row(b"refused ", &[why.number, why.place]);
         }
     }
 }

@@ -1,15 +1,18 @@
--- `fault_rows::print_words` meets its contract. The loop's invariant: the index is at most the length. Assumes nothing.
+-- `rows::print_row` meets its contract. The loop's invariant: the index is at most the length. Assumes nothing.
 use Prim.Native.Nat.{_≤_, _-_}
 use lib.ListN.{length}
 use borrow.Author.Needs.{needs}
-use Rattle.fault_rows.proofs.print_words.Statement.{statement}
-use Rattle.fault_rows.proofs.print_words.Tie as tie
+use Rattle.rows.proofs.print_row.Statement.{statement}
+use Rattle.rows.proofs.print_row.Tie as tie
 
 abbrev Inv-loop : tie.InvT-loop
-Inv-loop words i₀ t3 t4 i = i ≤ length words
+Inv-loop name numbers i₀ t4 t5 i = i ≤ length numbers
 
 abbrev μ-loop : tie.MeasureT-loop
-μ-loop words i₀ t3 t4 i = length words - i
+μ-loop name numbers i₀ t4 t5 i = length numbers - i
+
+write-all-requires : tie.Need-write-all-requires Inv-loop μ-loop
+write-all-requires c κs = search needs
 
 loop-holds : tie.Need-loop-holds Inv-loop μ-loop
 loop-holds c = search needs
@@ -29,8 +32,8 @@ add-i c = search needs
 slice-aggregate-write-all : tie.Need-slice-aggregate-write-all Inv-loop μ-loop
 slice-aggregate-write-all c = search needs
 
-write-all-requires : tie.Need-write-all-requires Inv-loop μ-loop
-write-all-requires c κs = search needs
+write-all-requires-2 : tie.Need-write-all-requires-2 Inv-loop μ-loop
+write-all-requires-2 c κs = search needs
 
 loop-less : tie.Need-loop-less Inv-loop μ-loop
 loop-less c = search needs
@@ -47,29 +50,30 @@ loop-again-2 c = search needs
 slice-aggregate-write-all-2 : tie.Need-slice-aggregate-write-all-2 Inv-loop μ-loop
 slice-aggregate-write-all-2 c = search needs
 
-write-all-requires-2 : tie.Need-write-all-requires-2 Inv-loop μ-loop
-write-all-requires-2 c κs = search needs
+write-all-requires-3 : tie.Need-write-all-requires-3 Inv-loop μ-loop
+write-all-requires-3 c κs = search needs
 
 returns : tie.Need-returns Inv-loop μ-loop
 returns c = search needs
 
-pub print-words-spec : {M : Type 1} → statement M
-print-words-spec =
+pub print-row-spec : {M : Type 1} → statement M
+print-row-spec =
     tie.close
     (tie.spec
     Inv-loop
     μ-loop
+    write-all-requires
     loop-holds
     mul-print-decimal
     shared-slice-read-print-decimal
     print-decimal-requires
     add-i
     slice-aggregate-write-all
-    write-all-requires
+    write-all-requires-2
     loop-less
     loop-again
     loop-less-2
     loop-again-2
     slice-aggregate-write-all-2
-    write-all-requires-2
+    write-all-requires-3
     returns)
