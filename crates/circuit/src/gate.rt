@@ -6,7 +6,7 @@ ghost use Prim.Native.Nat.{_-_, _^_, _<_, _≤_};
 ghost use lib.Dec.{eqb, ltb};
 ghost use lib.Bits.{bitAnd};
 ghost use lib.Count.{ones, trailingZeros};
-ghost use Rattle.circuit.specs.Gate.{maxLines, notGate, fires, inverted, apply, valid, controlCount};
+ghost use Rattle.circuit.specs.Gate.{maxLines, notGate, fires, apply, toggled, valid, controlCount};
 
 #[repr(C)]
 pub struct Gate {
@@ -121,16 +121,15 @@ impl Gate {
         (((state & positive) ^ positive) | (state & negative)) == 0
     }
 
-    // The state with the target inverted where the gate fires.
-    pub(crate) fn invert(self, state: u64) -> u64
-        requires { ⌜ valid maxLines self ≡ true ⌝ }
-        ensures { λ r. ⌜ r ≡ inverted self state ⌝ }
+    // The state after a gate that was tested: the target is inverted where no control is missed.
+    pub fn toggle(self, state: u64) -> u64
+        ensures { λ r. ⌜ r ≡ toggled self state ⌝ }
     {
         let positive = self.positive;
         let negative = self.negative;
         let target = self.target;
         let missed = (state ^ positive) & (positive | negative);
-        state ^ (((missed == 0) as u64) << target)
+        state ^ (((missed == 0) as u64) << (target % Gate::MAX_LINES))
     }
 
     // The state after the gate; the same one if the record is no gate on 64 lines.
@@ -138,7 +137,7 @@ impl Gate {
         ensures { λ r. ⌜ r ≡ apply self state ⌝ }
     {
         if self.valid(Gate::MAX_LINES) {
-            return self.invert(state);
+            return self.toggle(state);
         }
         state
     }
