@@ -26,9 +26,9 @@ use Rattle.checking.specs.Stored.{stored, clausesIn}
 use Rattle.checking.specs.Satisfaction.{spelled, Tells}
 use Rattle.checking.specs.Sizes.{totals, sizesOf, sizesOutcome}
 use Rattle.checking.specs.Emit.{emitOutcome, emitBuffer}
-use Rattle.checking.specs.Equality.{Call, stepOn, reduceOn, stepLeaves, reduceLeaves, after, afterAll, Emitted, EqualityOf, Equality}
+use Rattle.checking.specs.Equality.{Call, stepOn, reduceOn, stepLeaves, reduceLeaves, after, afterAll, miterLeaves, leftAfter, Emitted, EqualityOf, Equality}
 use Rattle.checking.proofs.miter.Laws.{miter-laws}
-use Rattle.checking.proofs.step.Laws.{step-laws}
+use Rattle.checking.proofs.step.Laws.{none-kept, step-laws}
 use Rattle.checking.proofs.reduce.Relation.{reduce-laws}
 use Rattle.checking.proofs.clauses.Laws.{clause-laws}
 
@@ -54,21 +54,23 @@ module _ (n : ℕ) (start : List Gate) (ws : List ℕ) (g : Standing n start ws)
       }
 
   module _ (m : ℕ) where
-    step-found : (k : ℕ) → Cascade m ws maxMiterGates k → (t : Step (List Gate)) → stepGates (gatesOf ws) ≡ t → Standing n start (stepLeaves (served (counted t)) (stepBuffer m ws) ws)
+    step-found : (k : ℕ) → Cascade m ws maxMiterGates k → (t : Step (List Gate)) → stepGates (gatesOf ws) ≡ t → Standing n start (stepLeaves (served (counted t)) (stepBuffer m ws))
     step-found k c (found i j kind hs) e =
         let s : Stands n ws (stepBuffer n ws) hs = step-laws .call-stands n ws (g .count) (g .cascade) i j kind hs e in
         let keeps : Keeps n (gatesOf ws) hs = step-laws .step-keeps n (gatesOf ws) (g .cascade .lines-high) (g .cascade .gates) i j kind hs (step-laws .step-steps (gatesOf ws) all-lines _ .0 e) in
         let b : stepBuffer n ws ≡ stepBuffer m ws = step-laws .call-lines n m ws (g .count) k (g .cascade) c .1 in
         subst (λ (l : List ℕ). Standing n start (take (3 * length hs) l)) b (kept (stepBuffer n ws) hs s keeps)
-    step-found k c none e = g
+    step-found k c none e = subst (Standing n start) (sym (none-kept m ws e)) g
 
     after-step : (o : Outcome ℕ) → checkOutcome m ws maxMiterGates ≡ o → Standing n start (after (stepOn m) ws)
     unfolding after stepOutcome
     after-step (served k) e =
         let c : Cascade m ws maxMiterGates k = check-served m ws maxMiterGates k e in
-        subst (λ (o : Outcome (Step ℕ)). Standing n start (stepLeaves o (stepBuffer m ws) ws)) (sym (step-laws .call-served m ws k c)) (step-found k c (stepGates (gatesOf ws)) refl)
+        subst (λ (o : Outcome (Step ℕ)). Standing n start (stepLeaves o (stepBuffer m ws))) (sym (step-laws .call-served m ws k c)) (step-found k c (stepGates (gatesOf ws)) refl)
     after-step (refused number place) e =
-        subst (λ (o : Outcome (Step ℕ)). Standing n start (stepLeaves o (stepBuffer m ws) ws)) (sym (then-refused _ _ number place e)) g
+        let o : stepOutcome m ws ≡ refused number place = then-refused _ _ number place e in
+        subst (λ (o : Outcome (Step ℕ)). Standing n start (stepLeaves o (stepBuffer m ws))) (sym o)
+        (subst (Standing n start) (sym (step-laws .call-untouched m ws number place o)) g)
 
     after-reduce : (o : Outcome ℕ) → checkOutcome m ws maxMiterGates ≡ o → Standing n start (after (reduceOn m) ws)
     unfolding after reduceOutcome
@@ -78,10 +80,12 @@ module _ (n : ℕ) (start : List Gate) (ws : List ℕ) (g : Standing n start ws)
         let s : Stands n ws (reduceBuffer n ws) (r .left) = reduce-laws .call-stands n ws (g .count) (g .cascade) in
         let keeps : Keeps n (gatesOf ws) (r .left) = reduce-laws .reduce-keeps n (gatesOf ws) (r .left) (r .pairs) (r .merges) (g .cascade .lines-high) (g .cascade .gates) (reduce-laws .reduce-reduces (gatesOf ws) all-lines r .0 refl) in
         let b : reduceBuffer n ws ≡ reduceBuffer m ws = reduce-laws .call-lines n m ws (g .count) k (g .cascade) c .1 in
-        subst (λ (o : Outcome (Reduced ℕ)). Standing n start (reduceLeaves o (reduceBuffer m ws) ws)) (sym (reduce-laws .call-served m ws k c))
+        subst (λ (o : Outcome (Reduced ℕ)). Standing n start (reduceLeaves o (reduceBuffer m ws))) (sym (reduce-laws .call-served m ws k c))
         (subst (λ (l : List ℕ). Standing n start (take (3 * length (r .left)) l)) b (kept (reduceBuffer n ws) (r .left) s keeps))
     after-reduce (refused number place) e =
-        subst (λ (o : Outcome (Reduced ℕ)). Standing n start (reduceLeaves o (reduceBuffer m ws) ws)) (sym (then-refused _ _ number place e)) g
+        let o : reduceOutcome m ws ≡ refused number place = then-refused _ _ number place e in
+        subst (λ (o : Outcome (Reduced ℕ)). Standing n start (reduceLeaves o (reduceBuffer m ws))) (sym o)
+        (subst (Standing n start) (sym (reduce-laws .call-untouched m ws number place o)) g)
 
 after-call : (n : ℕ) (start : List Gate) (ws : List ℕ) → Standing n start ws → (c : Call) → Standing n start (after c ws)
 after-call n start ws g (stepOn m) = after-step n start ws g m (checkOutcome m ws maxMiterGates) refl
@@ -165,13 +169,14 @@ claimed emits leaves by n a b i j c d room fits calls out =
     let m = miter-laws .miter-stands n a n b room k s in
     let first : Standing n (miterGates (gatesOf a) (gatesOf b)) (take (3 * k) (miterBuffer n a n b room)) =
     record { count = k; cascade = m .cascade; same = λ x. ap (λ (l : List Gate). run l x) (m .gates) } in
-    let ws : List ℕ = afterAll calls (take (3 * k) (miterBuffer n a n b room)) in
-    let last : Standing n (miterGates (gatesOf a) (gatesOf b)) ws = after-calls n (miterGates (gatesOf a) (gatesOf b)) calls (take (3 * k) (miterBuffer n a n b room)) first in
+    let start : take (3 * k) (miterBuffer n a n b room) ≡ miterLeaves (miterOutcome n a n b (length room)) (miterBuffer n a n b room) =
+    sym (ap (λ (o : Outcome ℕ). miterLeaves o (miterBuffer n a n b room)) s) in
+    let ws : List ℕ = leftAfter n a b room calls in
+    let last : Standing n (miterGates (gatesOf a) (gatesOf b)) ws =
+    after-calls n (miterGates (gatesOf a) (gatesOf b)) calls _ (subst (Standing n (miterGates (gatesOf a) (gatesOf b))) start first) in
     record {
       gates = k;
       miter-served = s;
-      standing = ws;
-      stands = refl;
       emission = λ h. emitted n a b ws out last (emits n ws (length out)) (leaves n ws out) (by n ws (last .count) out (last .cascade) h);
     }
 

@@ -19,9 +19,9 @@ use Rattle.checking.specs.Clauses.{Clause, clausesOf, variablesOf}
 use Rattle.checking.specs.Stored.{stored, clausesIn, clausesRead}
 use Rattle.checking.specs.Satisfaction.{satisfies, Tells}
 use Rattle.checking.specs.Sizes.{totals}
-use Rattle.checking.specs.Miter.{miterGates}
+use Rattle.checking.specs.Miter.{miterGates, miterBuffer}
 use Rattle.checking.specs.ClauseLaws.{withoutLater, ofFirst, ofFirstVariables}
-use Rattle.checking.specs.Equality.{afterAll}
+use Rattle.checking.specs.Equality.{afterAll, miterLeaves, leftAfter}
 use Rattle.checking.specs.EqualityLaws.{listOutcome, listBuffer, EqualityOfList, EqualityLaws}
 use Rattle.checking.proofs.miter.Laws.{miter-laws}
 use Rattle.checking.proofs.clauses.Laws.{clause-laws}
@@ -79,8 +79,8 @@ module _ (variables : ℕ → List Gate → ℕ) (clauses : ℕ → List Gate �
   unfolding afterAll
   list-told =
       let claim = holds n a [] i 0 c (record { lines-low = c .lines-low; lines-high = c .lines-high; size = refl; few = omega arith; gates = none-valid n }) a (omega arith) [] out in
-      let ws : List ℕ = claim .standing in
-      let same : gatesOf ws ≡ gs = ap gatesOf (claim .stands) ∙ miter-laws .miter-stands n a n [] a (claim .gates) (claim .miter-served) .gates ∙ against-none gs in
+      let ws : List ℕ = leftAfter n a [] a [] in
+      let same : gatesOf ws ≡ gs = ap (λ (o : Outcome ℕ). gatesOf (miterLeaves o (miterBuffer n a n [] a))) (claim .miter-served) ∙ miter-laws .miter-stands n a n [] a (claim .gates) (claim .miter-served) .gates ∙ against-none gs in
       let long : length out ≡ length (stored (clausesOf n gs)) + length (stored cs) = length-replicate _ _ in
       let e = claim .emission (omega (arith, ap (λ (l : List Gate). length (stored (clausesOf n l))) same)) in
       let room : length (stored (clauses n (gatesOf ws))) ≤ length out = omega (arith, ap (λ (l : List Gate). length (stored (clauses n l))) same) in

@@ -79,4 +79,4 @@ pub record Checks (na : ℕ) (a : List ℕ) (nb : ℕ) (b : List ℕ) (calls : L
   pub words : room-last ≡ roomLeft (miterOutcome na a nb b (length room)) na a nb b calls room
   pub clauses : out-last ≡ clausesLeft (miterOutcome na a nb b (length room)) na a nb b calls room out
   pub claim : (i j : ℕ) → Cascade na a maxGates i → Cascade nb b maxGates j → na ≡ nb → length a + length b ≤ length room
-      → Claim (λ n ws size. told) (λ n ws buffer. out-last) na a b room calls out
+      → Claim na a b room calls out told out-last
