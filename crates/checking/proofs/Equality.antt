@@ -8,7 +8,7 @@ use native.Mathlib.Omega.{arith}
 use lib.IntN.{ℤ}
 use lib.ListN.{length, take, drop}
 use borrow.Author.Tests.{le-leb}
-use Rattle.bits.specs.Lists.{over}
+use Rattle.bits.specs.Lists.{fold, over}
 use Rattle.circuit.specs.declared.gate.Gate.{Gate}
 use Rattle.circuit.specs.Gate.{maxLines, maxMiterGates}
 use Rattle.circuit.specs.Outcome.{Outcome, served, refused, written}
@@ -23,13 +23,13 @@ use Rattle.checking.specs.StepLaws.{Keeps, Stands}
 use Rattle.checking.specs.Reduce.{Reduced, reduceGates, reduceOutcome, reduceBuffer}
 use Rattle.checking.specs.Clauses.{Clause, clausesOf, variablesOf}
 use Rattle.checking.specs.Stored.{stored, clausesIn}
-use Rattle.checking.specs.Satisfaction.{spelled, Tells}
 use Rattle.checking.specs.Sizes.{totals, sizesOf, sizesOutcome}
 use Rattle.checking.specs.Emit.{emitOutcome, emitBuffer}
 use Rattle.checking.specs.Equality.{Call, stepOn, reduceOn, stepLeaves, reduceLeaves, after, afterAll, miterLeaves, leftAfter, Emitted, EqualityOf, Equality}
 use Rattle.checking.proofs.miter.Laws.{miter-laws}
 use Rattle.checking.proofs.step.Laws.{none-kept, step-laws}
 use Rattle.checking.proofs.reduce.Relation.{reduce-laws}
+use Rattle.checking.proofs.clauses.Meaning.{tells-same}
 use Rattle.checking.proofs.clauses.Laws.{clause-laws}
 
 -- ---- what stands
@@ -96,18 +96,6 @@ unfolding afterAll
 after-calls n start [] ws g = g
 after-calls n start (c ∷ calls) ws g = after-calls n start calls (after c ws) (after-call n start ws g c)
 
--- ---- what the clauses tell
-
--- two functions that agree exactly where two others do
-tells-same : (n variables : ℕ) (cs : List Clause) (f g p q : ℕ → ℕ) → ((x : ℕ) → (f x ≡ g x) ↔ (p x ≡ q x)) → Tells n variables cs f g → Tells n variables cs p q
-tells-same n variables cs f g p q e t =
-    record {
-      equal = ((λ h. t .equal .0 (λ x l. e x .1 (h x l))), (λ h x l. e x .0 (t .equal .1 h x l)));
-      differing = λ x l h. t .differing x l (λ i. h (e x .0 i));
-      no-other = λ σ s. let (l, h) = t .no-other σ s in (l, (λ i. h (e (spelled n σ) .1 i)));
-      within = t .within;
-    }
-
 -- ---- the emission
 
 -- an answer and a buffer that are those of the clause list of the gates that stand
@@ -141,7 +129,8 @@ module _ (n : ℕ) (a b ws : List ℕ) (out : List ℤ) (g : Standing n (miterGa
   abbrev cs : List Clause
   cs = clausesOf n gs
 
-  same-states : (x : ℕ) → (run gs x ≡ x) ↔ (run (gatesOf a) x ≡ run (gatesOf b) x)
+  same-states : (x : ℕ) → (run gs x ≡ run [] x) ↔ (run (gatesOf a) x ≡ run (gatesOf b) x)
+  unfolding fold
   same-states x =
       let m = miter-laws .identity (gatesOf a) (gatesOf b) x in
       ((λ e. m .0 (sym (g .same x) ∙ e)), (λ e. g .same x ∙ m .1 e))
@@ -155,8 +144,8 @@ module _ (n : ℕ) (a b ws : List ℕ) (out : List ℤ) (g : Standing n (miterGa
         are-read = ap (λ (ws : List ℤ). clausesIn (take (length (stored cs)) ws)) (l .words) ∙ clause-laws .read-back cs (drop (length (stored cs)) out);
         counted = refl;
         tells =
-            tells-same n (variablesOf n gs) cs (run gs) (λ x. x) (run (gatesOf a)) (run (gatesOf b)) same-states
-            (clause-laws .lists-tell n gs (g .cascade .lines-high) (g .cascade .gates));
+            tells-same n (variablesOf n gs) cs gs [] (gatesOf a) (gatesOf b) same-states
+            (clause-laws .list-tells n gs (g .cascade .lines-high) (g .cascade .gates));
       }
 
 -- ---- the whole claim

@@ -7,7 +7,6 @@ use lib.ListN.{length, take}
 use Rattle.circuit.specs.Gate.{maxGates}
 use Rattle.circuit.specs.Outcome.{Outcome, served, refused}
 use Rattle.circuit.specs.Words.{gatesOf, Cascade}
-use Rattle.circuit.specs.Run.{run}
 use Rattle.checking.specs.declared.clauses.Totals.{Totals}
 use Rattle.checking.specs.Miter.{miterOutcome, miterBuffer}
 use Rattle.checking.specs.Step.{Step, found, none, stepOutcome, stepBuffer}
@@ -56,7 +55,7 @@ pub record Emitted (n : ℕ) (a b : List ℕ) (answer : Outcome Totals) (buffer 
   pub clauses : List Clause
   pub are-read : clausesIn (take (totals .words) buffer) ≡ clausesRead clauses
   pub counted : length clauses ≡ totals .clauses
-  pub tells : Tells n (totals .variables) clauses (run (gatesOf a)) (run (gatesOf b))
+  pub tells : Tells n (totals .variables) clauses (gatesOf a) (gatesOf b)
 
 -- of A and B as words of cascades on n lines, a buffer for their miter, a list of calls, a clause buffer, and the answer and the final buffer of an emission of the gates that then stand
 pub record Claim (n : ℕ) (a b room : List ℕ) (calls : List Call) (out : List ℤ) (answer : Outcome Totals) (buffer : List ℤ) : Type 0 where
