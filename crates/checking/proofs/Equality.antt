@@ -98,6 +98,9 @@ after-calls n start (c ∷ calls) ws g = after-calls n start calls (after c ws) 
 
 -- ---- the emission
 
+pub served-same : (t u : Totals) → served t ≡ served u → t ≡ u
+served-same t u e = cc
+
 -- an answer and a buffer that are those of the clause list of the gates that stand
 pub record Lists (n : ℕ) (gs : List Gate) (out : List ℤ) (answer : Outcome Totals) (buffer : List ℤ) : Type 0 where
   pub counts : answer ≡ served (totals (variablesOf n gs) (length (clausesOf n gs)) (length (stored (clausesOf n gs))))
@@ -140,12 +143,15 @@ module _ (n : ℕ) (a b ws : List ℕ) (out : List ℤ) (g : Standing n (miterGa
       record {
         totals = totals (variablesOf n gs) (length cs) (length (stored cs));
         is-served = l .counts;
-        clauses = cs;
-        are-read = ap (λ (ws : List ℤ). clausesIn (take (length (stored cs)) ws)) (l .words) ∙ clause-laws .read-back cs (drop (length (stored cs)) out);
-        counted = refl;
-        tells =
-            tells-same n (variablesOf n gs) cs gs [] (gatesOf a) (gatesOf b) same-states
-            (clause-laws .list-tells n gs (g .cascade .lines-high) (g .cascade .gates));
+        told =
+            record {
+              clauses = cs;
+              are-read = ap (λ (ws : List ℤ). clausesIn (take (length (stored cs)) ws)) (l .words) ∙ clause-laws .read-back cs (drop (length (stored cs)) out);
+              counted = refl;
+              tells =
+                  tells-same n (variablesOf n gs) cs gs [] (gatesOf a) (gatesOf b) same-states
+                  (clause-laws .list-tells n gs (g .cascade .lines-high) (g .cascade .gates));
+            };
       }
 
 -- ---- the whole claim

@@ -27,7 +27,7 @@ use Rattle.checking.proofs.miter.Laws.{miter-laws}
 use Rattle.checking.proofs.clauses.Laws.{clause-laws}
 use Rattle.checking.proofs.clauses.Meaning.{told-alike}
 use Rattle.checking.proofs.clauses.StandIns.{free, controlled, nots-valid, half, first, second, start, miter-split, start-length, start-taken, start-valid, last-runs, unlike, variables-same, without-same}
-use Rattle.checking.proofs.Equality.{equality, claimed}
+use Rattle.checking.proofs.Equality.{served-same, equality, claimed}
 
 module _ (variables : ℕ → List Gate → ℕ) (clauses : ℕ → List Gate → List Clause) where
   -- where there is room, the list stands
@@ -44,9 +44,6 @@ our-list : EqualityOfList variablesOf clausesOf
 our-list =
     claimed (listOutcome variablesOf clausesOf) (listBuffer variablesOf clausesOf)
     (λ n ws k out c room. record { counts = list-served variablesOf clausesOf n ws (length out) room; words = list-left variablesOf clausesOf n ws out room })
-
-served-same : (t u : Totals) → served t ≡ served u → t ≡ u
-served-same t u e = cc
 
 read-same : (xs ys : List Clause) → clausesRead xs ≡ clausesRead ys → xs ≡ ys
 read-same xs ys e = cc
@@ -76,15 +73,15 @@ module _ (variables : ℕ → List Gate → ℕ) (clauses : ℕ → List Gate �
         let room : length (stored (clauses n (gatesOf ws))) ≤ length out = omega (arith, ap (λ (l : List Gate). length (stored (clauses n l))) same) in
         let counts : totals (variables n (gatesOf ws)) (length (clauses n (gatesOf ws))) (length (stored (clauses n (gatesOf ws)))) ≡ e .totals =
         served-same _ _ (sym (list-served variables clauses n ws (length out) room) ∙ e .is-served) in
-        let read : clauses n (gatesOf ws) ≡ e .clauses =
+        let read : clauses n (gatesOf ws) ≡ e .told .clauses =
         read-same _ _
         (sym (clause-laws .read-back (clauses n (gatesOf ws)) (drop (length (stored (clauses n (gatesOf ws)))) out))
         ∙ ap (λ (l : List ℤ). clausesIn (take (length (stored (clauses n (gatesOf ws)))) l)) (sym (list-left variables clauses n ws out room))
         ∙ ap (λ (t : Totals). clausesIn (take (t .words) (listBuffer variables clauses n ws out))) counts
-        ∙ e .are-read) in
+        ∙ e .told .are-read) in
         let v : e .totals .variables ≡ variables n gs = sym (ap (λ (t : Totals). t .variables) counts) ∙ ap (variables n) same in
-        let l : e .clauses ≡ cs = sym read ∙ ap (clauses n) same in
-        subst (λ (m : ℕ). Tells n m cs (gatesOf a) (gatesOf b)) v (subst (λ (l : List Clause). Tells n (e .totals .variables) l (gatesOf a) (gatesOf b)) l (e .tells))
+        let l : e .told .clauses ≡ cs = sym read ∙ ap (clauses n) same in
+        subst (λ (m : ℕ). Tells n m cs (gatesOf a) (gatesOf b)) v (subst (λ (l : List Clause). Tells n (e .totals .variables) l (gatesOf a) (gatesOf b)) l (e .told .tells))
 
   -- the same by gates
   gates-told : (n : ℕ) (a b : List Gate) → 1 ≤ n → n ≤ maxLines → length a ≤ maxGates → length b ≤ maxGates → allValid n a ≡ true → allValid n b ≡ true

@@ -12,7 +12,8 @@ use Rattle.circuit.specs.Gate.{maxLines, maxMiterGates}
 use Rattle.circuit.specs.Words.{allValid}
 use Rattle.circuit.specs.Run.{run}
 use Rattle.checking.specs.Clauses.{Clause, inputOf, gatesClauses, usedAfter, clausesOf, variablesOf, countP}
-use Rattle.checking.specs.Satisfaction.{variable, satisfies, spelled, traced, forced, Tells}
+use Rattle.checking.specs.Satisfaction.{variable, satisfies, spelled, Tells}
+use Rattle.checking.specs.Forced.{traced, forced}
 use Rattle.checking.specs.Stored.{stored, clausesIn, clausesRead, badRecord, BadAt, AllFit}
 use Rattle.checking.specs.Sizes.{totals, sizesOf}
 use Rattle.checking.specs.ClauseRows.{RowsHold, clauseRows, WordsHold, wordsRows}

@@ -11,9 +11,9 @@ use Rattle.checking.specs.declared.clauses.Totals.{Totals}
 use Rattle.checking.specs.Miter.{miterOutcome, miterBuffer}
 use Rattle.checking.specs.Step.{Step, found, none, stepOutcome, stepBuffer}
 use Rattle.checking.specs.Reduce.{Reduced, reduceOutcome, reduceBuffer}
-use Rattle.checking.specs.Clauses.{Clause, clausesOf}
-use Rattle.checking.specs.Stored.{stored, clausesIn, clausesRead}
-use Rattle.checking.specs.Satisfaction.{Tells}
+use Rattle.checking.specs.Clauses.{clausesOf}
+use Rattle.checking.specs.Stored.{stored}
+use Rattle.checking.specs.Told.{Told}
 use Rattle.checking.specs.Emit.{emitOutcome, emitBuffer}
 
 -- a step or a full reduction, with any number as its n
@@ -48,14 +48,11 @@ miterLeaves (refused number place) buffer = []
 abbrev pub leftAfter : ℕ → List ℕ → List ℕ → List ℕ → List Call → List ℕ
 leftAfter n a b room calls = afterAll calls (miterLeaves (miterOutcome n a n b (length room)) (miterBuffer n a n b room))
 
--- what an emission with this answer and this final buffer says of A and B on n lines: it is served, the words that its answer counts are those of clauses, and these tell on which states A and B differ
+-- what an emission with this answer and this final buffer says of A and B on n lines: it is served, and its clauses tell on which states A and B differ
 pub record Emitted (n : ℕ) (a b : List ℕ) (answer : Outcome Totals) (buffer : List ℤ) : Type 0 where
   pub totals : Totals
   pub is-served : answer ≡ served totals
-  pub clauses : List Clause
-  pub are-read : clausesIn (take (totals .words) buffer) ≡ clausesRead clauses
-  pub counted : length clauses ≡ totals .clauses
-  pub tells : Tells n (totals .variables) clauses (gatesOf a) (gatesOf b)
+  pub told : Told n a b totals buffer
 
 -- of A and B as words of cascades on n lines, a buffer for their miter, a list of calls, a clause buffer, and the answer and the final buffer of an emission of the gates that then stand
 pub record Claim (n : ℕ) (a b room : List ℕ) (calls : List Call) (out : List ℤ) (answer : Outcome Totals) (buffer : List ℤ) : Type 0 where

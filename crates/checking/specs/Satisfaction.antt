@@ -1,17 +1,15 @@
--- Assignments, what satisfies a clause list, and the assignment that an input forces.
+-- Assignments, what satisfies clauses, the input that an assignment spells, and what clauses tell of two cascades.
 use mathlib.Core.Path.{_≡_}
 use mathlib.Core.Logic.{_↔_}
-use mathlib.Core.Bool.{Bool, true, false, not, _&&_, xor, cond}
-use mathlib.Core.List.{List, [], _∷_, _++_, map}
+use mathlib.Core.Bool.{Bool, true, false, not, _&&_, cond}
+use mathlib.Core.List.{List, [], _∷_}
 use Prim.Native.Nat.{ℕ, zero, suc, _+_, _%_, _^_, _≤_}
 use lib.Dec.{eqb, leb}
 use lib.IntN.{ℤ, pos, negsuc}
 use lib.ListN.{length, getD}
-use Rattle.bits.specs.Digits.{bit}
 use Rattle.circuit.specs.declared.gate.Gate.{Gate}
-use Rattle.circuit.specs.Gate.{Control, controlsOf, allMet, apply}
-use Rattle.circuit.specs.Run.{run, Equal, Differs}
-use Rattle.checking.specs.Clauses.{Clause, OR, XOR, upFrom}
+use Rattle.circuit.specs.Run.{Equal, Differs}
+use Rattle.checking.specs.Clauses.{Clause, OR, XOR}
 
 -- an assignment is the list of the values of variables 1, 2, ..; what is no variable of it counts as false
 abbrev pub variable : List Bool → ℕ → Bool
@@ -63,27 +61,6 @@ clauseLiterals (XOR ls) = ls
 abbrev pub ClausesWithin : ℕ → List Clause → Type 0
 ClausesWithin v [] = Unit {0}
 ClausesWithin v (c ∷ cs) = LiteralsWithin v (clauseLiterals c) × ClausesWithin v cs
-
--- the values that an input forces: of a gate's new variables, by its controls and its target, for the state s before it
-abbrev pub gateValues : ℕ → ℕ → List Control → List Bool
-gateValues s target [] = xor (bit s target) true ∷ []
-gateValues s target (c ∷ []) = xor (bit s target) (allMet s (c ∷ [])) ∷ []
-gateValues s target (c ∷ d ∷ cs) = allMet s (c ∷ d ∷ cs) ∷ xor (bit s target) (allMet s (c ∷ d ∷ cs)) ∷ []
-
-unfoldable pub gatesValues : ℕ → List Gate → List Bool
-gatesValues s [] = []
-gatesValues s (g ∷ gs) = gateValues s (g .target) (controlsOf g) ++ gatesValues (apply g s) gs
-
--- of the d: whether two states differ on a line
-abbrev pub differences : ℕ → ℕ → List ℕ → List Bool
-differences s r lines = map (λ (line : ℕ). xor (bit s line) (bit r line)) lines
-
--- of the inputs and the gates' variables, and of all
-unfoldable pub traced : ℕ → ℕ → List Gate → List Bool
-traced n s gs = map (bit s) (upFrom 0 n) ++ gatesValues s gs
-
-unfoldable pub forced : ℕ → ℕ → List Gate → List Bool
-forced n s gs = traced n s gs ++ differences s (run gs s) (upFrom 0 n)
 
 -- the clauses cs over V variables tell on which states of n lines two cascades differ
 pub record Tells (n variables : ℕ) (cs : List Clause) (a b : List Gate) : Type 0 where

@@ -1,5 +1,5 @@
 -- Demand 3 of what the code answers and leaves. Assumes nothing.
-use mathlib.Core.Path.{_≡_, sym, ap, ap₂, subst, subst₂, _∙_}
+use mathlib.Core.Path.{_≡_, refl, sym, ap, ap₂, subst, subst₂, _∙_}
 use mathlib.Core.List.{List}
 use Prim.Native.Nat.{ℕ, _+_, _*_, _≤_}
 use native.Mathlib.Omega.{arith}
@@ -8,14 +8,18 @@ use lib.ListN.{length, take, length-take}
 use Rattle.circuit.specs.Gate.{maxGates, maxMiterGates}
 use Rattle.circuit.specs.Outcome.{Outcome, served, refused, written, Yields}
 use Rattle.circuit.specs.Words.{gatesOf, wordsOf, Cascade}
-use Rattle.circuit.proofs.Outcome.{then-served, then-refused}
+use Rattle.circuit.proofs.Outcome.{then-served, then-refused, then-both}
 use Rattle.checking.specs.declared.clauses.Totals.{Totals}
 use Rattle.checking.specs.Miter.{miterGates, miterOutcome, miterBuffer}
+use Rattle.checking.specs.Clauses.{clausesOf}
+use Rattle.checking.specs.Stored.{stored}
+use Rattle.checking.specs.Told.{Told, ServedTells}
 use Rattle.checking.specs.Emit.{emitOutcome, emitBuffer}
 use Rattle.checking.specs.Equality.{Call, afterAll, miterLeaves, leftAfter, Emitted, Claim}
 use Rattle.checking.specs.Check.{standing, held, checkedOutcome, roomLeft, clausesLeft, Checks}
 use Rattle.checking.proofs.miter.Laws.{miter-laws}
-use Rattle.checking.proofs.Equality.{equality}
+use Rattle.checking.proofs.clauses.Answers.{emit-laws}
+use Rattle.checking.proofs.Equality.{served-same, equality}
 use Rattle.checking.proofs.check.Laws.{calls-leave}
 
 module _ (na : ℕ) (a b : List ℕ) (calls : List Call) (room : List ℕ) (k : ℕ) (made : miterOutcome na a na b (length room) ≡ served k) where
@@ -58,6 +62,41 @@ module _ (na : ℕ) (a b : List ℕ) (calls : List Call) (room : List ℕ) (out 
       (subst (λ (n : ℕ). last ≡ clausesLeft (miterOutcome na a n b (length room)) na a n b calls room out) (sym l) f)
       i j c (subst (λ (n : ℕ). Cascade n b maxGates j) (sym l) d) fits
 
+  -- ---- where it is served
+
+  -- the room that the emission had
+  emitted-room : (k : ℕ) → miterOutcome na a na b (length room) ≡ served k → (t : Totals) → checkedOutcome na a na b calls room (length out) ≡ served t
+      → length (stored (clausesOf na (gatesOf (leftAfter na a b room calls)))) ≤ length out
+  emitted-room k made t e =
+      let (c, h) = emit-laws .emit-served na (leftAfter na a b room calls) (length out) t .0 (sym (answered na a b calls room k made out) ∙ e) in
+      omega (arith, ap (λ (x : Totals). x .words) (c .sizes))
+
+  told-same : told ≡ checkedOutcome na a na b calls room (length out) → last ≡ clausesLeft (miterOutcome na a na b (length room)) na a na b calls room out
+      → ServedTells na a na b told last
+  unfolding checkedOutcome
+  told-same e f t s =
+      let (k, made, emits) = then-both (miterOutcome na a na b (length room)) _ t (sym e ∙ s) in
+      let m = miter-laws .miter-served na a na b (length room) k .0 made in
+      let q = same-lines e f (m .first) (m .second) (m .first-good) (m .second-good) (m .fits) .emission (emitted-room k made t (sym e ∙ s)) in
+      let same : q .totals ≡ t = served-same (q .totals) t (sym (q .is-served) ∙ s) in
+      record {
+        first = m .first;
+        first-good = m .first-good;
+        second = m .second;
+        second-good = m .second-good;
+        lines = refl;
+        told = subst (λ (x : Totals). Told na a b x last) same (q .told);
+      }
+
+  pub check-tells : (nb : ℕ) → told ≡ checkedOutcome na a nb b calls room (length out) → last ≡ clausesLeft (miterOutcome na a nb b (length room)) na a nb b calls room out
+      → ServedTells na a nb b told last
+  unfolding checkedOutcome
+  check-tells nb e f t s =
+      let (k, made, emits) = then-both (miterOutcome na a nb b (length room)) _ t (sym e ∙ s) in
+      let l : na ≡ nb = miter-laws .miter-served na a nb b (length room) k .0 made .lines in
+      subst (λ (n : ℕ). told ≡ checkedOutcome na a n b calls room (length out) → last ≡ clausesLeft (miterOutcome na a n b (length room)) na a n b calls room out → ServedTells na a n b told last)
+      l told-same e f t s
+
 -- ---- what the function owes, where the miter is refused and where it is served
 
 module _ (na : ℕ) (a : List ℕ) (nb : ℕ) (b : List ℕ) (calls : List Call) (room : List ℕ) where
@@ -80,7 +119,7 @@ module _ (na : ℕ) (a : List ℕ) (nb : ℕ) (b : List ℕ) (calls : List Call)
   module _ (out : List ℤ) (told : Outcome Totals) (words : List ℕ) (last : List ℤ) where
     owed : told ≡ checkedOutcome na a nb b calls room (length out) → words ≡ roomLeft (miterOutcome na a nb b (length room)) na a nb b calls room
         → last ≡ clausesLeft (miterOutcome na a nb b (length room)) na a nb b calls room out → Checks na a nb b calls room out told words last
-    owed e f g = record { answer = e; words = f; clauses = g; claim = check-claim na a b calls room out told last nb e g }
+    owed e f g = record { answer = e; words = f; clauses = g; tells = check-tells na a b calls room out told last nb e g; claim = check-claim na a b calls room out told last nb e g }
 
     pub check-refused : (number place : ℕ) → miterOutcome na a nb b (length room) ≡ refused number place → told ≡ refused number place
         → words ≡ miterBuffer na a nb b room → last ≡ out → Checks na a nb b calls room out told words last

@@ -14,7 +14,8 @@ use Rattle.circuit.specs.Gate.{maxLines}
 use Rattle.circuit.specs.Words.{allValid}
 use Rattle.circuit.specs.Run.{run}
 use Rattle.checking.specs.Clauses.{Clause, upFrom, clausesOf, variablesOf}
-use Rattle.checking.specs.Satisfaction.{Satisfying, spelled, gatesValues, differences, traced, forced, Tells}
+use Rattle.checking.specs.Satisfaction.{Satisfying, spelled, Tells}
+use Rattle.checking.specs.Forced.{gatesValues, differences, traced, forced}
 use Rattle.checking.proofs.clauses.Forced.{spelled-below, spelled-digits, length-forced, list-forced}
 use Rattle.checking.proofs.clauses.Bounds.{clauses-within}
 
