@@ -1,34 +1,22 @@
 // From two cascades to clauses, with lists of calls on their miter: for each the answer and then the miter's buffer.
 
 use checking::clauses::SizesAnswer;
-use libc::STDOUT_FILENO;
-
-fn print_words(words: &[u64]) {
-    let mut i = 0;
-    while i < words.len() {
-        io::print_decimal(STDOUT_FILENO, words[i]);
-        i += 1;
-        if i < words.len() {
-            io::write_all(STDOUT_FILENO, b" ");
-        }
-    }
-    io::write_all(STDOUT_FILENO, b"\n");
-}
 
 // The variables, clauses and words, or a refusal's number and place; then the buffer of thirteen words that held 9.
 fn print_check(na: u64, a: &[u64], nb: u64, b: &[u64], calls: &[u64], out: &mut [i16]) {
     let mut room = [9u64; 13];
     match checking::check::check(na, a, nb, b, calls, &mut room, out) {
         SizesAnswer::Sizes(totals) => {
-            io::write_all(STDOUT_FILENO, b"clauses ");
-            print_words(&[totals.variables, totals.clauses, totals.words]);
+            rows::print_row(
+                b"clauses ",
+                &[totals.variables, totals.clauses, totals.words],
+            );
         }
         SizesAnswer::Refused(why) => {
-            io::write_all(STDOUT_FILENO, b"refused ");
-            print_words(&[why.number, why.place]);
+            rows::print_row(b"refused ", &[why.number, why.place]);
         }
     }
-    print_words(&room);
+    rows::print_row(b"", &room);
 }
 
 // A is t2+0+1 t1+2, and B is t1+2.

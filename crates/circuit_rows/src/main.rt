@@ -2,43 +2,22 @@
 
 use circuit::run::RunAnswer;
 use circuit::words::CountAnswer;
-use libc::STDOUT_FILENO;
-
-fn print_pair(name: &[u8], number: u64, place: u64) {
-    io::write_all(STDOUT_FILENO, name);
-    io::print_decimal(STDOUT_FILENO, number);
-    io::write_all(STDOUT_FILENO, b" ");
-    io::print_decimal(STDOUT_FILENO, place);
-    io::write_all(STDOUT_FILENO, b"\n");
-}
 
 fn print_run(lines: u64, words: &[u64], state: u64) {
     match circuit::run::run(lines, words, state) {
-        RunAnswer::State(output) => print_pair(b"state ", state, output),
-        RunAnswer::Refused(why) => print_pair(b"refused ", why.number, why.place),
+        RunAnswer::State(output) => rows::print_row(b"state ", &[state, output]),
+        RunAnswer::Refused(why) => rows::print_row(b"refused ", &[why.number, why.place]),
     }
-}
-
-fn print_words(words: &[u64]) {
-    let mut i = 0;
-    while i < words.len() {
-        io::print_decimal(STDOUT_FILENO, words[i]);
-        i += 1;
-        if i < words.len() {
-            io::write_all(STDOUT_FILENO, b" ");
-        }
-    }
-    io::write_all(STDOUT_FILENO, b"\n");
 }
 
 // The answer, and then the buffer of eight words that held 1 to 8.
 fn print_inverse(lines: u64, words: &[u64]) {
     let mut out = [1u64, 2, 3, 4, 5, 6, 7, 8];
     match circuit::inverse::inverse(lines, words, &mut out) {
-        CountAnswer::Gates(gates) => print_pair(b"gates ", gates as u64, 0),
-        CountAnswer::Refused(why) => print_pair(b"refused ", why.number, why.place),
+        CountAnswer::Gates(gates) => rows::print_row(b"gates ", &[gates as u64, 0]),
+        CountAnswer::Refused(why) => rows::print_row(b"refused ", &[why.number, why.place]),
     }
-    print_words(&out);
+    rows::print_row(b"", &out);
 }
 
 fn main() {

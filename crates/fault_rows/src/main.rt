@@ -5,41 +5,21 @@ use checking::compare::DiffersAnswer;
 use circuit::words::CountAnswer;
 use libc::STDOUT_FILENO;
 
-fn print_pair(name: &[u8], number: u64, place: u64) {
-    io::write_all(STDOUT_FILENO, name);
-    io::print_decimal(STDOUT_FILENO, number);
-    io::write_all(STDOUT_FILENO, b" ");
-    io::print_decimal(STDOUT_FILENO, place);
-    io::write_all(STDOUT_FILENO, b"\n");
-}
-
-fn print_words(words: &[u64]) {
-    let mut i = 0;
-    while i < words.len() {
-        io::print_decimal(STDOUT_FILENO, words[i]);
-        i += 1;
-        if i < words.len() {
-            io::write_all(STDOUT_FILENO, b" ");
-        }
-    }
-    io::write_all(STDOUT_FILENO, b"\n");
-}
-
 fn print_first_difference(lines: u64, a: &[u64], b: &[u64]) {
     match checking::compare::first_difference(lines, a, lines, b) {
-        DifferenceAnswer::State(state) => print_pair(b"first difference ", state, 0),
+        DifferenceAnswer::State(state) => rows::print_row(b"first difference ", &[state, 0]),
         DifferenceAnswer::Nothing => {
             io::write_all(STDOUT_FILENO, b"none\n");
         }
-        DifferenceAnswer::Refused(why) => print_pair(b"refused ", why.number, why.place),
+        DifferenceAnswer::Refused(why) => rows::print_row(b"refused ", &[why.number, why.place]),
     }
 }
 
 fn print_differs(lines: u64, a: &[u64], b: &[u64], state: u64) {
     match checking::compare::differs(lines, a, lines, b, state) {
-        DiffersAnswer::Differ => print_pair(b"differ ", state, 0),
-        DiffersAnswer::Agree => print_pair(b"agree ", state, 0),
-        DiffersAnswer::Refused(why) => print_pair(b"refused ", why.number, why.place),
+        DiffersAnswer::Differ => rows::print_row(b"differ ", &[state, 0]),
+        DiffersAnswer::Agree => rows::print_row(b"agree ", &[state, 0]),
+        DiffersAnswer::Refused(why) => rows::print_row(b"refused ", &[why.number, why.place]),
     }
 }
 
@@ -47,10 +27,10 @@ fn print_differs(lines: u64, a: &[u64], b: &[u64], state: u64) {
 fn print_masks(lines: u64, suspect: &[u64], reference: &[u64], states: &[u64]) {
     let mut out = [9u64; 13];
     match checking::faults::fault_masks(lines, suspect, lines, reference, states, &mut out) {
-        CountAnswer::Gates(gates) => print_pair(b"gates ", gates as u64, 0),
-        CountAnswer::Refused(why) => print_pair(b"refused ", why.number, why.place),
+        CountAnswer::Gates(gates) => rows::print_row(b"gates ", &[gates as u64, 0]),
+        CountAnswer::Refused(why) => rows::print_row(b"refused ", &[why.number, why.place]),
     }
-    print_words(&out);
+    rows::print_row(b"", &out);
 }
 
 // The benchmark 3_17 gives 7, 1, 4, 3, 0, 2, 6, 5 on the states 0 to 7 (known, not from our documents);

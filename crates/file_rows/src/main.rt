@@ -6,13 +6,6 @@ use libc::STDOUT_FILENO;
 ghost use Prim.Native.Nat.{_≤_};
 ghost use lib.ListN.{length};
 
-fn print_pair(name: &[u8], first: u64, second: u64) {
-    io::write_all(STDOUT_FILENO, name);
-    io::print_decimal(STDOUT_FILENO, first);
-    io::write_all(STDOUT_FILENO, b" ");
-    io::print_decimal(STDOUT_FILENO, second);
-}
-
 // Lines, gates and bytes taken.
 fn print_read(text: &[u8]) {
     let mut out = [0u64; 3072];
@@ -22,13 +15,10 @@ fn print_read(text: &[u8]) {
             gates,
             taken,
         } => {
-            print_pair(b"read ", header.lines, gates as u64);
-            io::write_all(STDOUT_FILENO, b" ");
-            io::print_decimal(STDOUT_FILENO, taken as u64);
+            rows::print_row(b"read ", &[header.lines, gates as u64, taken as u64]);
         }
-        ReadAnswer::Refused(why) => print_pair(b"refused ", why.number, why.place),
+        ReadAnswer::Refused(why) => rows::print_row(b"refused ", &[why.number, why.place]),
     }
-    io::write_all(STDOUT_FILENO, b"\n");
 }
 
 // Copies the word to the start of the buffer where it fits, and tells how many bytes that are.
@@ -94,8 +84,7 @@ fn print_write(lines: u64, words: &[u64]) {
             }
         }
         WriteAnswer::Refused(why) => {
-            print_pair(b"refused ", why.number, why.place);
-            io::write_all(STDOUT_FILENO, b"\n");
+            rows::print_row(b"refused ", &[why.number, why.place]);
         }
     }
 }
@@ -105,45 +94,20 @@ fn main() {
     print_read(b"lines\t1\nend\n");
     print_read(b"lines\t64\ng\t63\t+0\t-9\t+10\t-62\nend\n");
     print_read(b"lines\t2\ng\t1\t+0\nend\nlines\t2\nend\n");
-    // Line 0: 65, 99 and 0 are 2, 100 and 02 are 1; a field too many and a missing LF come after the number.
+    // 65 lines are 2, 100 are 1.
     print_read(b"lines\t65\nend\n");
-    print_read(b"lines\t99\nend\n");
-    print_read(b"lines\t0\nend\n");
     print_read(b"lines\t100\nend\n");
-    print_read(b"lines\t02\nend\n");
-    print_read(b"lines\t65\tx\nend\n");
-    print_read(b"lines\t2\tx\nend\n");
-    print_read(b"lines\t2");
-    print_read(b"");
-    // A missing line has the next index; `end` without LF its own.
+    // A missing line has the next index.
     print_read(b"lines\t2\n");
-    print_read(b"lines\t2\ng\t0\n");
-    print_read(b"lines\t2\ng\t0\nend");
-    print_read(b"lines\t2\nend\t\n");
-    print_read(b"lines\t2\ng\nend\n");
-    // Field by field, form before value: 3 before a later 1, 1 before a later 3.
+    // 3 before a later 1; 4; 5.
     print_read(b"lines\t4\ng\t9\t?\nend\n");
-    print_read(b"lines\t4\ng\t0\t?\t+9\nend\n");
-    print_read(b"lines\t4\ng\t0\t+01\nend\n");
-    print_read(b"lines\t4\ng\t0\t+100\nend\n");
-    // After the fields: the LF, then 4 over all controls, then 5.
-    print_read(b"lines\t2\ng\t0\t+0");
     print_read(b"lines\t2\ng\t0\t+0\nend\n");
-    print_read(b"lines\t9\ng\t0\ng\t2\t+5\t+1\t-2\nend\n");
     print_read(b"lines\t9\ng\t0\t+3\t-3\nend\n");
-    print_read(b"lines\t9\ng\t0\t+1\t+2\t-8\t+7\nend\n");
-    // 1,024 gate lines are read. The 1,025th that starts `g` tab is 6, whatever its form; another line there is 1.
+    // 1,024 gate lines are read; the 1,025th is 6.
     print_long(1024, b"end\n");
     print_long(1025, b"end\n");
-    print_long(1024, b"g\t");
-    print_long(1024, b"g\t?\nend\n");
-    print_long(1024, b"g\nend\n");
-    print_long(1024, b"");
-    // The text of t1+0 t0 on two lines, of t63+10-9 on 64, refusals 2, 11 and 7, and 10 for a text of 33 bytes.
+    // The text of t1+0 t0 on two lines; refusal 7; 10 for a text of 33 bytes.
     print_write(2, &[1, 0, 1, 0, 0, 0]);
-    print_write(64, &[1024, 512, 63]);
-    print_write(65, &[0, 0, 0]);
-    print_write(2, &[0, 0]);
     print_write(2, &[0, 0, 0, 1, 0, 0]);
     print_write(64, &[1073742849, 0, 63, 0, 0, 0]);
 }

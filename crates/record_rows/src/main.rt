@@ -2,7 +2,6 @@
 
 use circuit::gate::Gate;
 use circuit::run::RunAnswer;
-use libc::STDOUT_FILENO;
 ghost use mathlib.Core.Path.{_≡_};
 ghost use Prim.Native.Nat.{_≤_};
 ghost use lib.ListN.{take};
@@ -16,20 +15,12 @@ fn run_first(n: u64, gates: [Gate; 1025], count: usize, state: u64) -> RunAnswer
     circuit::run::run_records(n, &gates[..count], state)
 }
 
-fn print_pair(name: &[u8], number: u64, place: u64) {
-    io::write_all(STDOUT_FILENO, name);
-    io::print_decimal(STDOUT_FILENO, number);
-    io::write_all(STDOUT_FILENO, b" ");
-    io::print_decimal(STDOUT_FILENO, place);
-    io::write_all(STDOUT_FILENO, b"\n");
-}
-
 fn print_run(n: u64, gates: [Gate; 1025], count: usize, state: u64)
     requires { ⌜ count ≤ 1025 ⌝ }
 {
     match run_first(n, gates, count, state) {
-        RunAnswer::State(output) => print_pair(b"state ", state, output),
-        RunAnswer::Refused(why) => print_pair(b"refused ", why.number, why.place),
+        RunAnswer::State(output) => rows::print_row(b"state ", &[state, output]),
+        RunAnswer::Refused(why) => rows::print_row(b"refused ", &[why.number, why.place]),
     }
 }
 
