@@ -8,7 +8,7 @@ use native.Mathlib.Omega.{arith}
 use lib.IntN.{ℤ}
 use lib.ListN.{length, take, drop}
 use borrow.Author.Tests.{le-leb}
-use Rattle.bits.specs.Lists.{over}
+use Rattle.bits.specs.Lists.{fold, over}
 use Rattle.circuit.specs.declared.gate.Gate.{Gate}
 use Rattle.circuit.specs.Gate.{maxLines, maxMiterGates}
 use Rattle.circuit.specs.Outcome.{Outcome, served, refused, written}
@@ -23,13 +23,13 @@ use Rattle.checking.specs.StepLaws.{Keeps, Stands}
 use Rattle.checking.specs.Reduce.{Reduced, reduceGates, reduceOutcome, reduceBuffer}
 use Rattle.checking.specs.Clauses.{Clause, clausesOf, variablesOf}
 use Rattle.checking.specs.Stored.{stored, clausesIn}
-use Rattle.checking.specs.Satisfaction.{spelled, Tells}
 use Rattle.checking.specs.Sizes.{totals, sizesOf, sizesOutcome}
 use Rattle.checking.specs.Emit.{emitOutcome, emitBuffer}
-use Rattle.checking.specs.Equality.{Call, stepOn, reduceOn, stepLeaves, reduceLeaves, after, afterAll, Emitted, EqualityOf, Equality}
+use Rattle.checking.specs.Equality.{Call, stepOn, reduceOn, stepLeaves, reduceLeaves, after, afterAll, miterLeaves, leftAfter, Emitted, EqualityOf, Equality}
 use Rattle.checking.proofs.miter.Laws.{miter-laws}
-use Rattle.checking.proofs.step.Laws.{step-laws}
+use Rattle.checking.proofs.step.Laws.{none-kept, step-laws}
 use Rattle.checking.proofs.reduce.Relation.{reduce-laws}
+use Rattle.checking.proofs.clauses.Meaning.{tells-same}
 use Rattle.checking.proofs.clauses.Laws.{clause-laws}
 
 -- ---- what stands
@@ -54,21 +54,23 @@ module _ (n : ℕ) (start : List Gate) (ws : List ℕ) (g : Standing n start ws)
       }
 
   module _ (m : ℕ) where
-    step-found : (k : ℕ) → Cascade m ws maxMiterGates k → (t : Step (List Gate)) → stepGates (gatesOf ws) ≡ t → Standing n start (stepLeaves (served (counted t)) (stepBuffer m ws) ws)
+    step-found : (k : ℕ) → Cascade m ws maxMiterGates k → (t : Step (List Gate)) → stepGates (gatesOf ws) ≡ t → Standing n start (stepLeaves (served (counted t)) (stepBuffer m ws))
     step-found k c (found i j kind hs) e =
         let s : Stands n ws (stepBuffer n ws) hs = step-laws .call-stands n ws (g .count) (g .cascade) i j kind hs e in
         let keeps : Keeps n (gatesOf ws) hs = step-laws .step-keeps n (gatesOf ws) (g .cascade .lines-high) (g .cascade .gates) i j kind hs (step-laws .step-steps (gatesOf ws) all-lines _ .0 e) in
         let b : stepBuffer n ws ≡ stepBuffer m ws = step-laws .call-lines n m ws (g .count) k (g .cascade) c .1 in
         subst (λ (l : List ℕ). Standing n start (take (3 * length hs) l)) b (kept (stepBuffer n ws) hs s keeps)
-    step-found k c none e = g
+    step-found k c none e = subst (Standing n start) (sym (none-kept m ws e)) g
 
     after-step : (o : Outcome ℕ) → checkOutcome m ws maxMiterGates ≡ o → Standing n start (after (stepOn m) ws)
     unfolding after stepOutcome
     after-step (served k) e =
         let c : Cascade m ws maxMiterGates k = check-served m ws maxMiterGates k e in
-        subst (λ (o : Outcome (Step ℕ)). Standing n start (stepLeaves o (stepBuffer m ws) ws)) (sym (step-laws .call-served m ws k c)) (step-found k c (stepGates (gatesOf ws)) refl)
+        subst (λ (o : Outcome (Step ℕ)). Standing n start (stepLeaves o (stepBuffer m ws))) (sym (step-laws .call-served m ws k c)) (step-found k c (stepGates (gatesOf ws)) refl)
     after-step (refused number place) e =
-        subst (λ (o : Outcome (Step ℕ)). Standing n start (stepLeaves o (stepBuffer m ws) ws)) (sym (then-refused _ _ number place e)) g
+        let o : stepOutcome m ws ≡ refused number place = then-refused _ _ number place e in
+        subst (λ (o : Outcome (Step ℕ)). Standing n start (stepLeaves o (stepBuffer m ws))) (sym o)
+        (subst (Standing n start) (sym (step-laws .call-untouched m ws number place o)) g)
 
     after-reduce : (o : Outcome ℕ) → checkOutcome m ws maxMiterGates ≡ o → Standing n start (after (reduceOn m) ws)
     unfolding after reduceOutcome
@@ -78,10 +80,12 @@ module _ (n : ℕ) (start : List Gate) (ws : List ℕ) (g : Standing n start ws)
         let s : Stands n ws (reduceBuffer n ws) (r .left) = reduce-laws .call-stands n ws (g .count) (g .cascade) in
         let keeps : Keeps n (gatesOf ws) (r .left) = reduce-laws .reduce-keeps n (gatesOf ws) (r .left) (r .pairs) (r .merges) (g .cascade .lines-high) (g .cascade .gates) (reduce-laws .reduce-reduces (gatesOf ws) all-lines r .0 refl) in
         let b : reduceBuffer n ws ≡ reduceBuffer m ws = reduce-laws .call-lines n m ws (g .count) k (g .cascade) c .1 in
-        subst (λ (o : Outcome (Reduced ℕ)). Standing n start (reduceLeaves o (reduceBuffer m ws) ws)) (sym (reduce-laws .call-served m ws k c))
+        subst (λ (o : Outcome (Reduced ℕ)). Standing n start (reduceLeaves o (reduceBuffer m ws))) (sym (reduce-laws .call-served m ws k c))
         (subst (λ (l : List ℕ). Standing n start (take (3 * length (r .left)) l)) b (kept (reduceBuffer n ws) (r .left) s keeps))
     after-reduce (refused number place) e =
-        subst (λ (o : Outcome (Reduced ℕ)). Standing n start (reduceLeaves o (reduceBuffer m ws) ws)) (sym (then-refused _ _ number place e)) g
+        let o : reduceOutcome m ws ≡ refused number place = then-refused _ _ number place e in
+        subst (λ (o : Outcome (Reduced ℕ)). Standing n start (reduceLeaves o (reduceBuffer m ws))) (sym o)
+        (subst (Standing n start) (sym (reduce-laws .call-untouched m ws number place o)) g)
 
 after-call : (n : ℕ) (start : List Gate) (ws : List ℕ) → Standing n start ws → (c : Call) → Standing n start (after c ws)
 after-call n start ws g (stepOn m) = after-step n start ws g m (checkOutcome m ws maxMiterGates) refl
@@ -92,19 +96,10 @@ unfolding afterAll
 after-calls n start [] ws g = g
 after-calls n start (c ∷ calls) ws g = after-calls n start calls (after c ws) (after-call n start ws g c)
 
--- ---- what the clauses tell
-
--- two functions that agree exactly where two others do
-tells-same : (n variables : ℕ) (cs : List Clause) (f g p q : ℕ → ℕ) → ((x : ℕ) → (f x ≡ g x) ↔ (p x ≡ q x)) → Tells n variables cs f g → Tells n variables cs p q
-tells-same n variables cs f g p q e t =
-    record {
-      equal = ((λ h. t .equal .0 (λ x l. e x .1 (h x l))), (λ h x l. e x .0 (t .equal .1 h x l)));
-      differing = λ x l h. t .differing x l (λ i. h (e x .0 i));
-      no-other = λ σ s. let (l, h) = t .no-other σ s in (l, (λ i. h (e (spelled n σ) .1 i)));
-      within = t .within;
-    }
-
 -- ---- the emission
+
+pub served-same : (t u : Totals) → served t ≡ served u → t ≡ u
+served-same t u e = cc
 
 -- an answer and a buffer that are those of the clause list of the gates that stand
 pub record Lists (n : ℕ) (gs : List Gate) (out : List ℤ) (answer : Outcome Totals) (buffer : List ℤ) : Type 0 where
@@ -137,7 +132,8 @@ module _ (n : ℕ) (a b ws : List ℕ) (out : List ℤ) (g : Standing n (miterGa
   abbrev cs : List Clause
   cs = clausesOf n gs
 
-  same-states : (x : ℕ) → (run gs x ≡ x) ↔ (run (gatesOf a) x ≡ run (gatesOf b) x)
+  same-states : (x : ℕ) → (run gs x ≡ run [] x) ↔ (run (gatesOf a) x ≡ run (gatesOf b) x)
+  unfolding fold
   same-states x =
       let m = miter-laws .identity (gatesOf a) (gatesOf b) x in
       ((λ e. m .0 (sym (g .same x) ∙ e)), (λ e. g .same x ∙ m .1 e))
@@ -147,12 +143,15 @@ module _ (n : ℕ) (a b ws : List ℕ) (out : List ℤ) (g : Standing n (miterGa
       record {
         totals = totals (variablesOf n gs) (length cs) (length (stored cs));
         is-served = l .counts;
-        clauses = cs;
-        are-read = ap (λ (ws : List ℤ). clausesIn (take (length (stored cs)) ws)) (l .words) ∙ clause-laws .read-back cs (drop (length (stored cs)) out);
-        counted = refl;
-        tells =
-            tells-same n (variablesOf n gs) cs (run gs) (λ x. x) (run (gatesOf a)) (run (gatesOf b)) same-states
-            (clause-laws .lists-tell n gs (g .cascade .lines-high) (g .cascade .gates));
+        told =
+            record {
+              clauses = cs;
+              are-read = ap (λ (ws : List ℤ). clausesIn (take (length (stored cs)) ws)) (l .words) ∙ clause-laws .read-back cs (drop (length (stored cs)) out);
+              counted = refl;
+              tells =
+                  tells-same n (variablesOf n gs) cs gs [] (gatesOf a) (gatesOf b) same-states
+                  (clause-laws .list-tells n gs (g .cascade .lines-high) (g .cascade .gates));
+            };
       }
 
 -- ---- the whole claim
@@ -165,13 +164,14 @@ claimed emits leaves by n a b i j c d room fits calls out =
     let m = miter-laws .miter-stands n a n b room k s in
     let first : Standing n (miterGates (gatesOf a) (gatesOf b)) (take (3 * k) (miterBuffer n a n b room)) =
     record { count = k; cascade = m .cascade; same = λ x. ap (λ (l : List Gate). run l x) (m .gates) } in
-    let ws : List ℕ = afterAll calls (take (3 * k) (miterBuffer n a n b room)) in
-    let last : Standing n (miterGates (gatesOf a) (gatesOf b)) ws = after-calls n (miterGates (gatesOf a) (gatesOf b)) calls (take (3 * k) (miterBuffer n a n b room)) first in
+    let start : take (3 * k) (miterBuffer n a n b room) ≡ miterLeaves (miterOutcome n a n b (length room)) (miterBuffer n a n b room) =
+    sym (ap (λ (o : Outcome ℕ). miterLeaves o (miterBuffer n a n b room)) s) in
+    let ws : List ℕ = leftAfter n a b room calls in
+    let last : Standing n (miterGates (gatesOf a) (gatesOf b)) ws =
+    after-calls n (miterGates (gatesOf a) (gatesOf b)) calls _ (subst (Standing n (miterGates (gatesOf a) (gatesOf b))) start first) in
     record {
       gates = k;
       miter-served = s;
-      standing = ws;
-      stands = refl;
       emission = λ h. emitted n a b ws out last (emits n ws (length out)) (leaves n ws out) (by n ws (last .count) out (last .cascade) h);
     }
 

@@ -1,32 +1,33 @@
--- Demand 3 of an emitter of any clause list, for a cascade against the empty one; so the stand-ins have it not. Assumes nothing.
-use mathlib.Core.Path.{_≡_, refl, sym, ap, subst, _∙_}
-use mathlib.Core.Bool.{Bool, true, false}
-use mathlib.Core.List.{List, [], _∷_, append-nil}
-use Prim.Native.Nat.{ℕ, _+_, _≤_}
+-- Demand 3 of an emitter of any clause list; so the stand-ins have it not. Assumes nothing.
+use mathlib.Core.Path.{_≡_, refl, sym, ap, subst, subst₂, _∙_}
+use mathlib.Core.Bool.{Bool, true, false, false≢true}
+use mathlib.Core.List.{List, [], _∷_, _++_}
+use Prim.Native.Nat.{ℕ, _+_, _-_, _≤_, _<_}
 use native.Mathlib.Omega.{arith}
 use lib.IntN.{ℤ, pos}
-use lib.ListN.{length, take, drop, replicate, length-replicate}
+use lib.ListN.{length, take, drop, replicate, length-append, length-replicate}
 use borrow.Author.Tests.{le-leb}
 use Rattle.bits.specs.Lists.{fold, over}
 use Rattle.circuit.specs.declared.gate.Gate.{Gate}
-use Rattle.circuit.specs.Gate.{maxGates}
+use Rattle.circuit.specs.Gate.{maxLines, maxGates, maxMiterGates, valid, fires, inverted, apply}
 use Rattle.circuit.specs.Outcome.{Outcome, served, written}
-use Rattle.circuit.specs.Words.{gatesOf, allValid, Cascade}
-use Rattle.circuit.specs.Run.{run}
+use Rattle.bits.proofs.Bools.{both}
+use Rattle.circuit.specs.Words.{gatesOf, wordsOf, allValid, Cascade}
 use Rattle.circuit.proofs.Outcome.{demand-met}
+use Rattle.circuit.proofs.words.Laws.{gates-words, words-cascade}
 use Rattle.checking.specs.declared.clauses.Totals.{Totals}
 use Rattle.checking.specs.Clauses.{Clause, clausesOf, variablesOf}
 use Rattle.checking.specs.Stored.{stored, clausesIn, clausesRead}
 use Rattle.checking.specs.Satisfaction.{satisfies, Tells}
 use Rattle.checking.specs.Sizes.{totals}
-use Rattle.checking.specs.Miter.{miterGates}
-use Rattle.checking.specs.ClauseLaws.{withoutLater, ofFirst, ofFirstVariables}
-use Rattle.checking.specs.Equality.{afterAll}
-use Rattle.checking.specs.EqualityLaws.{listOutcome, listBuffer, EqualityOfList, EqualityLaws}
+use Rattle.checking.specs.Miter.{miterGates, miterBuffer}
+use Rattle.checking.specs.Equality.{afterAll, miterLeaves, leftAfter}
+use Rattle.checking.specs.EqualityLaws.{listOutcome, listBuffer, EqualityOfList, withoutLater, ofFirst, ofFirstVariables, EqualityLaws}
 use Rattle.checking.proofs.miter.Laws.{miter-laws}
 use Rattle.checking.proofs.clauses.Laws.{clause-laws}
-use Rattle.checking.proofs.clauses.StandIns.{once, twice, once-valid, twice-valid, once-told, twice-told, free, free-satisfies, first-satisfied}
-use Rattle.checking.proofs.Equality.{equality, claimed}
+use Rattle.checking.proofs.clauses.Meaning.{told-alike}
+use Rattle.checking.proofs.clauses.StandIns.{free, controlled, nots-valid, half, first, second, start, miter-split, start-length, start-taken, start-valid, last-runs, unlike, variables-same, without-same}
+use Rattle.checking.proofs.Equality.{served-same, equality, claimed}
 
 module _ (variables : ℕ → List Gate → ℕ) (clauses : ℕ → List Gate → List Clause) where
   -- where there is room, the list stands
@@ -44,93 +45,120 @@ our-list =
     claimed (listOutcome variablesOf clausesOf) (listBuffer variablesOf clausesOf)
     (λ n ws k out c room. record { counts = list-served variablesOf clausesOf n ws (length out) room; words = list-left variablesOf clausesOf n ws out room })
 
-served-same : (t u : Totals) → served t ≡ served u → t ≡ u
-served-same t u e = cc
-
 read-same : (xs ys : List Clause) → clausesRead xs ≡ clausesRead ys → xs ≡ ys
 read-same xs ys e = cc
 
--- the empty cascade, and a miter with it
-none-valid : (n : ℕ) → allValid n (gatesOf []) ≡ true
-unfolding gatesOf allValid
-none-valid n = refl
+-- what demand 3 says of the list of a miter
+module _ (variables : ℕ → List Gate → ℕ) (clauses : ℕ → List Gate → List Clause) (holds : EqualityOfList variables clauses) where
+  module _ (n : ℕ) (a b : List ℕ) (i j : ℕ) (c : Cascade n a maxGates i) (d : Cascade n b maxGates j) where
+    abbrev gs : List Gate
+    gs = miterGates (gatesOf a) (gatesOf b)
 
-against-none : (gs : List Gate) → miterGates gs (gatesOf []) ≡ gs
-unfolding gatesOf
-against-none gs = append-nil gs
+    abbrev cs : List Clause
+    cs = clauses n gs
 
-none-runs : run (gatesOf []) ≡ (λ (x : ℕ). x)
-unfolding gatesOf fold
-none-runs = refl
+    abbrev out : List ℤ
+    out = replicate (length (stored (clausesOf n gs)) + length (stored cs)) (pos 0)
 
--- what demand 3 says of the list of a cascade
-module _ (variables : ℕ → List Gate → ℕ) (clauses : ℕ → List Gate → List Clause) (holds : EqualityOfList variables clauses)
-    (n : ℕ) (a : List ℕ) (i : ℕ) (c : Cascade n a maxGates i) where
-  abbrev gs : List Gate
-  gs = gatesOf a
+    list-told : Tells n (variables n gs) cs (gatesOf a) (gatesOf b)
+    unfolding afterAll
+    list-told =
+        let claim = holds n a b i j c d (a ++ b) (omega (arith, length-append a b)) [] out in
+        let ws : List ℕ = leftAfter n a b (a ++ b) [] in
+        let same : gatesOf ws ≡ gs =
+        ap (λ (o : Outcome ℕ). gatesOf (miterLeaves o (miterBuffer n a n b (a ++ b)))) (claim .miter-served)
+        ∙ miter-laws .miter-stands n a n b (a ++ b) (claim .gates) (claim .miter-served) .gates in
+        let long : length out ≡ length (stored (clausesOf n gs)) + length (stored cs) = length-replicate _ _ in
+        let e = claim .emission (omega (arith, ap (λ (l : List Gate). length (stored (clausesOf n l))) same)) in
+        let room : length (stored (clauses n (gatesOf ws))) ≤ length out = omega (arith, ap (λ (l : List Gate). length (stored (clauses n l))) same) in
+        let counts : totals (variables n (gatesOf ws)) (length (clauses n (gatesOf ws))) (length (stored (clauses n (gatesOf ws)))) ≡ e .totals =
+        served-same _ _ (sym (list-served variables clauses n ws (length out) room) ∙ e .is-served) in
+        let read : clauses n (gatesOf ws) ≡ e .told .clauses =
+        read-same _ _
+        (sym (clause-laws .read-back (clauses n (gatesOf ws)) (drop (length (stored (clauses n (gatesOf ws)))) out))
+        ∙ ap (λ (l : List ℤ). clausesIn (take (length (stored (clauses n (gatesOf ws)))) l)) (sym (list-left variables clauses n ws out room))
+        ∙ ap (λ (t : Totals). clausesIn (take (t .words) (listBuffer variables clauses n ws out))) counts
+        ∙ e .told .are-read) in
+        let v : e .totals .variables ≡ variables n gs = sym (ap (λ (t : Totals). t .variables) counts) ∙ ap (variables n) same in
+        let l : e .told .clauses ≡ cs = sym read ∙ ap (clauses n) same in
+        subst (λ (m : ℕ). Tells n m cs (gatesOf a) (gatesOf b)) v (subst (λ (l : List Clause). Tells n (e .totals .variables) l (gatesOf a) (gatesOf b)) l (e .told .tells))
 
-  abbrev cs : List Clause
-  cs = clauses n gs
-
-  abbrev out : List ℤ
-  out = replicate (length (stored (clausesOf n gs)) + length (stored cs)) (pos 0)
-
-  list-told : Tells n (variables n gs) cs (run gs) (λ x. x)
-  unfolding afterAll
-  list-told =
-      let claim = holds n a [] i 0 c (record { lines-low = c .lines-low; lines-high = c .lines-high; size = refl; few = omega arith; gates = none-valid n }) a (omega arith) [] out in
-      let ws : List ℕ = claim .standing in
-      let same : gatesOf ws ≡ gs = ap gatesOf (claim .stands) ∙ miter-laws .miter-stands n a n [] a (claim .gates) (claim .miter-served) .gates ∙ against-none gs in
-      let long : length out ≡ length (stored (clausesOf n gs)) + length (stored cs) = length-replicate _ _ in
-      let e = claim .emission (omega (arith, ap (λ (l : List Gate). length (stored (clausesOf n l))) same)) in
-      let room : length (stored (clauses n (gatesOf ws))) ≤ length out = omega (arith, ap (λ (l : List Gate). length (stored (clauses n l))) same) in
-      let counts : totals (variables n (gatesOf ws)) (length (clauses n (gatesOf ws))) (length (stored (clauses n (gatesOf ws)))) ≡ e .totals =
-      served-same _ _ (sym (list-served variables clauses n ws (length out) room) ∙ e .is-served) in
-      let read : clauses n (gatesOf ws) ≡ e .clauses =
-      read-same _ _
-      (sym (clause-laws .read-back (clauses n (gatesOf ws)) (drop (length (stored (clauses n (gatesOf ws)))) out))
-      ∙ ap (λ (l : List ℤ). clausesIn (take (length (stored (clauses n (gatesOf ws)))) l)) (sym (list-left variables clauses n ws out room))
-      ∙ ap (λ (t : Totals). clausesIn (take (t .words) (listBuffer variables clauses n ws out))) counts
-      ∙ e .are-read) in
-      let v : e .totals .variables ≡ variables n gs = sym (ap (λ (t : Totals). t .variables) counts) ∙ ap (variables n) same in
-      let l : e .clauses ≡ cs = sym read ∙ ap (clauses n) same in
-      subst (λ (m : ℕ). Tells n m cs (run gs) (λ x. x)) v (subst (λ (l : List Clause). Tells n (e .totals .variables) l (run gs) (λ x. x)) l
-      (subst (λ (f : ℕ → ℕ). Tells n (e .totals .variables) (e .clauses) (run gs) f) none-runs (e .tells)))
+  -- the same by gates
+  gates-told : (n : ℕ) (a b : List Gate) → 1 ≤ n → n ≤ maxLines → length a ≤ maxGates → length b ≤ maxGates → allValid n a ≡ true → allValid n b ≡ true
+      → Tells n (variables n (miterGates a b)) (clauses n (miterGates a b)) a b
+  gates-told n a b low high k l v w =
+      subst₂ (λ (x y : List Gate). Tells n (variables n (miterGates x y)) (clauses n (miterGates x y)) x y) (gates-words a) (gates-words b)
+      (list-told n (wordsOf a) (wordsOf b) (length a) (length b) (words-cascade n a maxGates low high k v) (words-cascade n b maxGates low high l w))
 
 -- ---- the stand-ins
 
--- the words of NOT, and of NOT twice
-abbrev one : List ℕ
-one = 0 ∷ 0 ∷ 0 ∷ []
-
-abbrev two : List ℕ
-two = 0 ∷ 0 ∷ 0 ∷ one
-
-one-cascade : Cascade 1 one maxGates 1
-unfolding gatesOf
-one-cascade = record { lines-low = omega arith; lines-high = omega arith; size = refl; few = omega arith; gates = once-valid }
-
-two-cascade : Cascade 1 two maxGates 2
-unfolding gatesOf
-two-cascade = record { lines-low = omega arith; lines-high = omega arith; size = refl; few = omega arith; gates = twice-valid }
-
+-- NOT against nothing
 contradiction-refuted : (variables : ℕ → List Gate → ℕ) (cs : List Clause) → ((σ : List Bool) → satisfies σ cs ≡ false) → EqualityOfList variables (λ n gs. cs) → ⊥
-unfolding gatesOf
-contradiction-refuted variables cs never h = once-told (variables 1 once) cs never (list-told variables (λ n gs. cs) h 1 one 1 one-cascade)
+unfolding allValid valid fold apply inverted fires
+contradiction-refuted variables cs never h =
+    let t = gates-told variables (λ n gs. cs) h 1 (free ∷ []) [] (omega arith) (omega arith) (omega arith) (omega arith) refl refl in
+    let e : _≡_ {A = ℕ} 1 0 = t .equal .1 (λ σ sat. false≢true (sym (never σ) ∙ sat .satisfied)) 0 (omega arith) in
+    omega arith
 
-without-later-refuted : EqualityOfList variablesOf withoutLater → ⊥
-unfolding gatesOf
-without-later-refuted h = twice-told (variablesOf 1 twice) (withoutLater 1 twice) free free-satisfies (list-told variablesOf withoutLater h 1 two 2 two-cascade)
+-- on n lines, a miter that starts with m NOTs
+module _ (variables : ℕ → List Gate → ℕ) (clauses : ℕ → List Gate → List Clause) (holds : EqualityOfList variables clauses)
+    (m n : ℕ) (few : m < maxMiterGates) (low : 1 ≤ n) (high : n ≤ maxLines) (v : valid n free ≡ true) where
+  nots-told : (g : Gate) → valid n g ≡ true → Tells n (variables n (miterGates (first m) (second m g))) (clauses n (miterGates (first m) (second m g))) (first m) (second m g)
+  nots-told g w =
+      gates-told variables clauses holds n (first m) (second m g) low high
+      (omega (arith, length-replicate (half m) free)) (omega (arith, length-replicate (m - half m) free))
+      (nots-valid n v (half m)) (unfold allValid in both w (nots-valid n v (m - half m)))
 
-of-first-refuted : EqualityOfList ofFirstVariables ofFirst → ⊥
-unfolding gatesOf
-of-first-refuted h = let (σ, sat) = first-satisfied in twice-told (ofFirstVariables 1 twice) (ofFirst 1 twice) σ sat (list-told ofFirstVariables ofFirst h 1 two 2 two-cascade)
+-- NOT is the last gate, or a controlled one: the list is the same
+without-later-refuted : (m : ℕ) → m < maxMiterGates → EqualityOfList variablesOf (withoutLater m) → ⊥
+without-later-refuted m few h =
+    let a : List Gate = first m in
+    let b : List Gate = second m free in
+    let d : List Gate = second m controlled in
+    let t = nots-told variablesOf (withoutLater m) h m 2 few (omega arith) (omega arith) free-valid free free-valid in
+    let u = nots-told variablesOf (withoutLater m) h m 2 few (omega arith) (omega arith) free-valid controlled controlled-valid in
+    let s : Tells 2 (variablesOf 2 (miterGates a b)) (withoutLater m 2 (miterGates a b)) a d =
+    subst₂ (λ (k : ℕ) (cs : List Clause). Tells 2 k cs a d)
+    (sym (ap (variablesOf 2) (miter-split m free) ∙ variables-same 2 (start m) ∙ sym (ap (variablesOf 2) (miter-split m controlled))))
+    (sym (ap (withoutLater m 2) (miter-split m free) ∙ without-same m 2 (start m) (start-length m) ∙ sym (ap (withoutLater m 2) (miter-split m controlled)))) u in
+    unlike m (apply controlled) (controlled-keeps .0) (controlled-keeps .1) (
+      (λ e. sym (last-runs m controlled) ∙ miter-laws .identity a d 0 .1 (told-alike 2 _ _ a b a d t s 0 (omega arith) (miter-laws .identity a b 0 .0 (last-runs m free ∙ e)))),
+      (λ e. sym (last-runs m free) ∙ miter-laws .identity a b 0 .1 (told-alike 2 _ _ a d a b s t 0 (omega arith) (miter-laws .identity a d 0 .0 (last-runs m controlled ∙ e)))),
+    )
+  where
+    free-valid : valid 2 free ≡ true
+    free-valid = unfold valid in refl
+
+    controlled-valid : valid 2 controlled ≡ true
+    controlled-valid = unfold valid in refl
+
+    controlled-keeps : (apply controlled 0 ≡ 0) × (apply controlled 1 ≡ 1)
+    controlled-keeps = unfold apply valid inverted fires in (refl, refl)
+
+-- the list of the m NOTs tells of these
+of-first-refuted : (m : ℕ) → m < maxMiterGates → EqualityOfList (ofFirstVariables m) (ofFirst m) → ⊥
+unfolding ofFirst ofFirstVariables fold
+of-first-refuted m few h =
+    let a : List Gate = first m in
+    let b : List Gate = second m free in
+    let t : Tells 1 (variablesOf 1 (start m)) (clausesOf 1 (start m)) a b =
+    subst (λ (l : List Gate). Tells 1 (variablesOf 1 l) (clausesOf 1 l) a b) (start-taken m free)
+    (nots-told (ofFirstVariables m) (ofFirst m) h m 1 few (omega arith) (omega arith) free-valid free free-valid) in
+    let s : Tells 1 (variablesOf 1 (start m)) (clausesOf 1 (start m)) (start m) [] = clause-laws .list-tells 1 (start m) (omega arith) (start-valid m) in
+    unlike m (λ x. x) refl refl (
+      (λ e. told-alike 1 _ _ a b (start m) [] t s 0 (omega arith) (miter-laws .identity a b 0 .0 (last-runs m free ∙ e))),
+      (λ e. sym (last-runs m free) ∙ miter-laws .identity a b 0 .1 (told-alike 1 _ _ (start m) [] a b s t 0 (omega arith) e)),
+    )
+  where
+    free-valid : valid 1 free ≡ true
+    free-valid = unfold valid in refl
 
 pub equality-laws : EqualityLaws
 equality-laws =
     record {
       ours = equality;
       our-list = our-list;
+      list-told = list-told;
       contradiction-refuted = contradiction-refuted;
       without-later-refuted = without-later-refuted;
       of-first-refuted = of-first-refuted;

@@ -11,7 +11,7 @@ use Rattle.circuit.specs.Words.{allValid}
 use Rattle.checking.specs.declared.step.Kind.the-variants.{Cancel}
 use Rattle.checking.specs.Step.{differing, matchOf, scanFrom, searchFrom, replaced, found, none, stepGates}
 use Rattle.checking.specs.Reduce.{Reduced, reduceBy, reduceGates}
-use Rattle.checking.specs.StandIns.{StepOf, ReductionOf, alwaysNone, copying, idle, onceOnly, inventing, exchanging, StandInLaws}
+use Rattle.checking.specs.StandIns.{StepOf, ReductionOf, alwaysNone, copying, idle, onceOnly, inventing, exchanging, mergesOnly, StandInLaws}
 use Rattle.checking.proofs.step.Laws.{step-is, steps-step}
 use Rattle.checking.proofs.reduce.Relation.{reduce-is, reduces-reduce}
 
@@ -79,15 +79,23 @@ exchanged-refuted h =
     let e : reduceGates two .pairs ≡ reduceGates two .merges = ap (λ (r : Reduced (List Gate)). r .pairs) (pairs-told exchanging h two two-valid) in
     omega arith
 
+merges-only-refuted : ReductionOf mergesOnly → ⊥
+merges-only-refuted h =
+    let e : _≡_ {A = ℕ} 1 0 = sym (ap (λ (r : Reduced (List Gate)). r .pairs) two-reduced) ∙ ap (λ (r : Reduced (List Gate)). r .pairs) (pairs-told mergesOnly h two two-valid) in
+    omega arith
+
 pub stand-in-laws : StandInLaws
 stand-in-laws =
     record {
       ours = λ gs v. step-is gs v (stepGates gs) refl;
+      step-only = λ f h gs v. sym (steps-step gs v (f gs) (h gs v));
       none-refuted = none-refuted;
       copy-refuted = copy-refuted;
       ours-reduces = λ gs v. reduce-is gs v (reduceGates gs) refl;
+      reduction-only = λ f h gs v. sym (pairs-told f h gs v);
       idle-refuted = idle-refuted;
       once-refuted = once-refuted;
       invented-refuted = invented-refuted;
       exchanged-refuted = exchanged-refuted;
+      merges-only-refuted = merges-only-refuted;
     }

@@ -13,6 +13,7 @@ use Rattle.checking.specs.Miter.{miterOutcome, miterBuffer}
 use Rattle.checking.specs.Step.{Step, found, none, stepOutcome, stepBuffer}
 use Rattle.checking.specs.Reduce.{Reduced, reduceOutcome, reduceBuffer}
 use Rattle.checking.specs.Emit.{emitOutcome, emitBuffer}
+use Rattle.checking.specs.Told.{ServedTells}
 use Rattle.checking.specs.Equality.{Call, stepOn, reduceOn, Claim}
 
 -- two words a call: 0 for a step or anything else for a full reduction, and its n; a last word alone is no call
@@ -72,11 +73,12 @@ abbrev pub clausesLeft : Outcome ℕ → ℕ → List ℕ → ℕ → List ℕ �
 clausesLeft (served k) na a nb b calls room out = emitBuffer na (standing (held na a nb b calls room k)) out
 clausesLeft (refused number place) na a nb b calls room out = out
 
--- what the function owes: its answer, both buffers, and demand 3 of this answer and this clause buffer
+-- what the function owes: its answer, both buffers, that where it is served its clauses tell on which states the cascades differ, and demand 3 of this answer and this clause buffer
 pub record Checks (na : ℕ) (a : List ℕ) (nb : ℕ) (b : List ℕ) (calls : List Call) (room : List ℕ) (out : List ℤ)
     (told : Outcome Totals) (room-last : List ℕ) (out-last : List ℤ) : Type 0 where
   pub answer : told ≡ checkedOutcome na a nb b calls room (length out)
   pub words : room-last ≡ roomLeft (miterOutcome na a nb b (length room)) na a nb b calls room
   pub clauses : out-last ≡ clausesLeft (miterOutcome na a nb b (length room)) na a nb b calls room out
+  pub tells : ServedTells na a nb b told out-last
   pub claim : (i j : ℕ) → Cascade na a maxGates i → Cascade nb b maxGates j → na ≡ nb → length a + length b ≤ length room
-      → Claim (λ n ws size. told) (λ n ws buffer. out-last) na a b room calls out
+      → Claim na a b room calls out told out-last

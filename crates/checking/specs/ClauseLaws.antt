@@ -2,7 +2,7 @@
 use mathlib.Core.Path.{_≡_}
 use mathlib.Core.Logic.{_↔_}
 use mathlib.Core.Bool.{Bool, true}
-use mathlib.Core.List.{List, [], _∷_, _++_, map}
+use mathlib.Core.List.{List, [], _++_}
 use Prim.Native.Nat.{ℕ, suc, _+_, _^_, _<_, _≤_}
 use lib.IntN.{ℤ}
 use lib.ListN.{length, take}
@@ -11,32 +11,12 @@ use Rattle.circuit.specs.declared.gate.Gate.{Gate}
 use Rattle.circuit.specs.Gate.{maxLines, maxMiterGates}
 use Rattle.circuit.specs.Words.{allValid}
 use Rattle.circuit.specs.Run.{run}
-use Rattle.checking.specs.Clauses.{Clause, OR, plus, inputOf, gatesClauses, usedAfter, currentAfter, targeted, upFrom, differenceClauses, clausesOf, variablesOf, countP}
-use Rattle.checking.specs.Satisfaction.{variable, satisfies, spelled, traced, forced, Tells}
+use Rattle.checking.specs.Clauses.{Clause, inputOf, gatesClauses, usedAfter, clausesOf, variablesOf, countP}
+use Rattle.checking.specs.Satisfaction.{variable, satisfies, spelled, Tells}
+use Rattle.checking.specs.Forced.{traced, forced}
 use Rattle.checking.specs.Stored.{stored, clausesIn, clausesRead, badRecord, BadAt, AllFit}
 use Rattle.checking.specs.Sizes.{totals, sizesOf}
 use Rattle.checking.specs.ClauseRows.{RowsHold, clauseRows, WordsHold, wordsRows}
-
--- a clause list for each cascade tells on which states its run is not the identity
-abbrev pub ListsTell : (ℕ → List Gate → ℕ) → (ℕ → List Gate → List Clause) → Type 0
-ListsTell variables clauses =
-    (n : ℕ) (gs : List Gate) → n ≤ maxLines → allValid n gs ≡ true → Tells n (variables n gs) (clauses n gs) (run gs) (λ (x : ℕ). x)
-
--- 01's stand-ins: one fixed contradiction; the clauses of gates after the first dropped from the list; and the list of the first gate alone
-unfoldable pub contradiction : ℕ → List Gate → List Clause
-contradiction n gs = OR [] ∷ []
-
-unfoldable pub withoutLater : ℕ → List Gate → List Clause
-withoutLater n gs =
-    gatesClauses n inputOf (take 1 gs)
-    ++ (differenceClauses (targeted gs) inputOf (currentAfter n inputOf gs) (usedAfter n gs) (upFrom 0 n)
-    ++ (OR (map plus (upFrom (suc (usedAfter n gs)) n)) ∷ []))
-
-unfoldable pub ofFirst : ℕ → List Gate → List Clause
-ofFirst n gs = clausesOf n (take 1 gs)
-
-unfoldable pub ofFirstVariables : ℕ → List Gate → ℕ
-ofFirstVariables n gs = variablesOf n (take 1 gs)
 
 pub record ClauseLaws : Type 0 where
   -- the first n variables spell the state whose bit k is 1 exactly when variable k + 1 is true
@@ -48,11 +28,8 @@ pub record ClauseLaws : Type 0 where
   -- and the whole list exactly when besides the run changes the state that it spells
   pub list-forced : (n : ℕ) (gs : List Gate) → n ≤ maxLines → allValid n gs ≡ true → (σ : List Bool) → length σ ≡ variablesOf n gs
       → (satisfies σ (clausesOf n gs) ≡ true) ↔ ((σ ≡ forced n (spelled n σ) gs) × (run gs (spelled n σ) ≡ spelled n σ → ⊥))
-  -- so the list tells on which states the run is not the identity, and the stand-ins do not
-  pub lists-tell : ListsTell variablesOf clausesOf
-  pub contradiction-fails : ListsTell variablesOf contradiction → ⊥
-  pub without-later-fails : ListsTell variablesOf withoutLater → ⊥
-  pub of-first-fails : ListsTell ofFirstVariables ofFirst → ⊥
+  -- so the list tells on which states a cascade is not the identity: on which it and the empty cascade differ
+  pub list-tells : (n : ℕ) (gs : List Gate) → n ≤ maxLines → allValid n gs ≡ true → Tells n (variablesOf n gs) (clausesOf n gs) gs []
   -- stored words are read back by their own length, whatever follows them, and only the words of clauses are read
   pub read-back : (cs : List Clause) (rest : List ℤ) → clausesIn (take (length (stored cs)) (stored cs ++ rest)) ≡ clausesRead cs
   pub read-stored : (ws : List ℤ) (cs : List Clause) → clausesIn ws ≡ clausesRead cs → ws ≡ stored cs

@@ -9,11 +9,12 @@ use lib.ListN.{length, take, drop, getD}
 use Rattle.bits.specs.Digits.{bit}
 use Rattle.circuit.specs.declared.gate.Gate.{Gate}
 use Rattle.circuit.specs.Gate.{maxLines, notGate, valid, fires, apply}
-use Rattle.circuit.specs.Outcome.{served}
-use Rattle.circuit.specs.Words.{allValid}
+use Rattle.circuit.specs.Outcome.{served, Untouched}
+use Rattle.circuit.specs.Words.{gatesOf, allValid}
 use Rattle.circuit.specs.Run.{run, Differs}
 use Rattle.checking.specs.Compare.{Difference, none, lowestFrom, Says}
-use Rattle.checking.specs.Faults.{isFree, missing, maskWhere, faultMasks}
+use Rattle.checking.specs.Faults.{isFree, missing, maskWhere, faultMasks, faultOutcome, faultBuffer}
+use Rattle.checking.specs.RefusalLaws.{Every}
 
 -- ---- the sweep
 
@@ -44,6 +45,17 @@ pub record Masking (masks : ℕ → List Gate → List ℕ → List ℕ) : Type 
   pub size : (n : ℕ) (gs : List Gate) (xs : List ℕ) → length (masks n gs xs) ≡ 2 * length gs
   pub first : (n : ℕ) (gs : List Gate) (xs : List ℕ) (i k : ℕ) → i < length gs → (bit (getD (masks n gs xs) (2 * i) 0) k ≡ true) ↔ Candidate n gs xs i true k
   pub second : (n : ℕ) (gs : List Gate) (xs : List ℕ) (i k : ℕ) → i < length gs → (bit (getD (masks n gs xs) (2 * i + 1) 0) k ≡ true) ↔ Candidate n gs xs i false k
+
+-- the place of a gate's mask in the buffer: positive, then negative
+abbrev pub maskPlace : Bool → ℕ → ℕ
+maskPlace true i = 2 * i
+maskPlace false i = 2 * i + 1
+
+-- what stands in the last contents of a buffer after a served call on k gates of a suspect: exactly the candidates, and the rest as it was
+pub record MasksStand (n : ℕ) (suspect : List Gate) (states : List ℕ) (k : ℕ) (first last : List ℕ) : Type 0 where
+  pub long : length last ≡ length first
+  pub lines : (i line : ℕ) (positive : Bool) → i < k → (bit (getD last (maskPlace positive i) 0) line ≡ true) ↔ Candidate n suspect states i positive line
+  pub rest : drop (2 * k) last ≡ drop (2 * k) first
 
 -- 01's stand-ins: nothing struck, everything struck
 abbrev pub strikesNothing : ℕ → List Gate → List ℕ → List ℕ
@@ -78,6 +90,10 @@ pub record FaultLaws : Type 0 where
   pub masks : Masking faultMasks
   pub nothing-struck : Masking strikesNothing → ⊥
   pub all-struck : Masking strikesAll → ⊥
+  -- the call leaves them in its buffer, and all of it as it was where it is refused
+  pub masks-stand : (na : ℕ) (a : List ℕ) (nb : ℕ) (b states out : List ℕ) (k : ℕ) → faultOutcome na a nb b states (length out) ≡ served k
+      → MasksStand na (gatesOf a) states k out (faultBuffer na a nb b states out)
+  pub masks-untouched : (na : ℕ) (a : List ℕ) (nb : ℕ) (b states out : List ℕ) → Untouched (faultOutcome na a nb b states (length out)) out (faultBuffer na a nb b states out)
   -- for any fault: where the pattern does not match on a state, the repair leaves that state as it was
   pub repair-leaves : (pattern : Gate → ℕ → Bool) (repair : Gate → Gate) (gs : List Gate) (i : ℕ) → i < length gs → Repairs pattern repair (gateOf gs i)
       → (x : ℕ) → pattern (gateOf gs i) (run (take i gs) x) ≡ false → run (repairedAt i repair gs) x ≡ run gs x
@@ -89,3 +105,8 @@ pub record FaultLaws : Type 0 where
       → ((j : ℕ) → j < length xs → Differs n suspect reference (getD xs j 0)) → i < length suspect → k < n → isFree (gateOf suspect i) k ≡ true
       → (Candidate n suspect xs i positive k → ⊥)
       → (j : ℕ) × (j < length xs) × Differs n (repairedAt i (withControl positive k) suspect) reference (getD xs j 0)
+  -- no guilty gate is excluded: where the suspect with that control added to gate i agrees with the reference on every given state, the line stands in the buffer
+  pub guilty-stands : (na : ℕ) (a : List ℕ) (nb : ℕ) (b states out : List ℕ) (k : ℕ) → faultOutcome na a nb b states (length out) ≡ served k
+      → (i line : ℕ) (positive : Bool) → i < k → line < na → isFree (gateOf (gatesOf a) i) line ≡ true
+      → Every (λ x. run (repairedAt i (withControl positive line) (gatesOf a)) x ≡ run (gatesOf b) x) states
+      → bit (getD (faultBuffer na a nb b states out) (maskPlace positive i) 0) line ≡ true

@@ -7,12 +7,14 @@ pub mod ReduceLaws
 pub mod StandIns
 pub mod Clauses
 pub mod Satisfaction
+pub mod Forced
 pub mod Stored
 pub mod Sizes
 pub mod ClauseRows
 pub mod Emitter
 pub mod Emission
 pub mod Emit
+pub mod Told
 pub mod Equality
 pub mod Check
 pub mod ClauseLaws

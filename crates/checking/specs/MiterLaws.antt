@@ -6,7 +6,7 @@ use Prim.Native.Nat.{ℕ, _+_, _*_, _≤_, _<_}
 use lib.ListN.{length, take, drop}
 use Rattle.circuit.specs.declared.gate.Gate.{Gate}
 use Rattle.circuit.specs.Gate.{maxGates, maxMiterGates}
-use Rattle.circuit.specs.Outcome.{served, refused}
+use Rattle.circuit.specs.Outcome.{served, refused, Untouched}
 use Rattle.circuit.specs.Words.{gatesOf, Cascade, PairFault}
 use Rattle.circuit.specs.Run.{run}
 use Rattle.checking.specs.Miter.{miterGates, miterOutcome, miterBuffer}
@@ -39,4 +39,6 @@ pub record MiterLaws : Type 0 where
   pub miter-served : (na : ℕ) (a : List ℕ) (nb : ℕ) (b : List ℕ) (room k : ℕ) → (miterOutcome na a nb b room ≡ served k) ↔ MiterServed na a nb b room k
   -- and refused exactly by what is wrong
   pub miter-refused : (na : ℕ) (a : List ℕ) (nb : ℕ) (b : List ℕ) (room number place : ℕ) → (miterOutcome na a nb b room ≡ refused number place) ↔ MiterFault na a nb b room number place
+  -- what it leaves: the miter where it is served, and the buffer as it was where it is refused
+  pub miter-untouched : (na : ℕ) (a : List ℕ) (nb : ℕ) (b out : List ℕ) → Untouched (miterOutcome na a nb b (length out)) out (miterBuffer na a nb b out)
   pub miter-stands : (na : ℕ) (a : List ℕ) (nb : ℕ) (b out : List ℕ) (k : ℕ) → miterOutcome na a nb b (length out) ≡ served k → MiterStands na a nb b out k

@@ -7,7 +7,7 @@ use Prim.Native.Nat.{ℕ, _+_, _*_, _≤_}
 use lib.ListN.{length}
 use Rattle.circuit.specs.declared.gate.Gate.{Gate}
 use Rattle.circuit.specs.Gate.{maxLines, maxMiterGates}
-use Rattle.circuit.specs.Outcome.{served, refused}
+use Rattle.circuit.specs.Outcome.{served, refused, Untouched}
 use Rattle.circuit.specs.Words.{gatesOf, allValid, Cascade, WordsFault}
 use Rattle.checking.specs.declared.step.Kind.the-variants.{Cancel, RemoveControl, InvertControl}
 use Rattle.checking.specs.Step.{found, none}
@@ -30,7 +30,9 @@ pub record ReduceLaws : Type 0 where
   -- the call: served for a cascade, else refused by what is wrong
   pub call-served : (n : ℕ) (ws : List ℕ) (k : ℕ) → Cascade n ws maxMiterGates k → reduceOutcome n ws ≡ served (numbered (reduceGates (gatesOf ws)))
   pub call-refused : (n : ℕ) (ws : List ℕ) (number place : ℕ) → (reduceOutcome n ws ≡ refused number place) ↔ WordsFault n ws maxMiterGates number place
+  -- its words: the gates left, and zeros; as they were where it is refused
   pub call-stands : (n : ℕ) (ws : List ℕ) (k : ℕ) → Cascade n ws maxMiterGates k → Stands n ws (reduceBuffer n ws) (reduceGates (gatesOf ws) .left)
+  pub call-untouched : (n : ℕ) (ws : List ℕ) → Untouched (reduceOutcome n ws) ws (reduceBuffer n ws)
   -- the number given as n does not matter where it serves
   pub call-lines : (n m : ℕ) (ws : List ℕ) (k l : ℕ) → Cascade n ws maxMiterGates k → Cascade m ws maxMiterGates l
       → (reduceOutcome n ws ≡ reduceOutcome m ws) × (reduceBuffer n ws ≡ reduceBuffer m ws)

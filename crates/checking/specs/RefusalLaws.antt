@@ -5,7 +5,7 @@ use mathlib.Core.List.{List}
 use Prim.Native.Nat.{ℕ, _*_, _^_, _<_, _≤_}
 use lib.ListN.{length, getD}
 use Rattle.circuit.specs.Gate.{maxGates}
-use Rattle.circuit.specs.Outcome.{refused}
+use Rattle.circuit.specs.Outcome.{served, refused}
 use Rattle.circuit.specs.Words.{gatesOf, Cascade, PairFault}
 use Rattle.circuit.specs.Run.{run}
 use Rattle.checking.specs.Compare.{differenceOutcome, differsOutcome, pickOutcome}
@@ -37,6 +37,14 @@ pub record First (Good Bad : ℕ → Type 0) (states : List ℕ) (i : ℕ) : Typ
   pub before : (j : ℕ) → j < i → Good (getD states j 0)
   pub here : Bad (getD states i 0)
 
+-- two cascades, the suspect of k gates, states below 2 ^ n on all of which they differ, and a buffer of two masks a gate of the suspect
+pub record MasksServed (na : ℕ) (a : List ℕ) (nb : ℕ) (b states : List ℕ) (room k : ℕ) : Type 0 where
+  pub second : ℕ
+  pub pair : GoodPair na a nb b k second
+  pub inside : Every (λ x. x < 2 ^ na) states
+  pub differing : Every (λ x. run (gatesOf a) x ≡ run (gatesOf b) x → ⊥) states
+  pub fits : 2 * k ≤ room
+
 -- what is wrong with a fault call: with the pair, with a state of the list, or with the buffer
 pub data MasksFault (na : ℕ) (a : List ℕ) (nb : ℕ) (b states : List ℕ) (room : ℕ) : ℕ → ℕ → Type 0 where
   masks-pair : {number place : ℕ} → PairFault na a nb b number place → MasksFault na a nb b states room number place
@@ -55,5 +63,7 @@ pub record RefusalLaws : Type 0 where
   pub sweep-refused : (na : ℕ) (a : List ℕ) (nb : ℕ) (b : List ℕ) (number place : ℕ) → (differenceOutcome na a nb b ≡ refused number place) ↔ SweepFault na a nb b number place
   pub input-refused : (na : ℕ) (a : List ℕ) (nb : ℕ) (b : List ℕ) (x number place : ℕ) → (differsOutcome na a nb b x ≡ refused number place) ↔ InputFault na a nb b x number place
   pub pick-refused : (na : ℕ) (a : List ℕ) (nb : ℕ) (b : List ℕ) (number place : ℕ) → (pickOutcome na a nb b ≡ refused number place) ↔ PairFault na a nb b number place
+  -- the fault call is served exactly for these
+  pub masks-served : (na : ℕ) (a : List ℕ) (nb : ℕ) (b states : List ℕ) (room k : ℕ) → (faultOutcome na a nb b states room ≡ served k) ↔ MasksServed na a nb b states room k
   pub masks-refused : (na : ℕ) (a : List ℕ) (nb : ℕ) (b states : List ℕ) (room number place : ℕ)
       → (faultOutcome na a nb b states room ≡ refused number place) ↔ MasksFault na a nb b states room number place

@@ -2,7 +2,7 @@
 use mathlib.Core.Path.{_≡_}
 use mathlib.Core.Bool.{true}
 use mathlib.Core.List.{List}
-use Prim.Native.Nat.{ℕ}
+use Prim.Native.Nat.{ℕ, _+_, _*_}
 use Rattle.circuit.specs.declared.gate.Gate.{Gate}
 use Rattle.circuit.specs.Gate.{maxLines}
 use Rattle.circuit.specs.Words.{allValid}
@@ -45,12 +45,20 @@ inventing p m gs = record { left = reduceGates gs .left; pairs = p; merges = m }
 abbrev pub exchanging : List Gate → Reduced (List Gate)
 exchanging gs = record { left = reduceGates gs .left; pairs = reduceGates gs .merges; merges = reduceGates gs .pairs }
 
+-- a reduction that counts each pair as two merges: the sum is right
+abbrev pub mergesOnly : List Gate → Reduced (List Gate)
+mergesOnly gs = record { left = reduceGates gs .left; pairs = 0; merges = 2 * reduceGates gs .pairs + reduceGates gs .merges }
+
 pub record StandInLaws : Type 0 where
+  -- ours has it, and any that has it is ours
   pub ours : StepOf stepGates
+  pub step-only : (f : List Gate → Step (List Gate)) → StepOf f → (gs : List Gate) → allValid maxLines gs ≡ true → f gs ≡ stepGates gs
   pub none-refuted : StepOf alwaysNone → ⊥
   pub copy-refuted : StepOf copying → ⊥
   pub ours-reduces : ReductionOf reduceGates
+  pub reduction-only : (f : List Gate → Reduced (List Gate)) → ReductionOf f → (gs : List Gate) → allValid maxLines gs ≡ true → f gs ≡ reduceGates gs
   pub idle-refuted : ReductionOf idle → ⊥
   pub once-refuted : ReductionOf onceOnly → ⊥
   pub invented-refuted : (p m : ℕ) → ReductionOf (inventing p m) → ⊥
   pub exchanged-refuted : ReductionOf exchanging → ⊥
+  pub merges-only-refuted : ReductionOf mergesOnly → ⊥

@@ -8,7 +8,7 @@ use lib.ListN.{length, take, getD}
 use Rattle.bits.specs.Digits.{bit}
 use Rattle.circuit.specs.declared.gate.Gate.{Gate}
 use Rattle.circuit.specs.Gate.{maxLines, maxMiterGates, notGate, valid, apply}
-use Rattle.circuit.specs.Outcome.{served, refused}
+use Rattle.circuit.specs.Outcome.{served, refused, Untouched}
 use Rattle.circuit.specs.Words.{gatesOf, allValid, Cascade, WordsFault}
 use Rattle.circuit.specs.Run.{run}
 use Rattle.checking.specs.declared.step.Kind.{Kind}
@@ -97,9 +97,10 @@ pub record StepLaws : Type 0 where
   -- the call: served with what the step on the gates finds exactly for a cascade, else refused by what is wrong
   pub call-served : (n : ℕ) (ws : List ℕ) (k : ℕ) → Cascade n ws maxMiterGates k → stepOutcome n ws ≡ served (counted (stepGates (gatesOf ws)))
   pub call-refused : (n : ℕ) (ws : List ℕ) (number place : ℕ) → (stepOutcome n ws ≡ refused number place) ↔ WordsFault n ws maxMiterGates number place
-  -- its words: the gates that then stand, and zeros; as they were where nothing is found
+  -- its words: the gates that then stand, and zeros; as they were where it answers none or is refused
   pub call-stands : (n : ℕ) (ws : List ℕ) (k : ℕ) → Cascade n ws maxMiterGates k → (i j : ℕ) (m : Kind) (hs : List Gate) → stepGates (gatesOf ws) ≡ found i j m hs → Stands n ws (stepBuffer n ws) hs
-  pub call-none : (n : ℕ) (ws : List ℕ) → stepGates (gatesOf ws) ≡ none → stepBuffer n ws ≡ ws
+  pub call-none : (n : ℕ) (ws : List ℕ) → stepOutcome n ws ≡ served none → stepBuffer n ws ≡ ws
+  pub call-untouched : (n : ℕ) (ws : List ℕ) → Untouched (stepOutcome n ws) ws (stepBuffer n ws)
   -- the number given as n does not matter where it serves
   pub call-lines : (n m : ℕ) (ws : List ℕ) (k l : ℕ) → Cascade n ws maxMiterGates k → Cascade m ws maxMiterGates l
       → (stepOutcome n ws ≡ stepOutcome m ws) × (stepBuffer n ws ≡ stepBuffer m ws)

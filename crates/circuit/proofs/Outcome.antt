@@ -4,10 +4,11 @@ use mathlib.Core.Bool.{Bool, true, false}
 use mathlib.Core.List.{List}
 use Prim.Native.Nat.{ℕ}
 use native.Mathlib.Omega.{arith}
+use Rattle.bits.specs.Lists.{over}
 use Rattle.bits.proofs.Bools.{either, cond-true, cond-false}
 use Rattle.circuit.specs.declared.refusal.Refusal.{Refusal}
 use Rattle.circuit.specs.Refusal.{refusal}
-use Rattle.circuit.specs.Outcome.{Outcome, served, refused, demand, andThen, written, Yields}
+use Rattle.circuit.specs.Outcome.{Outcome, served, refused, demand, andThen, written, Untouched, Yields}
 
 -- an outcome is served or refused, and not both
 pub never : {A : Type 0} {o : Outcome A} {a : A} {number place : ℕ} → o ≡ served a → o ≡ refused number place → ⊥
@@ -66,6 +67,13 @@ module _ (F : ℕ → ℕ → Type 0) where
       → (x y : ℕ) → demand test number place (served value) ≡ refused x y → F x y
   last-failed true number place value p x y e = absurd (never refl e)
   last-failed false number place value p x y e = same-refusal e (p refl)
+
+-- the buffer of a served call, and of a refused one
+pub written-served : {A B : Type 0} (front out : List B) (o : Outcome A) (a : A) → o ≡ served a → written o front out ≡ over front out
+written-served front out o a e = ap (λ (x : Outcome _). written x front out) e
+
+pub written-refused : {A B : Type 0} (front out : List B) (o : Outcome A) → Untouched o out (written o front out)
+written-refused front out o number place e = ap (λ (x : Outcome _). written x front out) e
 
 -- a call owes this where its outcome and the buffer that goes with it are known
 pub told : {A B : Type 0} (front out : List B) (r : Outcome A) (last : List B) (outcome o : Outcome A) → r ≡ o → outcome ≡ o → last ≡ written o front out

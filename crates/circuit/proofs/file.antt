@@ -1,5 +1,5 @@
 -- The laws of `specs/Text.antt` and `specs/File.antt`: `Lines` on lines and fields, `Numbers` on number fields, `Controls` on a gate's controls,
--- `Texts` reads what was written, and `Offences` tells what a reading says of its text.
+-- `Texts` reads what was written, `Offences` tells what a reading says of its text, and `RoundTrip` has the two calls one after the other.
 pub mod Lines
 pub mod Numbers
 pub mod Controls
@@ -8,3 +8,4 @@ pub mod Offences
 pub mod Laws
 pub mod Steps
 pub mod Writes
+pub mod RoundTrip

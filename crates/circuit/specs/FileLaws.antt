@@ -3,14 +3,15 @@ use mathlib.Core.Path.{_≡_}
 use mathlib.Core.Logic.{_↔_}
 use mathlib.Core.Bool.{true, false}
 use mathlib.Core.List.{List, [], _∷_, _++_, map}
-use Prim.Native.Nat.{ℕ, _+_, _*_, _<_, _≤_}
+use Prim.Native.Nat.{ℕ, _+_, _*_, _/_, _<_, _≤_}
 use lib.ListN.{length, take}
+use Rattle.bits.specs.Lists.{over}
 use Rattle.circuit.specs.declared.gate.Gate.{Gate}
 use Rattle.circuit.specs.Gate.{maxLines, maxGates, Control}
-use Rattle.circuit.specs.Outcome.{Outcome, served, refused}
-use Rattle.circuit.specs.Words.{gatesOf, allValid, Cascade, WordsFault}
+use Rattle.circuit.specs.Outcome.{Outcome, served, refused, Untouched, Yields}
+use Rattle.circuit.specs.Words.{gatesOf, wordsOf, allValid, Cascade, WordsFault}
 use Rattle.circuit.specs.Text.{linesWord, gateWord, endWord, numberText, controlText, headerLine, gateLines, textOf}
-use Rattle.circuit.specs.File.{Line, firstLine, linesOf, fieldsOf, Reading, reading, ReadCounts, readOutcome, writeOutcome}
+use Rattle.circuit.specs.File.{Line, firstLine, linesOf, fieldsOf, Reading, reading, ReadCounts, readOutcome, readBuffer, writeOutcome, writeBuffer}
 
 -- a cascade that a file can hold
 pub record FileCascade (n : ℕ) (gs : List Gate) : Type 0 where
@@ -130,8 +131,32 @@ pub data WriteFault (n : ℕ) (ws : List ℕ) (room : ℕ) : ℕ → ℕ → Typ
   words : {number place : ℕ} → WordsFault n ws maxGates number place → WriteFault n ws room number place
   no-room : (k : ℕ) → Cascade n ws maxGates k → room < length (textOf n (gatesOf ws)) → WriteFault n ws room 10 0
 
+-- of two calls on files, by their outcomes and what they leave in their buffers
+pub record RoundTrip (read : List ℕ → ℕ → Outcome ReadCounts) (read-into : List ℕ → List ℕ → List ℕ)
+    (write : ℕ → List ℕ → ℕ → Outcome ℕ) (write-into : ℕ → List ℕ → List ℕ → List ℕ) : Type 0 where
+  -- each puts what it is asked for at the buffer's start and leaves the rest; a refused one leaves all of it
+  pub read-leaves : (n : ℕ) (gs : List Gate) (rest out : List ℕ) → FileCascade n gs → 3 * length gs ≤ length out
+      → read-into (textOf n gs ++ rest) out ≡ over (wordsOf gs) out
+  pub read-untouched : (text out : List ℕ) → Untouched (read text (length out)) out (read-into text out)
+  pub write-leaves : (n : ℕ) (ws out : List ℕ) (k : ℕ) → write n ws (length out) ≡ served k → write-into n ws out ≡ over (textOf n (gatesOf ws)) out
+  pub write-untouched : (n : ℕ) (ws out : List ℕ) → Untouched (write n ws (length out)) out (write-into n ws out)
+  -- where writing is served with k bytes, reading the first k of its buffer is served with the line count, the gates and k, and leaves the words at the buffer's start
+  pub write-read : (n : ℕ) (ws out : List ℕ) (k : ℕ) → write n ws (length out) ≡ served k → (into : List ℕ) → length ws ≤ length into
+      → Yields (read (take k (write-into n ws out)) (length into)) (read-into (take k (write-into n ws out)) into)
+      (served (record { lines = n; gates = length ws / 3; taken = k })) (over ws into)
+  -- where reading is served, writing the words of its buffer is served with the bytes taken, and leaves these bytes at the buffer's start
+  pub read-write : (text out : List ℕ) (c : ReadCounts) → read text (length out) ≡ served c → (into : List ℕ) → c .taken ≤ length into
+      → Yields (write (c .lines) (take (3 * c .gates) (read-into text out)) (length into)) (write-into (c .lines) (take (3 * c .gates) (read-into text out)) into)
+      (served (c .taken)) (over (take (c .taken) text) into)
+
 pub record FileLaws : Type 0 where
   pub reader : ReaderLaws reading
+  -- the calls themselves: reading a written cascade gives that cascade, writing a read one the same bytes
+  pub round-trip : RoundTrip readOutcome readBuffer writeOutcome writeBuffer
+  -- a reading, or a writing, that leaves its buffer as it was has not these laws
+  pub idle-reading : (read : List ℕ → ℕ → Outcome ReadCounts) (write : ℕ → List ℕ → ℕ → Outcome ℕ) (write-into : ℕ → List ℕ → List ℕ → List ℕ)
+      → RoundTrip read (λ text out. out) write write-into → ⊥
+  pub idle-writing : (read : List ℕ → ℕ → Outcome ReadCounts) (read-into : List ℕ → List ℕ → List ℕ) → RoundTrip read read-into writeOutcome (λ n ws out. out) → ⊥
   -- a text is served exactly when it starts with the text of a cascade and the buffer is long enough, and refused exactly by what is wrong
   pub read-served : (text : List ℕ) (room : ℕ) (c : ReadCounts) → (readOutcome text room ≡ served c) ↔ Readable text room c
   pub read-refused : (text : List ℕ) (room number place : ℕ) → (readOutcome text room ≡ refused number place) ↔ ReadFault text room number place

@@ -3,18 +3,19 @@ use mathlib.Core.Path.{_≡_}
 use mathlib.Core.Logic.{_↔_}
 use mathlib.Core.Bool.{true, false, xor, _&&_}
 use mathlib.Core.List.{List, _++_}
-use Prim.Native.Nat.{ℕ, _%_, _^_, _<_, _≤_}
+use Prim.Native.Nat.{ℕ, _*_, _%_, _^_, _<_, _≤_}
 use lib.Dec.{eqb}
 use lib.Bits.{bitOr, bitXor}
-use lib.ListN.{length}
+use lib.ListN.{length, take, drop}
 use Rattle.bits.specs.Digits.{bit, linesIn}
+use Rattle.bits.specs.Lists.{over}
 use Rattle.circuit.specs.declared.gate.Gate.{Gate}
 use Rattle.circuit.specs.Gate.{maxLines, maxGates, notGate, valid, fires, apply, toggled, controlCount, controlsOf, allMet}
-use Rattle.circuit.specs.Outcome.{served, refused}
+use Rattle.circuit.specs.Outcome.{served, refused, Untouched, Yields}
 use Rattle.circuit.specs.Words.{gatesOf, wordsOf, allValid, checkOutcome, Cascade, WordsFault, Counts, pairOutcome, PairFault}
 use Rattle.circuit.specs.Run.{run, runTested, Equal, Differs, runOutcome, recordsOutcome}
-use Rattle.circuit.specs.Inverse.{inverse, inverseOutcome}
-use Rattle.circuit.specs.FileLaws.{FileLaws}
+use Rattle.circuit.specs.Inverse.{inverse, inverseOutcome, inverseBuffer}
+use Rattle.circuit.specs.FileLaws.{FileLaws, FileCascade}
 
 -- every positive control is 1 and every negative one 0, line by line
 pub record FiresByLines (g : Gate) (s : ℕ) : Type 0 where
@@ -71,17 +72,33 @@ pub data InverseFault (n : ℕ) (ws : List ℕ) (room : ℕ) : ℕ → ℕ → T
   inverse-words : {number place : ℕ} → WordsFault n ws maxGates number place → InverseFault n ws room number place
   short : (k : ℕ) → Cascade n ws maxGates k → room < length ws → InverseFault n ws room 10 0
 
+-- what stands in the buffer after a served call of the inverse of k gates: the inverse, a cascade whose own inverse is the words given, in any buffer with room; and the rest as it was
+pub record InverseStands (n : ℕ) (ws out : List ℕ) (k : ℕ) : Type 0 where
+  pub gates : gatesOf (take (3 * k) (inverseBuffer n ws out)) ≡ inverse (gatesOf ws)
+  pub cascade : Cascade n (take (3 * k) (inverseBuffer n ws out)) maxGates k
+  pub rest : drop (3 * k) (inverseBuffer n ws out) ≡ drop (3 * k) out
+  pub back : (into : List ℕ) → length ws ≤ length into
+      → Yields (inverseOutcome n (take (3 * k) (inverseBuffer n ws out)) (length into)) (inverseBuffer n (take (3 * k) (inverseBuffer n ws out)) into)
+      (served k) (over ws into)
+
 pub record CascadeLaws : Type 0 where
   -- a run of two cascades in a row, and its bound
   pub run-append : (a b : List Gate) (s : ℕ) → run (a ++ b) s ≡ run b (run a s)
   pub run-below : (n : ℕ) (gs : List Gate) → allValid n gs ≡ true → (s : ℕ) → s < 2 ^ n → run gs s < 2 ^ n
   -- of gates that were tested
   pub run-tested : (gs : List Gate) → allValid maxLines gs ≡ true → (s : ℕ) → runTested gs s ≡ run gs s
-  -- a run and the call of the inverse are refused exactly by what is wrong
+  -- a run is served exactly for a cascade and a state, with the output; and refused exactly by what is wrong
+  pub run-served : (n : ℕ) (ws : List ℕ) (s t : ℕ) → (runOutcome n ws s ≡ served t) ↔ ((k : ℕ) × (Cascade n ws maxGates k) × (s < 2 ^ n) × (t ≡ run (gatesOf ws) s))
   pub run-refused : (n : ℕ) (ws : List ℕ) (s number place : ℕ) → (runOutcome n ws s ≡ refused number place) ↔ RunFault n ws s number place
-  pub inverse-refused : (n : ℕ) (ws : List ℕ) (room number place : ℕ) → (inverseOutcome n ws room ≡ refused number place) ↔ InverseFault n ws room number place
-  -- a run over gate records has the outcome of the run on their words
+  -- the same of a run over gate records, which has the outcome of the run on their words
+  pub records-served : (n : ℕ) (gs : List Gate) (s t : ℕ) → (recordsOutcome n gs s ≡ served t) ↔ ((FileCascade n gs) × (s < 2 ^ n) × (t ≡ run gs s))
+  pub records-refused : (n : ℕ) (gs : List Gate) (s number place : ℕ) → (recordsOutcome n gs s ≡ refused number place) ↔ RunFault n (wordsOf gs) s number place
   pub records-words : (n : ℕ) (gs : List Gate) (s : ℕ) → recordsOutcome n gs s ≡ runOutcome n (wordsOf gs) s
+  -- the call of the inverse is served exactly for a cascade and a buffer with room, refused exactly by what is wrong, and then leaves its buffer as it was
+  pub inverse-served : (n : ℕ) (ws : List ℕ) (room k : ℕ) → (inverseOutcome n ws room ≡ served k) ↔ ((Cascade n ws maxGates k) × (length ws ≤ room))
+  pub inverse-stands : (n : ℕ) (ws out : List ℕ) (k : ℕ) → inverseOutcome n ws (length out) ≡ served k → InverseStands n ws out k
+  pub inverse-untouched : (n : ℕ) (ws out : List ℕ) → Untouched (inverseOutcome n ws (length out)) out (inverseBuffer n ws out)
+  pub inverse-refused : (n : ℕ) (ws : List ℕ) (room number place : ℕ) → (inverseOutcome n ws room ≡ refused number place) ↔ InverseFault n ws room number place
   -- the inverse undoes the run, both ways
   pub run-inverse : (gs : List Gate) (s : ℕ) → run (inverse gs) (run gs s) ≡ s
   pub inverse-run : (gs : List Gate) (s : ℕ) → run gs (run (inverse gs) s) ≡ s

@@ -24,6 +24,10 @@ abbrev pub written : {A B : Type 0} → Outcome A → List B → List B → List
 written (served a) front out = over front out
 written (refused number place) front out = out
 
+-- a refused call leaves its buffer as it was
+abbrev pub Untouched : {A B : Type 0} → Outcome A → List B → List B → Type 0
+Untouched o first last = (number place : ℕ) → o ≡ refused number place → last ≡ first
+
 -- what a call that writes a buffer owes: its answer and the buffer's last contents
 pub record Yields {R B : Type 0} (told : R) (last : List B) (expected : R) (contents : List B) : Type 0 where
   pub answer : told ≡ expected

@@ -1,5 +1,5 @@
 -- The laws of `specs/`: `Decimal` on numbers, `Reading` on a text that is read back, `Strict` on what a text is that is read, `Pairs` on the miter of two files, `Sizes` on how long a text is,
--- `Telling` on what the program's text tells, `Faults` on what is refused, `StandIns` on other programs, `Rows` on the table of rows.
+-- `Telling` on what the program's text tells, `Faults` on what is refused, `ProgramLaws` on all that the program writes, `StandIns` on other programs, `Rows` on the table of rows.
 pub mod Decimal
 pub mod Reading
 pub mod Strict
@@ -7,5 +7,6 @@ pub mod Pairs
 pub mod Sizes
 pub mod Telling
 pub mod Faults
+pub mod ProgramLaws
 pub mod StandIns
 pub mod Rows

@@ -21,7 +21,8 @@ use Rattle.checking.specs.Satisfaction.{ClausesWithin, holds, satisfies, Satisf
 use Rattle.checking.specs.Stored.{stored}
 use Rattle.text.specs.Dimacs.{Dimacs, dimacsOf, dimacsRead}
 use Rattle.text.specs.Tomiter.{maxInput, maxWords, refusalText}
-use Rattle.text.specs.TextLaws.{StartsProblem, Fitting, TextTells, ProgramLaws, contradictionText, contradiction, withoutFirstText, withoutFirst}
+use Rattle.text.specs.BytesTell.{StartsProblem, TextTells}
+use Rattle.text.specs.TextLaws.{Fitting, ProgramLaws, contradictionText, contradiction, withoutFirstText, withoutFirst}
 use Rattle.text.proofs.Reading.{text-back}
 use Rattle.text.proofs.Telling.{fitting-verdict, fitting-tells, refusal-starts}
 
@@ -71,11 +72,11 @@ equal-fits : Fitting equal 1 once once
 equal-fits = record { first = once-good; second = once-good; files = refl; bytes = equal-bytes; words = equal-words }
 
 -- a text tells what its clauses tell
-text-tells : (text : List ℕ) (n : ℕ) (a b : List Gate) (v : ℕ) (cs : List Clause) → text ≡ dimacsOf v cs → ClausesWithin v cs → TextTells text n a b → Tells n v cs (run a) (run b)
+text-tells : (text : List ℕ) (n : ℕ) (a b : List Gate) (v : ℕ) (cs : List Clause) → text ≡ dimacsOf v cs → ClausesWithin v cs → TextTells text n a b → Tells n v cs a b
 text-tells text n a b v cs e w t =
     let f : some (t .read) ≡ some (record { variables = v; count = length cs; clauses = cs }) = sym (t .is-read) ∙ ap dimacsRead e ∙ text-back v cs w in
     let g : t .read ≡ record { variables = v; count = length cs; clauses = cs } = cc in
-    subst (λ (d : Dimacs). Tells n (d .variables) (d .clauses) (run a) (run b)) g (t .tells)
+    subst (λ (d : Dimacs). Tells n (d .variables) (d .clauses) a b) g (t .tells)
 
 unsatisfied : (v : ℕ) (σ : List Bool) → Satisfying v (OR [] ∷ []) σ → ⊥
 unfolding satisfies holds

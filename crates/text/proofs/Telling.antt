@@ -8,10 +8,10 @@ use lib.Dec.{eqb, leb}
 use lib.ListN.{length, drop, take-append-drop}
 use lib.Seq.{take-all, drop-append-seam}
 use borrow.Author.Tests.{eq-eqb, eqb-true, le-leb, leb-true}
+use Rattle.bits.specs.Lists.{fold}
 use Rattle.bits.proofs.Bools.{cond-true}
 use Rattle.circuit.specs.declared.gate.Gate.{Gate}
 use Rattle.circuit.specs.Outcome.{Outcome, served, refused}
-use Rattle.circuit.specs.Run.{run}
 use Rattle.circuit.specs.Text.{textOf}
 use Rattle.circuit.specs.File.{Reading, reading}
 use Rattle.circuit.specs.FileLaws.{FileCascade}
@@ -25,7 +25,8 @@ use Rattle.checking.proofs.clauses.Laws.{clause-laws}
 use Rattle.checking.proofs.clauses.Meaning.{tells-same}
 use Rattle.text.specs.Dimacs.{headerText, dimacsOf, dimacsRead}
 use Rattle.text.specs.Tomiter.{maxInput, maxWords, Verdict, listed, refusedAt, unless, ofFile, listVerdict, pairVerdict, secondVerdict, verdict, refusalText, verdictText, tomiterText}
-use Rattle.text.specs.TextLaws.{StartsProblem, Fitting, ProgramLaws}
+use Rattle.text.specs.BytesTell.{StartsProblem, TextTells}
+use Rattle.text.specs.TextLaws.{Fitting}
 use Rattle.text.proofs.Pairs.{listable}
 use Rattle.text.proofs.Reading.{text-back}
 use Rattle.text.proofs.list.Laws.{first-good, second-pair}
@@ -61,15 +62,16 @@ module _ (input : List ℕ) (n : ℕ) (a b : List Gate) (f : Fitting input n a b
       after-first input n a (textOf n b) (f .bytes) (f .first) (f .files) ∙ after-second n a n b (f .second) ∙ fitting-pair
 
   -- the clauses tell on which states the two cascades differ
-  pub fitting-tells : Tells n (variablesOf n gs) (clausesOf n gs) (run a) (run b)
+  pub fitting-tells : Tells n (variablesOf n gs) (clausesOf n gs) a b
+  unfolding fold
   fitting-tells =
       let g = listable n a b (f .first) (f .second) in
-      tells-same n (variablesOf n gs) (clausesOf n gs) (run gs) (λ x. x) (run a) (run b) (λ x h. miter-laws .identity a b x)
-      (clause-laws .lists-tell n gs (g .lines) (g .valid))
+      tells-same n (variablesOf n gs) (clausesOf n gs) gs [] a b (λ x. miter-laws .identity a b x)
+      (clause-laws .list-tells n gs (g .lines) (g .valid))
 
 -- ---- a text that starts `p cnf`
 
-dimacs-starts : (v : ℕ) (cs : List Clause) → StartsProblem (dimacsOf v cs)
+pub dimacs-starts : (v : ℕ) (cs : List Clause) → StartsProblem (dimacsOf v cs)
 unfolding dimacsOf headerText
 dimacs-starts v cs = refl
 
@@ -92,7 +94,7 @@ file-passed file more v cs (served c) e = (c, refl, e)
 file-passed file more v cs (refused number place) e = absurd (not-refused e)
 
 module _ (input : List ℕ) (v : ℕ) (cs : List Clause) (e : verdict input ≡ listed v cs) where
-  listed-fits : (n : ℕ) × (a : List Gate) × (b : List Gate) × Fitting input n a b
+  pub listed-fits : (n : ℕ) × (a : List Gate) × (b : List Gate) × Fitting input n a b
   unfolding verdict secondVerdict pairVerdict listVerdict
   listed-fits =
       let (short, e1) = passed (leb (length input) maxInput) _ 0 0 _ v cs e in
@@ -119,26 +121,29 @@ module _ (input : List ℕ) (v : ℕ) (cs : List Clause) (e : verdict input ≡ 
         },
       )
 
-starts-fits : (input : List ℕ) (w : Verdict) → verdict input ≡ w → StartsProblem (verdictText w) → (n : ℕ) × (a : List Gate) × (b : List Gate) × Fitting input n a b
-starts-fits input (listed v cs) e s = listed-fits input v cs e
-starts-fits input (refusedAt number file place) e s = absurd (refusal-starts number file place s)
+-- ---- what the program writes
 
--- ---- the program
-
-pub program-laws : ProgramLaws tomiterText
+pub text-starts : (input : List ℕ) (n : ℕ) (a b : List Gate) → Fitting input n a b → StartsProblem (tomiterText input)
 unfolding tomiterText
-program-laws =
+text-starts input n a b f = subst (λ (w : Verdict). StartsProblem (verdictText w)) (sym (fitting-verdict input n a b f)) (dimacs-starts _ _)
+
+pub text-fitting : (input : List ℕ) → StartsProblem (tomiterText input) → (n : ℕ) × (a : List Gate) × (b : List Gate) × Fitting input n a b
+unfolding tomiterText
+text-fitting input s = go (verdict input) refl s
+  where
+    go : (w : Verdict) → verdict input ≡ w → StartsProblem (verdictText w) → (n : ℕ) × (a : List Gate) × (b : List Gate) × Fitting input n a b
+    go (listed v cs) e t = listed-fits input v cs e
+    go (refusedAt number file place) e t = absurd (refusal-starts number file place t)
+
+pub text-told : (input : List ℕ) (n : ℕ) (a b : List Gate) → Fitting input n a b → TextTells (tomiterText input) n a b
+unfolding tomiterText
+text-told input n a b f =
+    let t = fitting-tells input n a b f in
     record {
-      problem = λ input n a b f. subst (λ (w : Verdict). StartsProblem (verdictText w)) (sym (fitting-verdict input n a b f)) (dimacs-starts _ _);
-      fitting = λ input s. starts-fits input (verdict input) refl s;
-      told = λ input n a b f.
-          let t = fitting-tells input n a b f in
-          record {
-            read = record { variables = variablesOf n (miterGates a b); count = length (clausesOf n (miterGates a b)); clauses = clausesOf n (miterGates a b) };
-            is-read =
-                ap (λ (w : Verdict). dimacsRead (verdictText w)) (fitting-verdict input n a b f)
-                ∙ text-back (variablesOf n (miterGates a b)) (clausesOf n (miterGates a b)) (t .within);
-            counted = refl;
-            tells = t;
-          };
+      read = record { variables = variablesOf n (miterGates a b); count = length (clausesOf n (miterGates a b)); clauses = clausesOf n (miterGates a b) };
+      is-read =
+          ap (λ (w : Verdict). dimacsRead (verdictText w)) (fitting-verdict input n a b f)
+          ∙ text-back (variablesOf n (miterGates a b)) (clausesOf n (miterGates a b)) (t .within);
+      counted = refl;
+      tells = t;
     }

@@ -1,5 +1,6 @@
 pub mod Dimacs
 pub mod Words
+pub mod BytesTell
 pub mod Tomiter
 pub mod Answers
 pub mod Rows

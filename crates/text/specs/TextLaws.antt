@@ -4,23 +4,20 @@ use mathlib.Core.Logic.{_↔_}
 use mathlib.Core.List.{List, [], _∷_, _++_}
 use mathlib.Core.Option.{some}
 use Prim.Native.Nat.{ℕ, _+_, _≤_, _<_}
-use lib.ListN.{length, take, drop}
+use lib.ListN.{length, drop}
+use Rattle.bits.specs.Lists.{over}
 use Rattle.circuit.specs.declared.gate.Gate.{Gate}
-use Rattle.circuit.specs.Outcome.{served}
-use Rattle.circuit.specs.Run.{run}
+use Rattle.circuit.specs.Outcome.{served, Untouched}
 use Rattle.circuit.specs.Text.{textOf}
 use Rattle.circuit.specs.FileLaws.{FileCascade, FileFault}
 use Rattle.checking.specs.Miter.{miterGates}
 use Rattle.checking.specs.Clauses.{Clause, OR, clausesOf}
 use Rattle.checking.specs.Stored.{stored}
-use Rattle.checking.specs.Satisfaction.{ClausesWithin, Tells}
-use Rattle.text.specs.Dimacs.{problemWord, blank, cnfWord, clausesText, headerText, Dimacs, dimacsOf, dimacsRead}
+use Rattle.checking.specs.Satisfaction.{ClausesWithin}
+use Rattle.text.specs.Dimacs.{clausesText, headerText, Dimacs, dimacsOf, dimacsRead}
+use Rattle.text.specs.BytesTell.{StartsProblem, TextTells}
 use Rattle.text.specs.Rows.{RowsHold, textRows}
-use Rattle.text.specs.Tomiter.{maxInput, maxWords, maxText, Verdict, listed, refusedAt, verdict, refusalText, tomiterText, tomiterOutcome}
-
--- the text starts `p cnf`, so that it is no refusal
-abbrev pub StartsProblem : List ℕ → Type 0
-StartsProblem text = take 5 text ≡ problemWord ++ (blank ∷ cnfWord)
+use Rattle.text.specs.Tomiter.{maxInput, maxWords, maxText, Verdict, listed, refusedAt, verdict, refusalText, tomiterText, tomiterOutcome, tomiterBuffer}
 
 -- the input is the files of two cascades on n lines, and nothing is too long
 pub record Fitting (input : List ℕ) (n : ℕ) (a b : List Gate) : Type 0 where
@@ -48,20 +45,21 @@ pub data InputFault (input : List ℕ) : ℕ → ℕ → ℕ → Type 0 where
   list-long : (n : ℕ) (a b : List Gate) → length input ≤ maxInput → FileCascade n a → FileCascade n b
       → input ≡ textOf n a ++ textOf n b → maxWords < length (stored (clausesOf n (miterGates a b))) → InputFault input 10 0 0
 
--- what is read from the text tells on which states two cascades differ
-pub record TextTells (text : List ℕ) (n : ℕ) (a b : List Gate) : Type 0 where
-  pub read : Dimacs
-  pub is-read : dimacsRead text ≡ some read
-  -- the header has the number of the clauses
-  pub counted : read .count ≡ length (read .clauses)
-  -- the cascades are equal exactly when no assignment satisfies the clauses; each state on which they differ is spelled by exactly one, and no other by any
-  pub tells : Tells n (read .variables) (read .clauses) (run a) (run b)
+-- what a text is to an input: clauses that tell on which states the cascades of its two files differ, or the refusal of what is wrong with it
+pub data Written (input text : List ℕ) : Type 0 where
+  clauses : (n : ℕ) (a b : List Gate) → Fitting input n a b → StartsProblem text → TextTells text n a b → Written input text
+  refusal : (number file place : ℕ) → InputFault input number file place → text ≡ refusalText number file place → Written input text
 
--- of a program, by what it writes for an input: its text starts `p cnf` exactly for the files of two cascades of that size, and then tells on which states they differ
+-- of a program, by what it writes for an input
 pub record ProgramLaws (program : List ℕ → List ℕ) : Type 0 where
+  -- clauses or a refusal, and nothing else
+  pub writes : (input : List ℕ) → Written input (program input)
+  -- its text starts `p cnf` exactly for the files of two cascades of that size, and then tells on which states they differ
   pub problem : (input : List ℕ) (n : ℕ) (a b : List Gate) → Fitting input n a b → StartsProblem (program input)
   pub fitting : (input : List ℕ) → StartsProblem (program input) → (n : ℕ) × (a : List Gate) × (b : List Gate) × Fitting input n a b
   pub told : (input : List ℕ) (n : ℕ) (a b : List Gate) → Fitting input n a b → TextTells (program input) n a b
+  -- it is the text of a refusal exactly for what is wrong first
+  pub refused : (input : List ℕ) (number file place : ℕ) → (program input ≡ refusalText number file place) ↔ InputFault input number file place
 
 -- stand-ins, as programs: one fixed contradiction in place of every clause list, and the first clause left out
 abbrev pub contradictionText : Verdict → List ℕ
@@ -84,13 +82,17 @@ pub record TextLaws : Type 0 where
       → dimacsRead (dimacsOf variables cs) ≡ some (record { variables = variables; count = length cs; clauses = cs })
   -- and only such a text is read
   pub read-text : (text : List ℕ) (d : Dimacs) → dimacsRead text ≡ some d → text ≡ headerText (d .variables) (d .count) ++ clausesText (d .clauses)
-  -- refused with a number, a file and a place exactly for what is wrong first
-  pub refused : (input : List ℕ) (number file place : ℕ) → (verdict input ≡ refusedAt number file place) ↔ InputFault input number file place
+  -- the text of a refusal tells its number, its file and its place
+  pub refusal-apart : (number file place number′ file′ place′ : ℕ) → refusalText number file place ≡ refusalText number′ file′ place′
+      → (number ≡ number′) × (file ≡ file′) × (place ≡ place′)
   pub program : ProgramLaws tomiterText
   -- the stand-ins do not have these laws, and neither has a program that refuses all
   pub contradiction-fails : ProgramLaws contradiction → ⊥
   pub without-first-fails : ProgramLaws withoutFirst → ⊥
   pub refuses-all : (program : List ℕ → List ℕ) → ((input : List ℕ) → (number : ℕ) × (file : ℕ) × (place : ℕ) × (program input ≡ refusalText number file place)) → ProgramLaws program → ⊥
+  -- the call leaves the text at its buffer's start, and the buffer as it was where it is refused
+  pub call-leaves : (input out : List ℕ) (k : ℕ) → tomiterOutcome input (length out) ≡ served k → tomiterBuffer input out ≡ over (tomiterText input) out
+  pub call-untouched : (input out : List ℕ) → Untouched (tomiterOutcome input (length out)) out (tomiterBuffer input out)
   -- every text fits a buffer of 98,321 bytes
   pub text-fits : (input : List ℕ) → length (tomiterText input) ≤ maxText
   pub room-enough : (input : List ℕ) (room : ℕ) → maxText ≤ room → tomiterOutcome input room ≡ served (length (tomiterText input))

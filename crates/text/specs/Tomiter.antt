@@ -1,4 +1,5 @@
 -- The program's whole job, by document 01: from the bytes of two cascade files to the bytes that it writes.
+use mathlib.Core.Path.{_≡_}
 use mathlib.Core.Bool.{Bool, cond}
 use mathlib.Core.List.{List, [], _∷_, _++_}
 use Prim.Native.Nat.{ℕ, _+_}
@@ -13,6 +14,7 @@ use Rattle.checking.specs.Miter.{miterGates}
 use Rattle.checking.specs.Clauses.{Clause, clausesOf, variablesOf}
 use Rattle.checking.specs.Stored.{stored}
 use Rattle.text.specs.Dimacs.{decimal, dimacsOf}
+use Rattle.text.specs.BytesTell.{BytesTell}
 
 -- the input has 65,536 bytes at most, and the clause buffer 16,384 words
 abbrev pub maxInput : ℕ
@@ -83,3 +85,9 @@ tomiterOutcome input room = demand (leb (length (tomiterText input)) room) noRoo
 
 unfoldable pub tomiterBuffer : List ℕ → List ℕ → List ℕ
 tomiterBuffer input out = written (tomiterOutcome input (length out)) (tomiterText input) out
+
+-- what the call owes: its answer, the buffer's last contents, and that the bytes there tell on which states the cascades of its input differ
+pub record WritesText (input out : List ℕ) (told : Outcome ℕ) (last : List ℕ) : Type 0 where
+  pub answer : told ≡ tomiterOutcome input (length out)
+  pub buffer : last ≡ tomiterBuffer input out
+  pub tells : BytesTell input told last

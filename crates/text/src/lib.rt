@@ -1,9 +1,7 @@
 // The text of a clause list, and the program's whole job on slices.
 
 use circuit::refusal::Refusal;
-ghost use lib.ListN.{length};
-ghost use Rattle.circuit.specs.Outcome.{Yields};
-ghost use Rattle.text.specs.Tomiter.{tomiterOutcome, tomiterBuffer};
+ghost use Rattle.text.specs.Tomiter.{WritesText};
 ghost use Rattle.text.specs.Answers.{ofText};
 ghost use Rattle.text.specs.TextLaws.{TextLaws};
 
@@ -25,7 +23,7 @@ pub const MAX_TEXT: usize = 98321;
 
 // What the program writes for an input of two cascade files, at the buffer's start; else 10.
 pub fn tomiter(input: &[u8], out: &mut [u8]) -> TextAnswer
-    ensures { λ r. ⌜ Yields (ofText r) (now (out .exit)) (tomiterOutcome (now (input .entry)) (length (now (out .entry)))) (tomiterBuffer (now (input .entry)) (now (out .entry))) ⌝ }
+    ensures { λ r. ⌜ WritesText (now (input .entry)) (now (out .entry)) (ofText r) (now (out .exit)) ⌝ }
 {
     if MAX_TEXT <= out.len() {
         return TextAnswer::Bytes(crate::program::put_text(out, input));

@@ -19,7 +19,7 @@ use Rattle.checking.specs.Reduce.{Reduced, reduceGates, reduceOutcome, r
 use Rattle.checking.specs.Equality.{Call, stepOn, reduceOn, stepLeaves, reduceLeaves, after, afterAll}
 use Rattle.checking.specs.Check.{callOf, callsOf, Held, standing, stepGatesLeft, reduceGatesLeft, called, calledAll}
 use Rattle.checking.proofs.step.Calls.{step-refused}
-use Rattle.checking.proofs.step.Laws.{step-laws}
+use Rattle.checking.proofs.step.Laws.{none-kept, step-laws}
 use Rattle.checking.proofs.reduce.Laws.{step-shrinks, reduce-refused}
 use Rattle.checking.proofs.reduce.Relation.{reduce-laws}
 use Rattle.bits.proofs.Lists.{two}
@@ -80,15 +80,15 @@ module _ (gates : ℕ) (ws : List ℕ) (room : 3 * gates ≤ length ws) where
   front : (buffer : List ℕ) (k : ℕ) → length buffer ≡ length st → k ≤ gates → take (3 * k) (over buffer ws) ≡ take (3 * k) buffer
   front buffer k e l = take-append-le (3 * k) buffer (drop (length buffer) ws) (omega (arith, st-long))
 
-  whole : (buffer : List ℕ) → buffer ≡ st → take (3 * gates) (over buffer ws) ≡ st
-  whole buffer e = ap (λ (l : List ℕ). take (3 * gates) (over l ws)) e ∙ take-at st (drop (length st) ws) (3 * gates) st-long
+  whole : (buffer : List ℕ) → buffer ≡ st → take (3 * gates) (over buffer ws) ≡ buffer
+  whole buffer e = take-at buffer (drop (length buffer) ws) (3 * gates) (ap length e ∙ st-long)
 
   module _ (n : ℕ) where
     abbrev StepLeft : Outcome (Step ℕ) → Type 0
     StepLeft o =
         (stepGatesLeft o gates ≤ gates)
         × (length (stepBuffer n st) ≡ length st)
-        × (take (3 * stepGatesLeft o gates) (over (stepBuffer n st) ws) ≡ stepLeaves o (stepBuffer n st) st)
+        × (take (3 * stepGatesLeft o gates) (over (stepBuffer n st) ws) ≡ stepLeaves o (stepBuffer n st))
 
     step-served : (k : ℕ) → Cascade n st maxMiterGates k → (t : Step (List Gate)) → stepGates (gatesOf st) ≡ t → StepLeft (served (counted t))
     step-served k c (found i j kind hs) e =
@@ -96,7 +96,7 @@ module _ (gates : ℕ) (ws : List ℕ) (room : 3 * gates ≤ length ws) where
         let f : length hs ≤ gates = omega (arith, step-shrinks (gatesOf st) i j kind hs e, gates-length st, st-long) in
         (f, s .long, front (stepBuffer n st) (length hs) (s .long) f)
     step-served k c none e =
-        let b : stepBuffer n st ≡ st = step-laws .call-none n st e in
+        let b : stepBuffer n st ≡ st = none-kept n st e in
         (le-refl gates, ap length b, whole (stepBuffer n st) b)
 
     step-left : (o : Outcome ℕ) → checkOutcome n st maxMiterGates ≡ o → StepLeft (stepOutcome n st)
@@ -112,7 +112,7 @@ module _ (gates : ℕ) (ws : List ℕ) (room : 3 * gates ≤ length ws) where
     ReduceLeft o =
         (reduceGatesLeft o gates ≤ gates)
         × (length (reduceBuffer n st) ≡ length st)
-        × (take (3 * reduceGatesLeft o gates) (over (reduceBuffer n st) ws) ≡ reduceLeaves o (reduceBuffer n st) st)
+        × (take (3 * reduceGatesLeft o gates) (over (reduceBuffer n st) ws) ≡ reduceLeaves o (reduceBuffer n st))
 
     reduce-left : (o : Outcome ℕ) → checkOutcome n st maxMiterGates ≡ o → ReduceLeft (reduceOutcome n st)
     reduce-left (served k) e =

@@ -9,10 +9,10 @@ use lib.ListN.{length}
 use borrow.Author.Tests.{le-leb, lt-leb, leb-true, leb-false}
 use Rattle.bits.specs.Lists.{over}
 use Rattle.circuit.specs.Gate.{maxMiterGates}
-use Rattle.circuit.specs.Outcome.{Outcome, served, refused, Yields}
+use Rattle.circuit.specs.Outcome.{Outcome, served, refused, Untouched, Yields}
 use Rattle.circuit.specs.Refusal.{noRoom}
 use Rattle.circuit.specs.Words.{gatesOf, checkOutcome, WordsFault}
-use Rattle.circuit.proofs.Outcome.{told, then-served, then-refused, then-both, then-fails, demand-met, demand-failed, demanded, then-either, last-failed}
+use Rattle.circuit.proofs.Outcome.{told, written-served, written-refused, then-served, then-refused, then-both, then-fails, demand-met, demand-failed, demanded, then-either, last-failed}
 use Rattle.circuit.proofs.words.Laws.{check-served, served-check, check-refused, refused-check}
 use Rattle.checking.specs.declared.clauses.Totals.{Totals}
 use Rattle.checking.specs.Clauses.{clausesOf}
@@ -77,12 +77,23 @@ module _ (n : ℕ) (ws : List ℕ) where
         last-failed (EmitFault n ws room) (leb (t .words) room) noRoom 0 t
         (λ h. short (c .gates) (c .good) (omega (arith, leb-false (t .words) room h, ap (λ (x : Totals). x .words) (c .sizes)))))
 
+module _ (n : ℕ) (ws : List ℕ) (out : List ℤ) where
+  emit-leaves : (t : Totals) → emitOutcome n ws (length out) ≡ served t → emitBuffer n ws out ≡ over (stored (clausesOf n (gatesOf ws))) out
+  unfolding emitBuffer
+  emit-leaves t e = written-served (stored (clausesOf n (gatesOf ws))) out (emitOutcome n ws (length out)) t e
+
+  emit-untouched : Untouched (emitOutcome n ws (length out)) out (emitBuffer n ws out)
+  unfolding emitBuffer
+  emit-untouched = written-refused (stored (clausesOf n (gatesOf ws))) out (emitOutcome n ws (length out))
+
 pub emit-laws : EmitLaws
 emit-laws =
     record {
       sizes-served = λ n ws t. (sizes-counted n ws t, counted-sizes n ws t);
       sizes-refused = λ n ws x y. (sizes-fault n ws x y, fault-sizes n ws x y);
       emit-served = λ n ws room t. (emit-counted n ws room t, (λ c. counted-emit n ws room t (c .0) (c .1)));
+      emit-leaves = emit-leaves;
+      emit-untouched = emit-untouched;
       emit-refused = λ n ws room x y. (emit-fault n ws room x y, fault-emit n ws room x y);
     }
 

@@ -18,7 +18,8 @@ use Rattle.circuit.specs.Words.{allValid}
 use Rattle.circuit.specs.Run.{run}
 use Rattle.circuit.proofs.run.Laws.{run-below}
 use Rattle.checking.specs.Clauses.{OR, plus, minus, inputOf, newVariable, usedBy, gatesClauses, usedAfter, currentAfter, targeted, upFrom, differenceClause, differenceClauses, clausesOf, variablesOf}
-use Rattle.checking.specs.Satisfaction.{variable, holds, satisfies, spelled, gateValues, gatesValues, differences, traced, forced}
+use Rattle.checking.specs.Satisfaction.{variable, holds, satisfies, spelled}
+use Rattle.checking.specs.Forced.{gateValues, gatesValues, differences, traced, forced}
 use Rattle.checking.proofs.clauses.Tests.{same, same-self, and-cong, xor-self, shape-d, someTrue, holds-or, holds-xor, satisfies-append}
 use Rattle.checking.proofs.clauses.Gates.{agree, agree-head, agree-tail, agree-gate, Reads, gates-law, after-reads, untouched}
 

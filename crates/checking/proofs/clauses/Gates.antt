@@ -18,7 +18,8 @@ use Rattle.circuit.specs.Run.{run}
 use Rattle.circuit.proofs.gate.Laws.{valid-facts, valid-more, apply-bit}
 use Rattle.circuit.proofs.gate.Controls.{controls-fire, controls-below}
 use Rattle.checking.specs.Clauses.{XOR, plus, minus, literalOf, implied, manyClauses, gateClauses, newVariable, usedBy, moved, clausesOfGate, gatesClauses, currentAfter, targeted}
-use Rattle.checking.specs.Satisfaction.{variable, value, satisfies, size, gateValues, gatesValues}
+use Rattle.checking.specs.Satisfaction.{variable, value, satisfies, size}
+use Rattle.checking.specs.Forced.{gateValues, gatesValues}
 use Rattle.checking.proofs.clauses.Tests.{same, same-true, and-cong, xor-none, not-and, or-and, shape-0, shape-1, shape-2, someTrue, holds-or, holds-xor, value-neg, satisfies-append}
 
 -- ---- controls on lines below n

@@ -2,7 +2,6 @@
 use Rattle.checking.specs.ClauseLaws.{ClauseLaws}
 use Rattle.checking.proofs.clauses.Forced.{spelled-line, spelled-below, gates-forced, list-forced}
 use Rattle.checking.proofs.clauses.Meaning.{list-tells}
-use Rattle.checking.proofs.clauses.StandIns.{contradiction-fails, without-later-fails, of-first-fails}
 use Rattle.checking.proofs.clauses.Reading.{read-back, read-stored, read-bad}
 use Rattle.checking.proofs.clauses.Bounds.{variables-counted, variables-few, words-fit}
 use Rattle.checking.proofs.clauses.Sums.{sizes-list}
@@ -15,10 +14,7 @@ clause-laws =
       spelled-below = spelled-below;
       gates-forced = gates-forced;
       list-forced = list-forced;
-      lists-tell = list-tells;
-      contradiction-fails = contradiction-fails;
-      without-later-fails = without-later-fails;
-      of-first-fails = of-first-fails;
+      list-tells = list-tells;
       read-back = read-back;
       read-stored = read-stored;
       read-bad = read-bad;

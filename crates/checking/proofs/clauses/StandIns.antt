@@ -1,75 +1,130 @@
--- 01's stand-ins for the clause list do not tell where a run is not the identity. Assumes nothing.
-use mathlib.Core.Path.{_≡_, refl, sym, _∙_}
-use mathlib.Core.Bool.{Bool, true, false, false≢true}
-use mathlib.Core.List.{List, [], _∷_}
-use Prim.Native.Nat.{ℕ}
+-- Miters of NOTs, of m gates and one gate more, on which 01's stand-ins for the clause list go wrong. Assumes nothing.
+use mathlib.Core.Path.{_≡_, refl, sym, ap, fun-ext, _∙_}
+use mathlib.Core.Logic.{_↔_}
+use mathlib.Core.Bool.{Bool, true}
+use mathlib.Core.List.{List, [], _∷_, _++_, map, reverse, reverse-cons, append-assoc}
+use Prim.Native.Nat.{ℕ, zero, suc, _+_, _-_, _/_, _<_}
 use native.Mathlib.Omega.{arith}
+use lib.ListN.{length, take, replicate, length-append, length-replicate, length-reverse}
+use lib.Seq.{take-at}
 use Rattle.bits.specs.Digits.{bit}
 use Rattle.bits.specs.Lists.{fold}
+use Rattle.bits.proofs.Bools.{both}
 use Rattle.circuit.specs.declared.gate.Gate.{Gate}
 use Rattle.circuit.specs.Gate.{notGate, valid, fires, inverted, apply, controlsBelow}
 use Rattle.circuit.specs.Words.{allValid}
 use Rattle.circuit.specs.Run.{run}
-use Rattle.circuit.proofs.gate.Laws.{apply-twice}
-use Rattle.checking.specs.Clauses.{Clause, upFrom, moved, gatesClauses, usedAfter, currentAfter, targeted, differenceClauses, variablesOf}
-use Rattle.checking.specs.Satisfaction.{holds, satisfies, Satisfying, Tells}
-use Rattle.checking.specs.ClauseLaws.{ListsTell, contradiction, withoutLater, ofFirst, ofFirstVariables}
-use Rattle.checking.proofs.clauses.Meaning.{list-tells}
+use Rattle.circuit.proofs.words.Laws.{valid-append}
+use Rattle.circuit.proofs.run.Laws.{run-append, run-below}
+use Rattle.circuit.proofs.inverse.Laws.{inverse-valid}
+use Rattle.checking.specs.Miter.{miterGates}
+use Rattle.checking.specs.Clauses.{Clause, OR, plus, inputOf, moved, gatesClauses, usedAfter, currentAfter, targeted, upFrom, differenceClauses, variablesOf}
+use Rattle.checking.specs.EqualityLaws.{withoutLater}
 
--- the cascades NOT, and NOT twice, on one line
-abbrev pub once : List Gate
-once = notGate 0 ∷ []
+-- NOT on line 0, and with a control on line 1: both have one new variable
+abbrev pub free : Gate
+free = notGate 0
 
-abbrev pub twice : List Gate
-twice = notGate 0 ∷ notGate 0 ∷ []
+abbrev pub controlled : Gate
+controlled = record { positive = 2; negative = 0; target = 0 }
 
-pub once-valid : allValid 1 once ≡ true
-unfolding allValid valid
-once-valid = refl
+abbrev pub nots : ℕ → List Gate
+nots k = replicate k free
 
-pub twice-valid : allValid 1 twice ≡ true
-unfolding allValid valid
-twice-valid = refl
+pub nots-valid : (n : ℕ) → valid n free ≡ true → (k : ℕ) → allValid n (nots k) ≡ true
+unfolding allValid
+nots-valid n v zero = refl
+nots-valid n v (suc k) = both v (nots-valid n v k)
 
-once-runs : run once 0 ≡ 1
-unfolding fold apply valid inverted fires
-once-runs = refl
+-- ---- m NOTs as the start of a miter, and g as its last gate
 
-twice-runs : (x : ℕ) → run twice x ≡ x
-unfolding fold
-twice-runs x = apply-twice (notGate 0) x
+module _ (m : ℕ) where
+  -- how many of them are the first cascade's
+  abbrev pub half : ℕ
+  half = (m + 1) / 2
 
--- clauses that nothing satisfies call NOT the identity
-pub once-told : (variables : ℕ) (cs : List Clause) → ((σ : List Bool) → satisfies σ cs ≡ false) → Tells 1 variables cs (run once) (λ x. x) → ⊥
-once-told variables cs never tell =
-    let e : run once 0 ≡ 0 = tell .equal .1 (λ σ sat. false≢true (sym (never σ) ∙ sat .satisfied)) 0 (omega arith) in
-    let z : _≡_ {A = ℕ} 0 1 = sym e ∙ once-runs in omega arith
+  abbrev pub first : List Gate
+  first = nots half
 
-pub contradiction-fails : ListsTell variablesOf contradiction → ⊥
-unfolding contradiction satisfies holds
-contradiction-fails tell = once-told (variablesOf 1 once) (contradiction 1 once) (λ σ. refl) (tell 1 once (omega arith) once-valid)
+  abbrev pub second : Gate → List Gate
+  second g = g ∷ nots (m - half)
 
--- clauses that something satisfies call NOT twice a change
-pub twice-told : (variables : ℕ) (cs : List Clause) (σ : List Bool) → Satisfying variables cs σ → Tells 1 variables cs (run twice) (λ x. x) → ⊥
-twice-told variables cs σ sat tell = tell .equal .0 (λ x h. twice-runs x) σ sat
+  abbrev pub start : List Gate
+  start = first ++ reverse (nots (m - half))
 
--- input 1, first w 0, second w 0 where it should be 1, d 1
-abbrev pub free : List Bool
-free = true ∷ false ∷ false ∷ true ∷ []
+  pub miter-split : (g : Gate) → miterGates first (second g) ≡ start ++ (g ∷ [])
+  miter-split g = ap (λ (l : List Gate). first ++ l) (reverse-cons g (nots (m - half))) ∙ sym (append-assoc first (reverse (nots (m - half))) (g ∷ []))
 
-pub free-satisfies : Satisfying (variablesOf 1 twice) (withoutLater 1 twice) free
-unfolding withoutLater variablesOf usedAfter currentAfter gatesClauses moved targeted differenceClauses upFrom controlsBelow bit satisfies holds
-free-satisfies = record { whole = refl; satisfied = refl }
+  pub start-length : length start ≡ m
+  start-length =
+      omega (arith, length-append first (reverse (nots (m - half))), length-reverse (nots (m - half)), length-replicate half free, length-replicate (m - half) free)
 
-pub without-later-fails : ListsTell variablesOf withoutLater → ⊥
-without-later-fails tell = twice-told (variablesOf 1 twice) (withoutLater 1 twice) free free-satisfies (tell 1 twice (omega arith) twice-valid)
+  pub start-taken : (g : Gate) → take m (miterGates first (second g)) ≡ start
+  start-taken g = ap (take m) (miter-split g) ∙ take-at start (g ∷ []) m start-length
 
--- so do the clauses of the first gate alone
-pub first-satisfied : (σ : List Bool) × Satisfying (ofFirstVariables 1 twice) (ofFirst 1 twice) σ
-unfolding ofFirst ofFirstVariables
-first-satisfied =
-    let (σ, sat, x, y) = list-tells 1 once (omega arith) once-valid .differing 0 (omega arith) (λ e. let z : _≡_ {A = ℕ} 0 1 = sym e ∙ once-runs in omega arith) in
-    (σ, sat)
+  pub start-valid : allValid 1 start ≡ true
+  start-valid = valid-append 1 first (reverse (nots (m - half))) (nots-valid 1 one half) (inverse-valid 1 (nots (m - half)) (nots-valid 1 one (m - half)))
+    where
+      one : valid 1 free ≡ true
+      one = unfold valid in refl
 
-pub of-first-fails : ListsTell ofFirstVariables ofFirst → ⊥
-of-first-fails tell = let (σ, sat) = first-satisfied in twice-told (ofFirstVariables 1 twice) (ofFirst 1 twice) σ sat (tell 1 twice (omega arith) twice-valid)
+  -- the state after them, from 0
+  abbrev pub reached : ℕ
+  reached = run start 0
+
+  reached-low : reached < 2
+  reached-low = run-below 1 start start-valid 0 (omega arith)
+
+  pub last-runs : (g : Gate) → run (miterGates first (second g)) 0 ≡ apply g reached
+  unfolding fold
+  last-runs g = ap (λ (l : List Gate). run l 0) (miter-split g) ∙ run-append start (g ∷ []) 0
+
+  -- from a state of line 0 alone, NOT comes back to 0 exactly where what keeps the state does not
+  pub unlike : (f : ℕ → ℕ) → f 0 ≡ 0 → f 1 ≡ 1 → (apply free reached ≡ 0) ↔ (f reached ≡ 0) → ⊥
+  unlike f z o e = go reached reached-low e
+    where
+      up : apply free 0 ≡ 1
+      up = unfold apply valid inverted fires in refl
+
+      down : apply free 1 ≡ 0
+      down = unfold apply valid inverted fires in refl
+
+      go : (y : ℕ) → y < 2 → (apply free y ≡ 0) ↔ (f y ≡ 0) → ⊥
+      go zero h e = let q : _≡_ {A = ℕ} 1 0 = sym up ∙ e .1 z in omega arith
+      go (suc zero) h e = let q : _≡_ {A = ℕ} 1 0 = sym o ∙ e .0 down in omega arith
+      go (suc (suc y)) h e = omega arith
+
+-- ---- the clauses of the last gate dropped: the rest does not tell which gate it was
+
+used-same : (used : ℕ) (xs : List Gate) → usedAfter used (xs ++ (free ∷ [])) ≡ usedAfter used (xs ++ (controlled ∷ []))
+unfolding usedAfter controlsBelow bit
+used-same used [] = refl
+used-same used (x ∷ xs) = used-same _ xs
+
+current-same : (used : ℕ) (current : ℕ → ℕ) (xs : List Gate) (k : ℕ) → currentAfter used current (xs ++ (free ∷ [])) k ≡ currentAfter used current (xs ++ (controlled ∷ [])) k
+unfolding currentAfter moved controlsBelow bit
+current-same used current [] k = refl
+current-same used current (x ∷ xs) k = current-same _ _ xs k
+
+targeted-same : (xs : List Gate) (k : ℕ) → targeted (xs ++ (free ∷ [])) k ≡ targeted (xs ++ (controlled ∷ [])) k
+unfolding targeted
+targeted-same [] k = refl
+targeted-same (x ∷ xs) k = rw (targeted-same xs k)
+
+pub variables-same : (n : ℕ) (xs : List Gate) → variablesOf n (xs ++ (free ∷ [])) ≡ variablesOf n (xs ++ (controlled ∷ []))
+unfolding variablesOf
+variables-same n xs = ap (λ (used : ℕ). used + n) (used-same n xs)
+
+-- what the list is made of
+abbrev made : ℕ → List Gate → (ℕ → Bool) → (ℕ → ℕ) → ℕ → List Clause
+made n xs hit last used = gatesClauses n inputOf xs ++ (differenceClauses hit inputOf last used (upFrom 0 n) ++ (OR (map plus (upFrom (suc used) n)) ∷ []))
+
+pub without-same : (m n : ℕ) (xs : List Gate) → length xs ≡ m → withoutLater m n (xs ++ (free ∷ [])) ≡ withoutLater m n (xs ++ (controlled ∷ []))
+unfolding withoutLater
+without-same m n xs long =
+    let gs : List Gate = xs ++ (free ∷ []) in
+    let hs : List Gate = xs ++ (controlled ∷ []) in
+    ap (λ (l : List Gate). made n l (targeted gs) (currentAfter n inputOf gs) (usedAfter n gs)) (take-at xs (free ∷ []) m long ∙ sym (take-at xs (controlled ∷ []) m long))
+    ∙ ap (λ (hit : ℕ → Bool). made n (take m hs) hit (currentAfter n inputOf gs) (usedAfter n gs)) (fun-ext (targeted-same xs))
+    ∙ ap (λ (last : ℕ → ℕ). made n (take m hs) (targeted hs) last (usedAfter n gs)) (fun-ext (current-same n inputOf xs))
+    ∙ ap (λ (used : ℕ). made n (take m hs) (targeted hs) (currentAfter n inputOf hs) used) (used-same n xs)

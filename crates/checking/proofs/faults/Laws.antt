@@ -8,23 +8,29 @@ use native.Mathlib.Numerals.{add-one}
 use native.Mathlib.Omega.{arith}
 use lib.Bits.{bitOr, bitXor}
 use lib.Dec.{eqb, ltb}
-use lib.ListN.{length, take, drop, getD}
-use lib.Seq.{split-at}
+use lib.ListN.{length, take, drop, getD, List·getD-append}
+use lib.Seq.{split-at, drop-at}
 use borrow.Author.Tests.{eqb-true, eqb-false, eq-eqb, ne-eqb, ltb-true, lt-ltb, not-true}
 use Rattle.bits.specs.Digits.{bit}
-use Rattle.bits.specs.Lists.{fold}
+use Rattle.bits.specs.Lists.{fold, over}
 use Rattle.bits.proofs.Bools.{and-parts, both, either, same-test, not-held}
 use Rattle.bits.proofs.Digits.{bit-or, bit-pow}
+use Rattle.bits.proofs.Lists.{over-length}
 use Rattle.circuit.specs.declared.gate.Gate.{Gate}
-use Rattle.circuit.specs.Gate.{maxLines, notGate, valid, fires}
-use Rattle.circuit.specs.Words.{allValid}
+use Rattle.circuit.specs.Gate.{maxLines, maxGates, notGate, valid, fires}
+use Rattle.circuit.specs.Outcome.{served, Untouched}
+use Rattle.circuit.specs.Words.{gatesOf, allValid}
 use Rattle.circuit.specs.Run.{run, Differs}
+use Rattle.circuit.proofs.Outcome.{written-served, written-refused}
+use Rattle.circuit.proofs.words.Laws.{cascade-count}
 use Rattle.circuit.proofs.gate.Laws.{fires-lines, lines-fires, valid-by-lines, lines-valid, valid-more, apply-gate, inverted-fired, inverted-idle}
 use Rattle.circuit.proofs.run.Laws.{run-append}
-use Rattle.checking.specs.Faults.{isFree, missing, everywhere, stands, maskWhere, masksFrom, faultMasks}
-use Rattle.checking.specs.FaultLaws.{gateOf, stateAt, Candidate, Masking, repairedAt, Repairs, withControl}
+use Rattle.checking.specs.Faults.{isFree, missing, everywhere, stands, maskWhere, masksFrom, faultMasks, faultOutcome, faultBuffer}
+use Rattle.checking.specs.RefusalLaws.{Every, MasksServed}
+use Rattle.checking.specs.FaultLaws.{gateOf, stateAt, Candidate, Masking, maskPlace, MasksStand, repairedAt, Repairs, withControl}
 use Rattle.checking.proofs.faults.Masks.{mask-bit}
 use Rattle.checking.proofs.faults.Loops.{masks-length}
+use Rattle.checking.proofs.faults.Refusals.{masks-made}
 
 -- ---- the masks of gate i
 
@@ -291,3 +297,60 @@ excluded n suspect reference xs i k positive few v differ h below free out =
     let same = repair-leaves (missing positive k) (withControl positive k) suspect i h (control-repairs positive k g w (omega arith) free) (getD xs j 0) e in
     let d = differ j l in
     (j, l, record { state = d .state; outputs = λ q. d .outputs (sym same ∙ q) })
+
+-- ---- the call
+
+pub masks-untouched : (na : ℕ) (a : List ℕ) (nb : ℕ) (b states out : List ℕ) → Untouched (faultOutcome na a nb b states (length out)) out (faultBuffer na a nb b states out)
+unfolding faultBuffer
+masks-untouched na a nb b states out = written-refused (faultMasks na (gatesOf a) states) out (faultOutcome na a nb b states (length out))
+
+module _ (na : ℕ) (a : List ℕ) (nb : ℕ) (b states out : List ℕ) (k : ℕ) (made : faultOutcome na a nb b states (length out) ≡ served k) where
+  abbrev masks : List ℕ
+  masks = faultMasks na (gatesOf a) states
+
+  abbrev last : List ℕ
+  last = faultBuffer na a nb b states out
+
+  call : MasksServed na a nb b states (length out) k
+  call = masks-made na a nb b states (length out) k made
+
+  suspect-count : length (gatesOf a) ≡ k
+  suspect-count = cascade-count na a maxGates k (call .pair .first)
+
+  left : last ≡ over masks out
+  unfolding faultBuffer
+  left = written-served masks out (faultOutcome na a nb b states (length out)) k made
+
+  two-each : length masks ≡ 2 * k
+  two-each = masks-length na [] (gatesOf a) states ∙ ap (λ (n : ℕ). 2 * n) suspect-count
+
+  -- a place among the masks
+  masked : (place : ℕ) → place < 2 * k → getD last place 0 ≡ getD masks place 0
+  masked place h = ap (λ (l : List ℕ). getD l place 0) left ∙ List·getD-append masks (drop (length masks) out) 0 place (omega (arith, two-each))
+
+  lines : (i line : ℕ) (positive : Bool) → i < k → (bit (getD last (maskPlace positive i) 0) line ≡ true) ↔ Candidate na (gatesOf a) states i positive line
+  lines i line true h =
+      rw (masked (2 * i) (omega arith)) (masks-masking .first na (gatesOf a) states i line (omega (arith, suspect-count)))
+  lines i line false h =
+      rw (masked (2 * i + 1) (omega arith)) (masks-masking .second na (gatesOf a) states i line (omega (arith, suspect-count)))
+
+  pub masks-stand : MasksStand na (gatesOf a) states k out last
+  masks-stand =
+      record {
+        long = ap length left ∙ over-length masks out (omega (arith, two-each, call .fits));
+        lines = lines;
+        rest = ap (drop (2 * k)) left ∙ drop-at masks (drop (length masks) out) (2 * k) two-each ∙ ap (λ (n : ℕ). drop n out) two-each;
+      }
+
+  pub guilty-stands : (i line : ℕ) (positive : Bool) → i < k → line < na → isFree (gateOf (gatesOf a) i) line ≡ true
+      → Every (λ x. run (repairedAt i (withControl positive line) (gatesOf a)) x ≡ run (gatesOf b) x) states
+      → bit (getD last (maskPlace positive i) 0) line ≡ true
+  guilty-stands i line positive h below free agree =
+      either (bit (getD last (maskPlace positive i) 0) line) (λ t. t)
+      (λ t.
+      let c = call .pair .first in
+      let (j, l, d) =
+      excluded na (gatesOf a) (gatesOf b) states i line positive (c .lines-high) (c .gates)
+      (λ j l. record { state = call .inside j l; outputs = call .differing j l })
+      (omega (arith, suspect-count)) below free (λ x. true≢false (sym (lines i line positive h .1 x) ∙ t)) in
+      absurd (d .outputs (agree j l)))

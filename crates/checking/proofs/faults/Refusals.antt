@@ -6,7 +6,7 @@ use Prim.Native.Nat.{ℕ, zero, suc, _+_, _*_, _^_, _<_}
 use native.Mathlib.Omega.{arith}
 use lib.Dec.{leb, ltb}
 use lib.ListN.{length, getD}
-use borrow.Author.Tests.{leb-false, lt-ltb, le-ltb, ltb-true, ltb-false}
+use borrow.Author.Tests.{leb-true, leb-false, lt-ltb, le-ltb, ltb-true, ltb-false}
 use Rattle.bits.proofs.Bools.{either}
 use Rattle.circuit.specs.Outcome.{Outcome, served, refused}
 use Rattle.circuit.specs.Refusal.{badState, agreeingState, noRoom, tooWide}
@@ -16,9 +16,9 @@ use Rattle.circuit.proofs.Outcome.{never, demand-met, demand-failed, demanded, 
 use Rattle.circuit.proofs.words.Laws.{pair-served, served-pair, pair-refused, refused-pair}
 use Rattle.checking.specs.Compare.{outputsDiffer, maxSweepLines, differenceOutcome, differsOutcome, pickOutcome}
 use Rattle.checking.specs.Faults.{eachFrom, faultCheck, faultOutcome}
-use Rattle.checking.specs.RefusalLaws.{GoodPair, SweepFault, sweep-pair, wide, InputFault, input-pair, outside, Every, First, MasksFault, masks-pair, outside-at, agreeing-at, short, RefusalLaws}
+use Rattle.checking.specs.RefusalLaws.{GoodPair, SweepFault, sweep-pair, wide, InputFault, input-pair, outside, Every, First, MasksServed, MasksFault, masks-pair, outside-at, agreeing-at, short, RefusalLaws}
 use Rattle.checking.proofs.compare.Laws.{differ-no, no-differ, differ-yes, yes-differ, difference-refused, difference-wide, differs-refused, differs-outside, pick-refused}
-use Rattle.checking.proofs.faults.Loops.{fault-pair, fault-state, fault-agree, fault-good, fault-refused, fault-short}
+use Rattle.checking.proofs.faults.Loops.{fault-pair, fault-state, fault-agree, fault-good, fault-refused, fault-short, fault-made}
 
 -- ---- the tests of the states
 
@@ -131,6 +131,22 @@ module _ (na : ℕ) (a : List ℕ) (nb : ℕ) (b : List ℕ) where
     all-differing : (k : ℕ) → eachFrom differing agreeingState 0 xs ≡ served k → Every (λ x. run (gatesOf a) x ≡ run (gatesOf b) x → ⊥) xs
     all-differing k e = λ j h. differ-yes _ _ _ (each-served differing agreeingState 0 xs k e j h)
 
+    -- the tests before that of the room
+    check-good : (gates : ℕ) → faultCheck na a nb b xs ≡ served gates
+        → (m : ℕ) × (GoodPair na a nb b gates m) × (Every (λ x. x < 2 ^ na) xs) × (Every (λ x. run (gatesOf a) x ≡ run (gatesOf b) x → ⊥) xs)
+    unfolding faultCheck
+    check-good gates e =
+        let (c, p, f) = then-both (pairOutcome na a nb b) _ gates e in
+        let (k, q, g) = then-both (eachFrom inside badState 0 xs) _ gates f in
+        let (m, r, l) = then-both (eachFrom differing agreeingState 0 xs) _ gates g in
+        let n : c .first ≡ gates = cc in
+        (c .second, subst (λ (i : ℕ). GoodPair na a nb b i (c .second)) n (good-pair c p), all-inside k q, all-differing m r)
+
+    good-check : (k m : ℕ) → GoodPair na a nb b k m → Every (λ x. x < 2 ^ na) xs → Every (λ x. run (gatesOf a) x ≡ run (gatesOf b) x → ⊥) xs → faultCheck na a nb b xs ≡ served k
+    good-check k m g e f =
+        fault-good na a nb b xs (counts k m) (pair-good k m g) _ (served-each inside badState 0 xs (λ j h. lt-ltb _ _ (e j h))) _
+        (served-each differing agreeingState 0 xs (λ j h. yes-differ _ _ _ (f j h)))
+
     fault-masks : (x y : ℕ) → Fault x y → faultOutcome na a nb b xs room ≡ refused x y
     fault-masks x y (masks-pair w) = fault-refused na a nb b xs room x y (fault-pair na a nb b xs x y (refused-pair na a nb b x y w))
     fault-masks x y (outside-at k m g i f) =
@@ -142,10 +158,7 @@ module _ (na : ℕ) (a : List ℕ) (nb : ℕ) (b : List ℕ) where
         (fault-agree na a nb b xs (counts k m) (pair-good k m g) _ (served-each inside badState 0 xs (λ j h. lt-ltb _ _ (e j h))) _ _
         (refused-each differing agreeingState 0 xs i (other-words xs i (yes-differ _ _) (no-differ _ _) f) ∙ ap (refused agreeingState) (omega arith)))
     fault-masks x y (short k m g e f h) =
-        fault-short na a nb b xs room k
-        (fault-good na a nb b xs (counts k m) (pair-good k m g) _ (served-each inside badState 0 xs (λ j h. lt-ltb _ _ (e j h))) _
-        (served-each differing agreeingState 0 xs (λ j h. yes-differ _ _ _ (f j h))))
-        h
+        fault-short na a nb b xs room k (good-check k m g e f) h
 
     masks-fault : (x y : ℕ) → faultOutcome na a nb b xs room ≡ refused x y → Fault x y
     unfolding faultOutcome faultCheck
@@ -165,12 +178,20 @@ module _ (na : ℕ) (a : List ℕ) (nb : ℕ) (b : List ℕ) where
         (λ gates g. last-failed Fault (leb (2 * gates) room) noRoom 0 gates (λ t. too-short gates g (leb-false _ _ t)))
       where
         too-short : (gates : ℕ) → faultCheck na a nb b xs ≡ served gates → room < 2 * gates → Fault noRoom 0
-        too-short gates e h =
-            let (c, p, f) = then-both (pairOutcome na a nb b) _ gates e in
-            let (k, q, g) = then-both (eachFrom inside badState 0 xs) _ gates f in
-            let (m, r, l) = then-both (eachFrom differing agreeingState 0 xs) _ gates g in
-            let n : c .first ≡ gates = cc in
-            short (c .first) (c .second) (good-pair c p) (all-inside k q) (all-differing m r) (omega arith)
+        too-short gates e h = let (m, g, p, q) = check-good gates e in short gates m g p q h
+
+    -- served exactly for a good pair, states that are good, and room
+    pub masks-made : (k : ℕ) → faultOutcome na a nb b xs room ≡ served k → MasksServed na a nb b xs room k
+    unfolding faultOutcome
+    masks-made k e =
+        let (gates, f, g) = then-both (faultCheck na a nb b xs) _ k e in
+        let (t, q) = demanded (leb (2 * gates) room) noRoom 0 (served gates) k g in
+        let n : gates ≡ k = cc in
+        let (m, pair, p, d) = check-good k (f ∙ ap served n) in
+        record { second = m; pair = pair; inside = p; differing = d; fits = omega (arith, leb-true (2 * gates) room t) }
+
+    made-masks : (k : ℕ) → MasksServed na a nb b xs room k → faultOutcome na a nb b xs room ≡ served k
+    made-masks k s = fault-made na a nb b xs room k (good-check k (s .second) (s .pair) (s .inside) (s .differing)) (s .fits)
 
 pub refusal-laws : RefusalLaws
 refusal-laws =
@@ -178,5 +199,6 @@ refusal-laws =
       sweep-refused = λ na a nb b x y. (sweep-fault na a nb b x y, fault-sweep na a nb b x y);
       input-refused = λ na a nb b s x y. (input-fault na a nb b s x y, fault-input na a nb b s x y);
       pick-refused = λ na a nb b x y. (pick-fault na a nb b x y, (λ w. pick-refused na a nb b x y (refused-pair na a nb b x y w)));
+      masks-served = λ na a nb b xs room k. (masks-made na a nb b xs room k, made-masks na a nb b xs room k);
       masks-refused = λ na a nb b xs room x y. (masks-fault na a nb b xs room x y, fault-masks na a nb b xs room x y);
     }

@@ -13,7 +13,7 @@ use Rattle.checking.specs.Compare.{none, lowestFrom}
 use Rattle.checking.specs.Faults.{maskWhere}
 use Rattle.checking.specs.FaultLaws.{Sweeping, Candidate, Masking, strikesNothing, strikesAll, stateAt, gateOf, FaultLaws}
 use Rattle.checking.proofs.compare.Laws.{sweep-says}
-use Rattle.checking.proofs.faults.Laws.{masks-masking, repair-leaves, control-repairs, control-valid, excluded}
+use Rattle.checking.proofs.faults.Laws.{masks-masking, repair-leaves, control-repairs, control-valid, excluded, masks-stand, masks-untouched, guilty-stands}
 
 -- NOT on line 0, and no gate: they differ on state 0
 abbrev one : List Gate
@@ -70,8 +70,11 @@ fault-laws =
       masks = masks-masking;
       nothing-struck = nothing-struck-fails;
       all-struck = all-struck-fails;
+      masks-stand = masks-stand;
+      masks-untouched = masks-untouched;
       repair-leaves = repair-leaves;
       control-repairs = control-repairs;
       control-valid = control-valid;
       excluded = excluded;
+      guilty-stands = guilty-stands;
     }

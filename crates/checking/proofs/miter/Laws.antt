@@ -14,12 +14,12 @@ use Rattle.bits.proofs.Bools.{either}
 use Rattle.bits.proofs.Lists.{lent-over, over-length, rest-lent}
 use Rattle.circuit.specs.declared.gate.Gate.{Gate}
 use Rattle.circuit.specs.Gate.{maxGates}
-use Rattle.circuit.specs.Outcome.{Outcome, served, refused, written, Yields}
+use Rattle.circuit.specs.Outcome.{Outcome, served, refused, written, Untouched, Yields}
 use Rattle.circuit.specs.Refusal.{noRoom}
 use Rattle.circuit.specs.Words.{gatesOf, wordsOf, allValid, Counts, pairOutcome}
 use Rattle.circuit.specs.Run.{run}
 use Rattle.circuit.specs.Inverse.{inverse, putInverse}
-use Rattle.circuit.proofs.Outcome.{never, told, demand-met, demand-failed, demanded, then-served, then-refused, then-both}
+use Rattle.circuit.proofs.Outcome.{never, told, demand-met, demand-failed, demanded, then-served, then-refused, then-both, written-refused}
 use Rattle.circuit.proofs.words.Laws.{gates-length, gates-words, words-gates, words-append, words-length, valid-append, served-check, pair-served, served-pair, pair-refused, refused-pair}
 use Rattle.circuit.proofs.run.Laws.{run-append}
 use Rattle.circuit.proofs.inverse.Laws.{run-inverse, inverse-run, inverse-valid, put-fits}
@@ -158,11 +158,16 @@ module _ (na : ℕ) (a : List ℕ) (nb : ℕ) (b : List ℕ) where
           rest = ap (drop (3 * k)) written-out ∙ drop-at front _ (3 * k) front-length ∙ ap (λ (n : ℕ). drop n out) front-length;
         }
 
+miter-untouched : (na : ℕ) (a : List ℕ) (nb : ℕ) (b out : List ℕ) → Untouched (miterOutcome na a nb b (length out)) out (miterBuffer na a nb b out)
+unfolding miterBuffer
+miter-untouched na a nb b out = written-refused (wordsOf (miterGates (gatesOf a) (gatesOf b))) out (miterOutcome na a nb b (length out))
+
 pub miter-laws : MiterLaws
 miter-laws =
     record {
       identity = λ a b s. (identity-agree a b s, agree-identity a b s);
       miter-served = λ na a nb b room k. (miter-served na a nb b room k, served-miter na a nb b room k);
       miter-refused = λ na a nb b room number place. (miter-fault na a nb b room number place, fault-miter na a nb b room number place);
+      miter-untouched = miter-untouched;
       miter-stands = miter-stands;
     }

@@ -8,7 +8,7 @@ use native.Mathlib.Omega.{arith}
 use lib.ListN.{length}
 use Rattle.circuit.specs.declared.gate.Gate.{Gate}
 use Rattle.circuit.specs.Gate.{maxLines, maxMiterGates}
-use Rattle.circuit.specs.Outcome.{Outcome, served, refused}
+use Rattle.circuit.specs.Outcome.{Outcome, served, refused, Untouched}
 use Rattle.circuit.specs.Words.{gatesOf, allValid, checkOutcome, Cascade, WordsFault}
 use Rattle.circuit.proofs.Outcome.{then-served, then-refused}
 use Rattle.circuit.proofs.words.Laws.{gates-length, valid-all-more, served-check, check-refused, refused-check}
@@ -106,6 +106,10 @@ module _ (n : ℕ) (ws : List ℕ) where
       let g = gates-length ws in
       rw (reduce-words k c) (filled-stands n ws k (r .left) c (omega arith) (reduce-keeps n (c .lines-high) gs (r .left) (r .pairs) (r .merges) (c .gates) t .good))
 
+  pub call-untouched : Untouched (reduceOutcome n ws) ws (reduceBuffer n ws)
+  unfolding reduceBuffer
+  call-untouched number place e = ap (λ (o : Outcome (Reduced ℕ)). servedWords o (filled (reduceGates (gatesOf ws) .left) (length ws)) ws) e
+
   call-refused : (x y : ℕ) → (reduceOutcome n ws ≡ refused x y) ↔ WordsFault n ws maxMiterGates x y
   unfolding reduceOutcome
   call-refused x y = (
@@ -122,5 +126,6 @@ reduce-laws =
       call-served = reduce-served;
       call-refused = call-refused;
       call-stands = call-stands;
+      call-untouched = call-untouched;
       call-lines = λ n m ws k l c d. (reduce-served n ws k c ∙ sym (reduce-served m ws l d), reduce-words n ws k c ∙ sym (reduce-words m ws l d));
     }

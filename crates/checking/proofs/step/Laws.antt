@@ -10,9 +10,9 @@ use lib.Seq.{take-at, getD-append-add}
 use Rattle.bits.specs.Lists.{fold}
 use Rattle.circuit.specs.declared.gate.Gate.{Gate}
 use Rattle.circuit.specs.Gate.{maxLines, maxMiterGates, valid}
-use Rattle.circuit.specs.Outcome.{Outcome, served, refused, andThen}
+use Rattle.circuit.specs.Outcome.{Outcome, served, refused, andThen, Untouched}
 use Rattle.circuit.specs.Words.{gatesOf, wordsOf, allValid, checkOutcome, Cascade, WordsFault}
-use Rattle.circuit.proofs.Outcome.{never, then-served, then-refused}
+use Rattle.circuit.proofs.Outcome.{never, then-served, then-refused, then-both}
 use Rattle.circuit.proofs.gate.Laws.{valid-more}
 use Rattle.circuit.proofs.words.Laws.{gates-length, gates-words, words-length, valid-all-more, served-check, check-refused, refused-check}
 use Rattle.checking.specs.declared.step.Kind.{Kind}
@@ -101,14 +101,30 @@ module _ (n : ℕ) (ws : List ℕ) where
       rw (step-words k c ∙ ap (λ (t : Step (List Gate)). stepWords t ws) e)
       (filled-stands n ws k hs c (omega arith) (step-keeps n (gatesOf ws) (c .lines-high) (c .gates) i j m hs s .good))
 
-  call-none : stepGates (gatesOf ws) ≡ none → stepBuffer n ws ≡ ws
+  -- nothing found, none answered, refused: the words are as they were
+  pub none-kept : stepGates (gatesOf ws) ≡ none → stepBuffer n ws ≡ ws
   unfolding stepBuffer
-  call-none e =
+  none-kept e =
       ap (λ (t : Step (List Gate)). servedWords (stepOutcome n ws) (stepWords t ws) ws) e ∙ unchanged (stepOutcome n ws)
     where
       unchanged : (o : Outcome (Step ℕ)) → servedWords o ws ws ≡ ws
       unchanged (served a) = refl
       unchanged (refused x y) = refl
+
+  call-none : stepOutcome n ws ≡ served none → stepBuffer n ws ≡ ws
+  unfolding stepOutcome
+  call-none e =
+      let (k, p, f) = then-both (checkOutcome n ws maxMiterGates) _ none e in
+      let c : counted (stepGates (gatesOf ws)) ≡ none = cc in
+      none-kept (counted-none (stepGates (gatesOf ws)) c)
+    where
+      counted-none : (t : Step (List Gate)) → counted t ≡ none → t ≡ none
+      counted-none (found i j k hs) q = let z : _≡_ {A = ℕ} 0 1 = cc in absurd (omega arith)
+      counted-none none q = refl
+
+  pub call-untouched : Untouched (stepOutcome n ws) ws (stepBuffer n ws)
+  unfolding stepBuffer
+  call-untouched number place e = ap (λ (o : Outcome (Step ℕ)). servedWords o (stepWords (stepGates (gatesOf ws)) ws) ws) e
 
   -- what is refused was refused by the tests of the words
   pub refused-first : {A : Type 0} (o : Outcome ℕ) (r : A) (x y : ℕ) → andThen o (λ k. served r) ≡ refused x y → o ≡ refused x y
@@ -137,5 +153,6 @@ step-laws =
       call-refused = call-refused;
       call-stands = call-stands;
       call-none = call-none;
+      call-untouched = call-untouched;
       call-lines = λ n m ws k l c d. (step-served n ws k c ∙ sym (step-served m ws l d), step-words n ws k c ∙ sym (step-words m ws l d));
     }

@@ -1,27 +1,28 @@
 -- The laws of the inverse: its words one gate at a time, its validity, and what its call answers and leaves. Assumes nothing.
-use mathlib.Core.Path.{_≡_, refl, sym, ap, _∙_}
+use mathlib.Core.Path.{_≡_, refl, sym, ap, _∙_, subst}
 use mathlib.Core.Bool.{Bool, true, cond}
 use mathlib.Core.List.{List, [], _∷_, _++_, reverse, reverse-cons}
 use Prim.Native.Nat.{ℕ, _+_, _-_, _*_, _/_, _≤_, _<_}
 use native.Mathlib.Omega.{arith}
 use lib.Dec.{leb}
 use lib.ListN.{length, drop, take, length-reverse, length-drop}
-use borrow.Author.Tests.{le-leb, lt-leb, leb-false}
+use lib.Seq.{take-at, drop-at}
+use borrow.Author.Tests.{le-leb, lt-leb, leb-true, leb-false}
 use borrow.Rule.Slice.PartMut.{putMid}
 use Rattle.bits.specs.Lists.{over}
 use Rattle.bits.proofs.Bools.{and-parts, both}
 use Rattle.bits.proofs.Lists.{lent-over, fold-back, reverse-append, reverse-twice}
 use Rattle.circuit.specs.declared.gate.Gate.{Gate}
 use Rattle.circuit.specs.Gate.{maxGates, valid, apply}
-use Rattle.circuit.specs.Outcome.{Outcome, served, refused, written, Yields}
+use Rattle.circuit.specs.Outcome.{Outcome, served, refused, written, Untouched, Yields}
 use Rattle.circuit.specs.Refusal.{noRoom}
-use Rattle.circuit.specs.Words.{gateAt, gateWords, gatesOf, wordsOf, allValid, checkOutcome}
+use Rattle.circuit.specs.Words.{gateAt, gateWords, gatesOf, wordsOf, allValid, checkOutcome, Cascade}
 use Rattle.circuit.specs.Inverse.{inverse, putInverse, inverseOutcome, inverseBuffer}
 use Rattle.circuit.specs.Run.{run}
-use Rattle.circuit.specs.Laws.{InverseFault, inverse-words, short}
+use Rattle.circuit.specs.Laws.{InverseFault, inverse-words, short, InverseStands}
 use Rattle.circuit.proofs.gate.Laws.{apply-twice}
-use Rattle.circuit.proofs.Outcome.{demand-met, demand-failed, then-served, then-refused, told, then-either, last-failed}
-use Rattle.circuit.proofs.words.Laws.{gates-next, gates-end, gates-length, words-length, words-reverse, valid-append, check-served, served-check, check-refused, refused-check}
+use Rattle.circuit.proofs.Outcome.{demand-met, demand-failed, then-served, then-refused, then-both, demanded, written-refused, told, then-either, last-failed}
+use Rattle.circuit.proofs.words.Laws.{gates-next, gates-end, gates-length, words-length, gates-words, words-reverse, valid-append, words-cascade, cascade-count, cascade-words, check-served, served-check, check-refused, refused-check}
 
 -- the words of the gates from j on, in reverse order
 abbrev pub tailBack : List ℕ → ℕ → List ℕ
@@ -126,3 +127,70 @@ module _ (n : ℕ) (ws : List ℕ) (room : ℕ) where
       then-either (InverseFault n ws room) (checkOutcome n ws maxGates) _
       (λ x y p. inverse-words (check-refused n ws maxGates x y p))
       (λ k p. last-failed (InverseFault n ws room) (leb (length ws) room) noRoom 0 k (λ t. short k (check-served n ws maxGates k p) (leb-false _ _ t)))
+
+-- ---- served exactly for a cascade and a buffer with room
+
+module _ (n : ℕ) (ws : List ℕ) (room k : ℕ) where
+  pub inverse-served : inverseOutcome n ws room ≡ served k → (Cascade n ws maxGates k) × (length ws ≤ room)
+  unfolding inverseOutcome
+  inverse-served e =
+      let (m, p, f) = then-both (checkOutcome n ws maxGates) _ k e in
+      let (t, g) = demanded (leb (length ws) room) noRoom 0 (served m) k f in
+      let x : m ≡ k = cc in
+      (check-served n ws maxGates k (p ∙ ap served x), leb-true _ _ t)
+
+  pub served-inverse : Cascade n ws maxGates k → length ws ≤ room → inverseOutcome n ws room ≡ served k
+  served-inverse c h = inverse-made n ws room k (served-check n ws maxGates k c) h
+
+-- what a served call leaves, and a refused one
+pub inverse-untouched : (n : ℕ) (ws out : List ℕ) → Untouched (inverseOutcome n ws (length out)) out (inverseBuffer n ws out)
+unfolding inverseBuffer
+inverse-untouched n ws out = written-refused (wordsOf (inverse (gatesOf ws))) out (inverseOutcome n ws (length out))
+
+module _ (n : ℕ) (ws out : List ℕ) (k : ℕ) (c : Cascade n ws maxGates k) (room : length ws ≤ length out) where
+  abbrev hs : List Gate
+  hs = inverse (gatesOf ws)
+
+  back-count : length hs ≡ k
+  back-count = length-reverse (gatesOf ws) ∙ cascade-count n ws maxGates k c
+
+  pub back-cascade : Cascade n (wordsOf hs) maxGates k
+  back-cascade =
+      subst (Cascade n (wordsOf hs) maxGates) back-count
+      (words-cascade n hs maxGates (c .lines-low) (c .lines-high) (omega (arith, back-count, c .few)) (inverse-valid n (gatesOf ws) (c .gates)))
+
+  left : inverseBuffer n ws out ≡ over (wordsOf hs) out
+  left = inverse-written n ws out k (served-check n ws maxGates k c) room
+
+  three : length (wordsOf hs) ≡ 3 * k
+  three = words-length hs ∙ ap (λ (m : ℕ). 3 * m) back-count
+
+  pub back-words : take (3 * k) (inverseBuffer n ws out) ≡ wordsOf hs
+  back-words = ap (take (3 * k)) left ∙ take-at (wordsOf hs) _ (3 * k) three
+
+  pub back-rest : drop (3 * k) (inverseBuffer n ws out) ≡ drop (3 * k) out
+  back-rest = ap (drop (3 * k)) left ∙ drop-at (wordsOf hs) _ (3 * k) three ∙ ap (λ (m : ℕ). drop m out) three
+
+  -- the inverse of the inverse
+  pub back-back : (into : List ℕ) → length ws ≤ length into → Yields (inverseOutcome n (wordsOf hs) (length into)) (inverseBuffer n (wordsOf hs) into) (served k) (over ws into)
+  back-back into h =
+      let z = c .size in
+      let fits : length (wordsOf hs) ≤ length into = omega (arith, three) in
+      let words : wordsOf (inverse (gatesOf (wordsOf hs))) ≡ ws =
+      ap (λ (l : List Gate). wordsOf (inverse l)) (gates-words hs) ∙ ap wordsOf (inverse-twice (gatesOf ws)) ∙ cascade-words n ws maxGates k c in
+      record {
+        answer = served-inverse n (wordsOf hs) (length into) k back-cascade fits;
+        buffer = inverse-written n (wordsOf hs) into k (served-check n (wordsOf hs) maxGates k back-cascade) fits ∙ ap (λ (l : List ℕ). over l into) words;
+      }
+
+pub inverse-stands : (n : ℕ) (ws out : List ℕ) (k : ℕ) → inverseOutcome n ws (length out) ≡ served k → InverseStands n ws out k
+inverse-stands n ws out k e =
+    let (c, room) = inverse-served n ws (length out) k e in
+    let same = back-words n ws out k c room in
+    record {
+      gates = ap gatesOf same ∙ gates-words (inverse (gatesOf ws));
+      cascade = subst (λ (l : List ℕ). Cascade n l maxGates k) (sym same) (back-cascade n ws out k c room);
+      rest = back-rest n ws out k c room;
+      back = λ into h.
+          subst (λ (l : List ℕ). Yields (inverseOutcome n l (length into)) (inverseBuffer n l into) (served k) (over ws into)) (sym same) (back-back n ws out k c room into h);
+    }

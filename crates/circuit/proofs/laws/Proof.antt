@@ -2,10 +2,11 @@
 use Rattle.circuit.proofs.gate.Laws.{fires-lines, lines-fires, valid-by-lines, lines-valid, valid-more, apply-bit, apply-none, apply-not, toggled-apply, apply-twice, apply-below, count-lines}
 use Rattle.circuit.proofs.gate.Controls.{controls-count, controls-fire}
 use Rattle.circuit.proofs.words.Laws.{gates-words, words-gates, check-served, served-check, check-refused, refused-check, pair-served, served-pair, pair-refused, refused-pair}
-use Rattle.circuit.proofs.run.Laws.{run-append, run-tested, run-below, equal-differs, run-fault, fault-run}
-use Rattle.circuit.proofs.run.Records.{records-words}
-use Rattle.circuit.proofs.inverse.Laws.{run-inverse, inverse-run, inverse-append, inverse-twice, inverse-valid, inverse-fault, fault-inverse}
+use Rattle.circuit.proofs.run.Laws.{run-append, run-tested, run-below, equal-differs, run-fault, fault-run, run-served, served-run}
+use Rattle.circuit.proofs.run.Records.{records-words, records-served, served-records, records-fault, fault-records}
+use Rattle.circuit.proofs.inverse.Laws.{run-inverse, inverse-run, inverse-append, inverse-twice, inverse-valid, inverse-fault, fault-inverse, inverse-served, served-inverse, inverse-stands, inverse-untouched}
 use Rattle.circuit.proofs.file.Laws.{reader, read-served, served-read, read-refused, refused-read, write-served, served-write, write-fault, fault-write, refuses-all}
+use Rattle.circuit.proofs.file.RoundTrip.{round-trip, idle-reading, idle-writing}
 use Rattle.circuit.proofs.laws.Statement.{statement}
 use Rattle.circuit.proofs.laws.Tie as tie
 
@@ -41,9 +42,15 @@ returns c =
             run-append = run-append;
             run-below = run-below;
             run-tested = run-tested;
+            run-served = λ n ws s t. (run-served n ws s t, (λ (k, c, h, e). served-run n ws s t k c h e));
             run-refused = λ n ws s number place. (run-fault n ws s number place, fault-run n ws s number place);
-            inverse-refused = λ n ws room number place. (inverse-fault n ws room number place, fault-inverse n ws room number place);
+            records-served = λ n gs s t. (records-served n gs s t, (λ (c, h, e). served-records n gs s t c h e));
+            records-refused = λ n gs s number place. (records-fault n gs s number place, fault-records n gs s number place);
             records-words = records-words;
+            inverse-served = λ n ws room k. (inverse-served n ws room k, (λ (c, h). served-inverse n ws room k c h));
+            inverse-stands = inverse-stands;
+            inverse-untouched = inverse-untouched;
+            inverse-refused = λ n ws room number place. (inverse-fault n ws room number place, fault-inverse n ws room number place);
             run-inverse = run-inverse;
             inverse-run = inverse-run;
             inverse-append = inverse-append;
@@ -54,6 +61,9 @@ returns c =
       file =
           record {
             reader = reader;
+            round-trip = round-trip;
+            idle-reading = idle-reading;
+            idle-writing = idle-writing;
             read-served = λ text room c. (read-served text room c, served-read text room c);
             read-refused = λ text room number place. (read-refused text room number place, refused-read text room number place);
             write-served = λ n ws room k. (write-served n ws room k, served-write n ws room k);

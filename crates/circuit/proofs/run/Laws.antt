@@ -6,7 +6,7 @@ use mathlib.Core.List.{List, [], _∷_, _++_}
 use Prim.Native.Nat.{ℕ, _+_, _*_, _/_, _^_, _<_, _≤_}
 use lib.Dec.{eqb, ltb}
 use lib.ListN.{length, drop}
-use borrow.Author.Tests.{eqb-true, eqb-false, le-ltb, ltb-false}
+use borrow.Author.Tests.{eqb-true, eqb-false, lt-ltb, le-ltb, ltb-true, ltb-false}
 use Rattle.bits.specs.Lists.{fold}
 use Rattle.bits.proofs.Lists.{fold-append}
 use Rattle.bits.proofs.Bools.{and-parts, either}
@@ -14,10 +14,10 @@ use Rattle.circuit.specs.declared.gate.Gate.{Gate}
 use Rattle.circuit.specs.Gate.{maxLines, maxGates, apply, toggled, valid}
 use Rattle.circuit.specs.Outcome.{Outcome, served, refused, andThen}
 use Rattle.circuit.specs.Refusal.{badState, badLineCount}
-use Rattle.circuit.specs.Words.{gateAt, gatesOf, allValid, lineCountGood, validFrom, sizeOutcome, checkOutcome}
+use Rattle.circuit.specs.Words.{gateAt, gatesOf, allValid, lineCountGood, validFrom, sizeOutcome, checkOutcome, Cascade}
 use Rattle.circuit.specs.Run.{run, runTested, Equal, Differs, runOutcome}
 use Rattle.circuit.specs.Laws.{RunFault, run-words, outside}
-use Rattle.circuit.proofs.Outcome.{demand-met, demand-failed, then-served, then-refused, then-both, then-fails, then-either, last-failed}
+use Rattle.circuit.proofs.Outcome.{demand-met, demand-failed, then-served, then-refused, then-both, then-fails, then-either, last-failed, demanded}
 use Rattle.circuit.proofs.gate.Laws.{apply-below, toggled-apply}
 use Rattle.circuit.proofs.words.Laws.{gates-next, gates-end, check-lines, check-gates, gates-refused, gates-sized, check-served, served-check, check-refused, refused-check}
 
@@ -107,3 +107,18 @@ module _ (n : ℕ) (ws : List ℕ) (s : ℕ) where
       then-either (RunFault n ws s) (checkOutcome n ws maxGates) _
       (λ x y p. run-words (check-refused n ws maxGates x y p))
       (λ k p. last-failed (RunFault n ws s) (ltb s (2 ^ n)) badState 0 _ (λ t. outside k (check-served n ws maxGates k p) (ltb-false _ _ t)))
+
+-- ---- served exactly for a cascade and a state
+
+module _ (n : ℕ) (ws : List ℕ) (s t : ℕ) where
+  pub run-served : runOutcome n ws s ≡ served t → (k : ℕ) × (Cascade n ws maxGates k) × (s < 2 ^ n) × (t ≡ run (gatesOf ws) s)
+  unfolding runOutcome
+  run-served e =
+      let (k, p, f) = then-both (checkOutcome n ws maxGates) _ t e in
+      let (b, g) = demanded (ltb s (2 ^ n)) badState 0 (served (run (gatesOf ws) s)) t f in
+      let x : run (gatesOf ws) s ≡ t = cc in
+      (k, check-served n ws maxGates k p, ltb-true _ _ b, sym x)
+
+  pub served-run : (k : ℕ) → Cascade n ws maxGates k → s < 2 ^ n → t ≡ run (gatesOf ws) s → runOutcome n ws s ≡ served t
+  unfolding runOutcome
+  served-run k c h e = then-served _ _ k (served-check n ws maxGates k c) ∙ demand-met _ _ _ _ (lt-ltb s (2 ^ n) h) ∙ ap served (sym e)

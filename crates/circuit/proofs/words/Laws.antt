@@ -295,6 +295,17 @@ module _ (n : ℕ) (ws : List ℕ) (limit : ℕ) where
       check-gates (good-lines n low high) ∙ gates-sized (length ws / 3) (size-good t l) ∙ refused-from n 0 (gatesOf ws) j (omega (arith, gates-length ws)) w f
       ∙ ap (refused noGate) (omega arith)
 
+-- gates on n lines, and their words
+pub words-cascade : (n : ℕ) (gs : List Gate) (limit : ℕ) → 1 ≤ n → n ≤ maxLines → length gs ≤ limit → allValid n gs ≡ true → Cascade n (wordsOf gs) limit (length gs)
+words-cascade n gs limit low high few v =
+    record { lines-low = low; lines-high = high; size = words-length gs; few = few; gates = ap (allValid n) (gates-words gs) ∙ v }
+
+pub cascade-count : (n : ℕ) (ws : List ℕ) (limit k : ℕ) → Cascade n ws limit k → length (gatesOf ws) ≡ k
+cascade-count n ws limit k c = let z = c .size in omega (arith, gates-length ws)
+
+pub cascade-words : (n : ℕ) (ws : List ℕ) (limit k : ℕ) → Cascade n ws limit k → wordsOf (gatesOf ws) ≡ ws
+cascade-words n ws limit k c = let z = c .size in words-gates ws (omega arith)
+
 -- ---- two cascades
 
 module _ (na : ℕ) (a : List ℕ) (nb : ℕ) (b : List ℕ) where

@@ -7,7 +7,7 @@ use lib.ListN.{length, take, drop}
 use lib.Seq.{take-at}
 use borrow.Author.Tests.{le-leb, lt-leb}
 use Rattle.circuit.specs.declared.refusal.Refusal.{Refusal}
-use Rattle.circuit.specs.Outcome.{Outcome, served, refused, written, Yields}
+use Rattle.circuit.specs.Outcome.{Outcome, served, refused, written}
 use Rattle.circuit.specs.Refusal.{noRoom}
 use Rattle.circuit.proofs.Outcome.{demand-met, demand-failed, told}
 use Rattle.circuit.specs.Put.{Put}
@@ -15,8 +15,9 @@ use Rattle.checking.specs.declared.clauses.Totals.{Totals}
 use Rattle.text.specs.declared.list.ListAnswer.the-variants as list
 use Rattle.text.specs.Dimacs.{headerText, dimacsOf}
 use Rattle.text.specs.Words.{wordsText, Stores}
-use Rattle.text.specs.Tomiter.{Verdict, listed, refusedAt, refusalText, verdictText, tomiterText, tomiterOutcome, tomiterBuffer}
+use Rattle.text.specs.Tomiter.{Verdict, listed, refusedAt, refusalText, verdictText, tomiterText, tomiterOutcome, tomiterBuffer, WritesText}
 use Rattle.text.specs.Answers.{Says}
+use Rattle.text.proofs.ProgramLaws.{answers}
 use Rattle.text.proofs.dimacs.Loops.{words-text}
 
 pub refusal-text : (why : Refusal) (file : ℕ) (buffer : List ℤ) (v : Verdict) → Says (list.Refused why file) buffer v
@@ -52,10 +53,10 @@ module _ (input : List ℕ) (room : ℕ) where
   unfolding tomiterOutcome
   fits h = demand-met _ _ _ _ (le-leb (length (tomiterText input)) room h)
 
-pub text-told : (input out : List ℕ) (r o : Outcome ℕ) (last : List ℕ) → r ≡ o → tomiterOutcome input (length out) ≡ o → last ≡ written o (tomiterText input) out
-    → Yields r last (tomiterOutcome input (length out)) (tomiterBuffer input out)
+pub call-told : (input out : List ℕ) (r o : Outcome ℕ) (last : List ℕ) → r ≡ o → tomiterOutcome input (length out) ≡ o → last ≡ written o (tomiterText input) out
+    → WritesText input out r last
 unfolding tomiterBuffer
-text-told input out r o last e f l = told (tomiterText input) out r last (tomiterOutcome input (length out)) o e f l
+call-told input out r o last e f l = answers input out r last (told (tomiterText input) out r last (tomiterOutcome input (length out)) o e f l)
 
 -- the text at the start of the buffer in which it was made
 pub made : (r : ℕ) (last new first : List ℕ) → Put r last new first → take r last ≡ new

@@ -11,7 +11,7 @@ use Rattle.circuit.specs.Refusal.{noRoom}
 use Rattle.circuit.proofs.Outcome.{why}
 use Rattle.text.specs.Tomiter.{tomiterText}
 use Rattle.text.proofs.Sizes.{room-enough}
-use Rattle.text.proofs.program.Laws.{short, fits, text-told, made}
+use Rattle.text.proofs.program.Laws.{short, fits, call-told, made}
 use borrow.Author.Needs.{needs}
 use Rattle.text.proofs.tomiter.Statement.{statement}
 use Rattle.text.proofs.tomiter.Tie as tie
@@ -26,7 +26,7 @@ returns : tie.Need-returns
 returns c =
     let s = c .before .before .before .before .before .before .before in
     let t = c .before .before .put-text in
-    text-told (s .args .input .now) (s .args .out .now) _ (served (length (tomiterText (s .args .input .now)))) _ (ap served (t .ensures .count))
+    call-told (s .args .input .now) (s .args .out .now) _ (served (length (tomiterText (s .args .input .now)))) _ (ap served (t .ensures .count))
     (room-enough (s .args .input .now) (length (s .args .out .now)) (omega arith)) (t .ensures .buffer)
 
 slice-aggregate-put-text : tie.Need-slice-aggregate-put-text
@@ -42,7 +42,7 @@ returns-2 : tie.Need-returns-2
 returns-2 c =
     let s = c .before .before .before .before .before .before .before .before in
     let t = c .before .before .before .put-text2 in
-    text-told (s .args .input .now) (s .args .out .now) _ (refused noRoom 0) _ (why (c .no-room .ensures))
+    call-told (s .args .input .now) (s .args .out .now) _ (refused noRoom 0) _ (why (c .no-room .ensures))
     (short (s .args .input .now) (length (s .args .out .now)) (omega (arith, t .ensures .count, c .before .if2 .taken))) refl
 
 array-share-prefix-text : tie.Need-array-share-prefix-text
@@ -64,7 +64,7 @@ returns-3 c =
     let s = c .before .before .before .before .before .before .before .before .before .before .before .before in
     let t = c .before .before .before .before .before .before .before .put-text2 in
     let p = c .before .before .put-word in
-    text-told (s .args .input .now) (s .args .out .now) _ (served (length (tomiterText (s .args .input .now)))) _ (ap served (t .ensures .count))
+    call-told (s .args .input .now) (s .args .out .now) _ (served (length (tomiterText (s .args .input .now)))) _ (ap served (t .ensures .count))
     (fits (s .args .input .now) (length (s .args .out .now)) (omega (arith, t .ensures .count, c .before .before .before .before .before .if2 .left)))
     (p .ensures .buffer ∙ ap (λ (l : List ℕ). over l (s .args .out .now)) (made (t .result) (t .last .0) _ _ (t .ensures)))
 

@@ -1,0 +1,133 @@
+-- What the program writes: clauses or a refusal, each told by its bytes. Assumes nothing.
+use mathlib.Core.Path.{_≡_, refl, sym, ap, subst, _∙_}
+use mathlib.Core.Logic.{_↔_}
+use mathlib.Core.Bool.{true}
+use mathlib.Core.List.{List, [], _∷_, _++_}
+use mathlib.Core.Option.{some}
+use Prim.Native.Nat.{ℕ}
+use native.Mathlib.Omega.{arith}
+use lib.Dec.{leb}
+use lib.ListN.{length, take}
+use lib.Seq.{take-at}
+use Rattle.bits.specs.Lists.{over}
+use Rattle.circuit.specs.Outcome.{Outcome, served, Untouched, Yields}
+use Rattle.circuit.proofs.Outcome.{demanded, written-served, written-refused}
+use Rattle.circuit.specs.Refusal.{noRoom}
+use Rattle.circuit.specs.Text.{tab, lineFeed}
+use Rattle.circuit.proofs.file.Lines.{free, free-append}
+use Rattle.text.specs.Dimacs.{decimal, partedBy, numberRead}
+use Rattle.text.specs.Tomiter.{Verdict, listed, refusedAt, verdict, refusedWord, refusalText, verdictText, tomiterText, tomiterOutcome, tomiterBuffer, WritesText}
+use Rattle.text.specs.BytesTell.{StartsProblem, TextTells, BytesTell}
+use Rattle.text.specs.TextLaws.{InputFault, Written, clauses, refusal, ProgramLaws}
+use Rattle.text.proofs.Reading.{parts-cut, parts-one, decimal-free, number-back}
+use Rattle.text.proofs.Telling.{refusal-starts, listed-fits, text-starts, text-fitting, text-told, dimacs-starts}
+use Rattle.text.proofs.Faults.{refused-exactly}
+
+-- ---- the text of a refusal by its fields
+
+decimal-apart : (j k : ℕ) → decimal j ≡ decimal k → j ≡ k
+decimal-apart j k e = let f : some j ≡ some k = sym (number-back j) ∙ ap numberRead e ∙ number-back k in cc
+
+-- a number before an LF
+abbrev closed : ℕ → List ℕ
+closed k = decimal k ++ (lineFeed ∷ [])
+
+closed-apart : (j k : ℕ) → closed j ≡ closed k → j ≡ k
+closed-apart j k e =
+    let f : decimal j ∷ partedBy lineFeed [] ≡ decimal k ∷ partedBy lineFeed [] =
+    sym (parts-cut lineFeed (decimal j) [] (decimal-free lineFeed j refl)) ∙ ap (partedBy lineFeed) e ∙ parts-cut lineFeed (decimal k) [] (decimal-free lineFeed k refl) in
+    let g : decimal j ≡ decimal k = cc in
+    decimal-apart j k g
+
+refusal-fields : (number file place : ℕ) → partedBy tab (refusalText number file place) ≡ refusedWord ∷ decimal number ∷ decimal file ∷ closed place ∷ []
+unfolding refusalText
+refusal-fields number file place =
+    parts-cut tab refusedWord _ word-free
+    ∙ ap (λ (l : List (List ℕ)). refusedWord ∷ l)
+    (parts-cut tab (decimal number) _ (decimal-free tab number refl)
+    ∙ ap (λ (l : List (List ℕ)). decimal number ∷ l)
+    (parts-cut tab (decimal file) _ (decimal-free tab file refl)
+    ∙ ap (λ (l : List (List ℕ)). decimal file ∷ l)
+    (parts-one tab (closed place) (free-append tab (decimal place) (lineFeed ∷ []) (decimal-free tab place refl) end-free))))
+  where
+    word-free : free tab refusedWord ≡ true
+    word-free = unfold free in refl
+
+    end-free : free tab (lineFeed ∷ []) ≡ true
+    end-free = unfold free in refl
+
+pub refusal-apart : (number file place number′ file′ place′ : ℕ) → refusalText number file place ≡ refusalText number′ file′ place′
+    → (number ≡ number′) × (file ≡ file′) × (place ≡ place′)
+refusal-apart number file place number′ file′ place′ e =
+    let f : refusedWord ∷ decimal number ∷ decimal file ∷ closed place ∷ [] ≡ refusedWord ∷ decimal number′ ∷ decimal file′ ∷ closed place′ ∷ [] =
+    sym (refusal-fields number file place) ∙ ap (partedBy tab) e ∙ refusal-fields number′ file′ place′ in
+    let a : decimal number ≡ decimal number′ = cc in
+    let b : decimal file ≡ decimal file′ = cc in
+    let c : closed place ≡ closed place′ = cc in
+    (decimal-apart number number′ a, decimal-apart file file′ b, closed-apart place place′ c)
+
+-- ---- the program
+
+text-refused : (input : List ℕ) (number file place : ℕ) → tomiterText input ≡ refusalText number file place → InputFault input number file place
+unfolding tomiterText
+text-refused input number file place e = refused-exactly input number file place .0 (go (verdict input) refl)
+  where
+    go : (w : Verdict) → verdict input ≡ w → verdict input ≡ refusedAt number file place
+    go (listed v cs) q = absurd (refusal-starts number file place (subst StartsProblem (sym (ap verdictText q) ∙ e) (dimacs-starts v cs)))
+    go (refusedAt k f p) q =
+        let (a, b, c) = refusal-apart k f p number file place (sym (ap verdictText q) ∙ e) in
+        q ∙ ap (λ (x : ℕ). refusedAt x f p) a ∙ ap (λ (x : ℕ). refusedAt number x p) b ∙ ap (refusedAt number file) c
+
+refused-text : (input : List ℕ) (number file place : ℕ) → InputFault input number file place → tomiterText input ≡ refusalText number file place
+unfolding tomiterText
+refused-text input number file place f = ap verdictText (refused-exactly input number file place .1 f)
+
+text-written : (input : List ℕ) → Written input (tomiterText input)
+text-written input = go (verdict input) refl
+  where
+    go : (w : Verdict) → verdict input ≡ w → Written input (tomiterText input)
+    go (listed v cs) e = let (n, a, b, f) = listed-fits input v cs e in clauses n a b f (text-starts input n a b f) (text-told input n a b f)
+    go (refusedAt number file place) e =
+        let f = refused-exactly input number file place .0 e in
+        refusal number file place f (refused-text input number file place f)
+
+pub program-laws : ProgramLaws tomiterText
+program-laws =
+    record {
+      writes = text-written;
+      problem = text-starts;
+      fitting = text-fitting;
+      told = text-told;
+      refused = λ input number file place. (text-refused input number file place, refused-text input number file place);
+    }
+
+-- ---- the call
+
+pub call-leaves : (input out : List ℕ) (k : ℕ) → tomiterOutcome input (length out) ≡ served k → tomiterBuffer input out ≡ over (tomiterText input) out
+unfolding tomiterBuffer
+call-leaves input out k e = written-served (tomiterText input) out (tomiterOutcome input (length out)) k e
+
+pub call-untouched : (input out : List ℕ) → Untouched (tomiterOutcome input (length out)) out (tomiterBuffer input out)
+unfolding tomiterBuffer
+call-untouched input out = written-refused (tomiterText input) out (tomiterOutcome input (length out))
+
+-- what the bytes of a served call tell
+pub bytes-tell : (input out : List ℕ) (told : Outcome ℕ) (last : List ℕ) → told ≡ tomiterOutcome input (length out) → last ≡ tomiterBuffer input out → BytesTell input told last
+unfolding tomiterOutcome
+bytes-tell input out told last e l k s starts =
+    let (t, q) = demanded (leb (length (tomiterText input)) (length out)) noRoom 0 (served (length (tomiterText input))) k (sym e ∙ s) in
+    let long : length (tomiterText input) ≡ k = cc in
+    let same : take k last ≡ tomiterText input = ap (take k) (l ∙ call-leaves input out k (sym e ∙ s)) ∙ take-at (tomiterText input) _ k long in
+    let (n, a, b, f) = text-fitting input (subst StartsProblem same starts) in
+    record {
+      lines = n;
+      first = a;
+      second = b;
+      first-good = f .first;
+      second-good = f .second;
+      files = f .files;
+      told = subst (λ (text : List ℕ). TextTells text n a b) (sym same) (text-told input n a b f);
+    }
+
+pub answers : (input out : List ℕ) (told : Outcome ℕ) (last : List ℕ) → Yields told last (tomiterOutcome input (length out)) (tomiterBuffer input out) → WritesText input out told last
+answers input out told last y = record { answer = y .answer; buffer = y .buffer; tells = bytes-tell input out told last (y .answer) (y .buffer) }
