@@ -4,8 +4,9 @@ use checking::step::Kind;
 use checking::step::StepAnswer;
 ghost use mathlib.Core.Path.{_≡_};
 ghost use Rattle.circuit.specs.Outcome.{Yields};
-ghost use Rattle.checking.specs.Step.{stepOutcome, stepBuffer};
-ghost use Rattle.capi.specs.Step.{kindNumber, stepAnswer};
+ghost use Rattle.checking.specs.Match.{kindNumber};
+ghost use Rattle.checking.specs.Step.{stepOutcome, stepBuffer, ofKind};
+ghost use Rattle.capi.specs.Step.{stepAnswer};
 
 #[repr(C)]
 pub struct CascadeStepAnswer {
@@ -20,7 +21,7 @@ pub struct CascadeStepAnswer {
 
 // The number of a match: 0 pair, 1 drop, 2 turn.
 fn kind_number(kind: Kind) -> u64
-    ensures { λ r. ⌜ r ≡ kindNumber kind ⌝ }
+    ensures { λ r. ⌜ r ≡ kindNumber (ofKind kind) ⌝ }
 {
     match kind {
         Kind::Cancel => 0,

@@ -7,7 +7,8 @@ use Rattle.bits.specs.Lists.{fold}
 use Rattle.circuit.specs.Gate.{valid, fires, inverted, apply, controlCount}
 use Rattle.circuit.specs.Words.{gatesOf, wordsOf, validFrom, sizeOutcome, gatesOutcome, checkOutcome, pairOutcome}
 use Rattle.circuit.specs.Run.{runOutcome}
-use Rattle.checking.specs.Step.{controlLines, mayPass, controlRemoved, controlInverted, differing, matchOf, scanFrom, searchFrom, replaced, stepGates, filled, stepOutcome, stepBuffer}
+use Rattle.checking.specs.Match.{mayPass, controlLines, controlRemoved, controlInverted, differing, matchOf}
+use Rattle.checking.specs.Step.{scanFrom, searchFrom, replaced, stepGates, filled, stepOutcome, stepBuffer}
 use Rattle.checking.specs.Miter.{miterOutcome, miterBuffer}
 use Rattle.checking.specs.Clauses.{upFrom, targeted}
 use Rattle.checking.specs.Sizes.{gatesSizes, linesSizes, sizesOf, sizesOutcome}

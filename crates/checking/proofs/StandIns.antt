@@ -8,8 +8,8 @@ use lib.ListN.{length}
 use Rattle.circuit.specs.declared.gate.Gate.{Gate}
 use Rattle.circuit.specs.Gate.{maxLines, notGate, valid}
 use Rattle.circuit.specs.Words.{allValid}
-use Rattle.checking.specs.declared.step.Kind.the-variants.{Cancel}
-use Rattle.checking.specs.Step.{differing, matchOf, scanFrom, searchFrom, replaced, found, none, stepGates}
+use Rattle.checking.specs.Match.{differing, Kind, matchOf}
+use Rattle.checking.specs.Step.{scanFrom, searchFrom, replaced, found, none, stepGates}
 use Rattle.checking.specs.Reduce.{Reduced, reduceBy, reduceGates}
 use Rattle.checking.specs.StandIns.{StepOf, ReductionOf, alwaysNone, copying, idle, onceOnly, inventing, exchanging, mergesOnly, StandInLaws}
 use Rattle.checking.proofs.step.Laws.{step-is, steps-step}
@@ -30,7 +30,7 @@ four-valid : allValid maxLines four ≡ true
 unfolding allValid valid
 four-valid = refl
 
-two-step : stepGates two ≡ found 0 1 Cancel []
+two-step : stepGates two ≡ found 0 1 Kind.pair []
 unfolding stepGates searchFrom scanFrom matchOf differing replaced
 two-step = refl
 
@@ -43,12 +43,12 @@ unfolding reduceGates reduceBy stepGates searchFrom scanFrom matchOf differing r
 four-reduced = refl
 
 none-refuted : StepOf alwaysNone → ⊥
-none-refuted h = let e : found 0 1 Cancel [] ≡ none = sym two-step ∙ steps-step two two-valid none (h two two-valid) in let z : _≡_ {A = ℕ} 0 1 = cc in omega arith
+none-refuted h = let e : found 0 1 Kind.pair [] ≡ none = sym two-step ∙ steps-step two two-valid none (h two two-valid) in let z : _≡_ {A = ℕ} 0 1 = cc in omega arith
 
 copy-refuted : StepOf copying → ⊥
 unfolding stepGates searchFrom scanFrom matchOf differing replaced
 copy-refuted h =
-    let e : found 0 1 Cancel [] ≡ found 0 1 Cancel two = sym two-step ∙ steps-step two two-valid (copying two) (h two two-valid) in
+    let e : found 0 1 Kind.pair [] ≡ found 0 1 Kind.pair two = sym two-step ∙ steps-step two two-valid (copying two) (h two two-valid) in
     let l : _≡_ {A = List Gate} [] two = cc in
     let n : _≡_ {A = ℕ} 0 2 = ap length l in
     omega arith

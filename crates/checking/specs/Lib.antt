@@ -1,5 +1,7 @@
 pub mod Miter
+pub mod Match
 pub mod Step
+pub mod StepCode
 pub mod Reduce
 pub mod MiterLaws
 pub mod StepLaws

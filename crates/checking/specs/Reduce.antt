@@ -6,11 +6,10 @@ use Rattle.circuit.specs.declared.gate.Gate.{Gate}
 use Rattle.circuit.specs.Gate.{maxMiterGates}
 use Rattle.circuit.specs.Outcome.{Outcome, served, refused, andThen}
 use Rattle.circuit.specs.Words.{gatesOf, checkOutcome}
-use Rattle.checking.specs.declared.step.Kind.{Kind}
-use Rattle.checking.specs.declared.step.Kind.the-variants.{Cancel, RemoveControl, InvertControl}
 use Rattle.checking.specs.declared.reduce.Reduction.{Reduction}
 use Rattle.checking.specs.declared.reduce.ReduceAnswer.{ReduceAnswer}
 use Rattle.checking.specs.declared.reduce.ReduceAnswer.the-variants as answer
+use Rattle.checking.specs.Match.{Kind}
 use Rattle.checking.specs.Step.{Step, found, none, stepGates, filled, servedWords}
 
 -- the gates left, or their number, the pairs p and the merges m
@@ -21,9 +20,9 @@ pub record Reduced (A : Type 0) : Type 0 where
 
 -- one step more before the others: a pair, or a merge (drop or turn)
 abbrev pub tallied : {A : Type 0} → Kind → Reduced A → Reduced A
-tallied Cancel r = record { left = r .left; pairs = r .pairs + 1; merges = r .merges }
-tallied RemoveControl r = record { left = r .left; pairs = r .pairs; merges = r .merges + 1 }
-tallied InvertControl r = record { left = r .left; pairs = r .pairs; merges = r .merges + 1 }
+tallied Kind.pair r = record { left = r .left; pairs = r .pairs + 1; merges = r .merges }
+tallied Kind.drop r = record { left = r .left; pairs = r .pairs; merges = r .merges + 1 }
+tallied Kind.turn r = record { left = r .left; pairs = r .pairs; merges = r .merges + 1 }
 
 -- where a step found something it goes on with the gates that then stand, else it ends
 abbrev pub continued : Step (List Gate) → List Gate → (List Gate → Reduced (List Gate)) → Reduced (List Gate)

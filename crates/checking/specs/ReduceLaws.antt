@@ -9,7 +9,7 @@ use Rattle.circuit.specs.declared.gate.Gate.{Gate}
 use Rattle.circuit.specs.Gate.{maxLines, maxMiterGates}
 use Rattle.circuit.specs.Outcome.{served, refused, Untouched}
 use Rattle.circuit.specs.Words.{gatesOf, allValid, Cascade, WordsFault}
-use Rattle.checking.specs.declared.step.Kind.the-variants.{Cancel, RemoveControl, InvertControl}
+use Rattle.checking.specs.Match.{Kind}
 use Rattle.checking.specs.Step.{found, none}
 use Rattle.checking.specs.Reduce.{Reduced, reduceGates, numbered, reduceOutcome, reduceBuffer}
 use Rattle.checking.specs.StepLaws.{Steps, Keeps, Stands}
@@ -17,9 +17,9 @@ use Rattle.checking.specs.StepLaws.{Steps, Keeps, Stands}
 -- steps until none, from gates to the gates left, with p pairs and m merges
 pub data Reduces : List Gate → List Gate → ℕ → ℕ → Type 0 where
   ends : {gs : List Gate} → Steps gs none → Reduces gs gs 0 0
-  pairs : {gs hs last : List Gate} {i j p m : ℕ} → Steps gs (found i j Cancel hs) → Reduces hs last p m → Reduces gs last (p + 1) m
-  drops : {gs hs last : List Gate} {i j p m : ℕ} → Steps gs (found i j RemoveControl hs) → Reduces hs last p m → Reduces gs last p (m + 1)
-  turns : {gs hs last : List Gate} {i j p m : ℕ} → Steps gs (found i j InvertControl hs) → Reduces hs last p m → Reduces gs last p (m + 1)
+  pairs : {gs hs last : List Gate} {i j p m : ℕ} → Steps gs (found i j Kind.pair hs) → Reduces hs last p m → Reduces gs last (p + 1) m
+  drops : {gs hs last : List Gate} {i j p m : ℕ} → Steps gs (found i j Kind.drop hs) → Reduces hs last p m → Reduces gs last p (m + 1)
+  turns : {gs hs last : List Gate} {i j p m : ℕ} → Steps gs (found i j Kind.turn hs) → Reduces hs last p m → Reduces gs last p (m + 1)
 
 pub record ReduceLaws : Type 0 where
   -- the reduction is exactly the relation

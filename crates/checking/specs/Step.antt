@@ -1,98 +1,43 @@
--- The reduction step: gates that may pass, matches, the search, and what a step answers and leaves, by document 01.
-use mathlib.Core.Bool.{Bool, cond, _&&_}
+-- The reduction step: the search, and what a step answers and leaves, by document 01.
+use mathlib.Core.Bool.{cond}
 use mathlib.Core.List.{List, [], _∷_, _++_}
-use Prim.Native.Nat.{ℕ, _+_, _*_, _-_, _^_}
-use lib.Dec.{eqb}
-use lib.Bits.{bitAnd, bitOr, bitXor}
-use lib.Count.{ones}
+use Prim.Native.Nat.{ℕ, _+_, _*_, _-_}
 use lib.ListN.{length, take, drop, replicate}
 use Rattle.circuit.specs.declared.gate.Gate.{Gate}
 use Rattle.circuit.specs.Gate.{maxMiterGates}
 use Rattle.circuit.specs.Outcome.{Outcome, served, refused, andThen}
 use Rattle.circuit.specs.Words.{gatesOf, wordsOf, checkOutcome}
-use Rattle.checking.specs.declared.step.Kind.{Kind}
+use Rattle.checking.specs.declared.step.Kind as declared
 use Rattle.checking.specs.declared.step.Kind.the-variants as kind
-use Rattle.checking.specs.declared.step.Match.{Match}
-use Rattle.checking.specs.declared.step.Match.the-variants as match
-use Rattle.checking.specs.declared.step.Verdict.{Verdict}
-use Rattle.checking.specs.declared.step.Verdict.the-variants.{Apart, Matched}
-use Rattle.checking.specs.declared.step.Scan.{Scan}
-use Rattle.checking.specs.declared.step.Scan.the-variants as scans
-use Rattle.checking.specs.declared.step.Search.{Search}
-use Rattle.checking.specs.declared.step.Search.the-variants as finds
-use Rattle.checking.specs.declared.step.Stepped.{Stepped}
-use Rattle.checking.specs.declared.step.Stepped.the-variants as stepped
 use Rattle.checking.specs.declared.step.StepAnswer.{StepAnswer}
 use Rattle.checking.specs.declared.step.StepAnswer.the-variants as answer
+use Rattle.checking.specs.Match.{mayPass, Kind, Match, Compared, apart, matched, matchOf, kindOf, remaining}
 
--- the control lines
-unfoldable pub controlLines : Gate → ℕ
-controlLines g = bitOr (g .positive) (g .negative)
+-- what a scan from one gate on finds: the place of the gate that it matches, and the match; and what the search finds: the places of both
+pub data Scan : Type 0 where
+  at : ℕ → Match → Scan
+  nothing : Scan
 
--- neither's target is a control of the other
-unfoldable pub mayPass : Gate → Gate → Bool
-mayPass g h = eqb (bitAnd (controlLines h) (2 ^ g .target)) 0 && eqb (bitAnd (controlLines g) (2 ^ h .target)) 0
-
--- what two gates that differ on one control line leave: without that control, and with it reversed
-unfoldable pub controlRemoved : Gate → Gate → Gate
-controlRemoved g h =
-    record {
-      positive = bitAnd (g .positive) (h .positive);
-      negative = bitAnd (g .negative) (h .negative);
-      target = h .target;
-    }
-
-unfoldable pub controlInverted : Gate → Gate → Gate
-controlInverted g h =
-    record {
-      positive = bitOr (bitAnd (g .positive) (h .positive)) (bitXor (g .negative) (h .negative));
-      negative = bitOr (bitAnd (g .negative) (h .negative)) (bitXor (g .positive) (h .positive));
-      target = h .target;
-    }
-
--- the lines on which the controls differ
-unfoldable pub differing : Gate → Gate → ℕ
-differing g h = bitOr (bitXor (g .positive) (h .positive)) (bitXor (g .negative) (h .negative))
-
--- how two gates with the same target match: they differ on no line, or on one, in both masks (drop) or in one (turn)
-unfoldable pub matchOf : Gate → Gate → Verdict
-matchOf g h =
-    cond (eqb (g .target) (h .target))
-    (cond (eqb (differing g h) 0) (Matched match.Cancel)
-    (cond (eqb (ones (differing g h)) 1)
-    (cond (eqb (bitXor (g .positive) (h .positive)) (bitXor (g .negative) (h .negative)))
-    (Matched (match.RemoveControl (controlRemoved g h)))
-    (Matched (match.InvertControl (controlInverted g h))))
-    Apart))
-    Apart
-
--- which match it was, and the gate that remains
-abbrev pub kindOf : Match → Kind
-kindOf match.Cancel = kind.Cancel
-kindOf (match.RemoveControl r) = kind.RemoveControl
-kindOf (match.InvertControl r) = kind.InvertControl
-
-abbrev pub remaining : Match → List Gate
-remaining match.Cancel = []
-remaining (match.RemoveControl r) = r ∷ []
-remaining (match.InvertControl r) = r ∷ []
+pub data Search : Type 0 where
+  at : ℕ → ℕ → Match → Search
+  nothing : Search
 
 -- the first of the gates hs that g matches, where g may pass those before it; j is the place of the first of hs
-abbrev pub judged : Verdict → ℕ → Scan → Scan
-judged (Matched m) j later = scans.At j m
-judged Apart j later = later
+abbrev pub judged : Compared → ℕ → Scan → Scan
+judged (matched m) j later = Scan.at j m
+judged apart j later = later
 
 unfoldable pub scanFrom : ℕ → Gate → List Gate → Scan
-scanFrom j g [] = scans.Nothing
-scanFrom j g (h ∷ hs) = judged (matchOf g h) j (cond (mayPass g h) (scanFrom (j + 1) g hs) scans.Nothing)
+scanFrom j g [] = Scan.nothing
+scanFrom j g (h ∷ hs) = judged (matchOf g h) j (cond (mayPass g h) (scanFrom (j + 1) g hs) Scan.nothing)
 
 -- the first of the gates that finds a match after it; i is the place of the first of the list
 abbrev pub scanned : Scan → ℕ → Search → Search
-scanned (scans.At j m) i later = finds.At i j m
-scanned scans.Nothing i later = later
+scanned (Scan.at j m) i later = Search.at i j m
+scanned Scan.nothing i later = later
 
 unfoldable pub searchFrom : ℕ → List Gate → Search
-searchFrom i [] = finds.Nothing
+searchFrom i [] = Search.nothing
 searchFrom i (g ∷ gs) = scanned (scanFrom (i + 1) g gs) i (searchFrom (i + 1) gs)
 
 -- the gates strictly between i and j
@@ -109,8 +54,8 @@ pub data Step (A : Type 0) : Type 0 where
   none : Step A
 
 abbrev pub searched : Search → List Gate → Step (List Gate)
-searched (finds.At i j m) gs = found i j (kindOf m) (replaced i j (remaining m) gs)
-searched finds.Nothing gs = none
+searched (Search.at i j m) gs = found i j (kindOf m) (replaced i j (remaining m) gs)
+searched Search.nothing gs = none
 
 -- the step on a list of gates
 unfoldable pub stepGates : List Gate → Step (List Gate)
@@ -142,12 +87,13 @@ servedWords (refused number place) after ws = ws
 unfoldable pub stepBuffer : ℕ → List ℕ → List ℕ
 stepBuffer n ws = servedWords (stepOutcome n ws) (stepWords (stepGates (gatesOf ws)) ws) ws
 
--- the answers in document 01's values
-abbrev pub ofStepped : Stepped → Step ℕ
-ofStepped (stepped.Found i j k gates) = found i j k gates
-ofStepped stepped.Nothing = none
+-- the answer in document 01's values
+abbrev pub ofKind : declared.Kind → Kind
+ofKind kind.Cancel = Kind.pair
+ofKind kind.RemoveControl = Kind.drop
+ofKind kind.InvertControl = Kind.turn
 
 abbrev pub ofStep : StepAnswer → Outcome (Step ℕ)
-ofStep (answer.Found i j k gates) = served (found i j k gates)
+ofStep (answer.Found i j k gates) = served (found i j (ofKind k) gates)
 ofStep answer.Nothing = served none
 ofStep (answer.Refused r) = refused (r .number) (r .place)

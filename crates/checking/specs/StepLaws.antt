@@ -11,12 +11,8 @@ use Rattle.circuit.specs.Gate.{maxLines, maxMiterGates, notGate, valid, apply}
 use Rattle.circuit.specs.Outcome.{served, refused, Untouched}
 use Rattle.circuit.specs.Words.{gatesOf, allValid, Cascade, WordsFault}
 use Rattle.circuit.specs.Run.{run}
-use Rattle.checking.specs.declared.step.Kind.{Kind}
-use Rattle.checking.specs.declared.step.Kind.the-variants as kind
-use Rattle.checking.specs.declared.step.Match.{Match}
-use Rattle.checking.specs.declared.step.Match.the-variants as match
-use Rattle.checking.specs.declared.step.Verdict.the-variants.{Matched}
-use Rattle.checking.specs.Step.{mayPass, matchOf, kindOf, remaining, replaced, Step, found, none, stepGates, counted, stepOutcome, stepBuffer}
+use Rattle.checking.specs.Match.{mayPass, Kind, Match, apart, matched, matchOf, kindOf, remaining}
+use Rattle.checking.specs.Step.{replaced, Step, found, none, stepGates, counted, stepOutcome, stepBuffer}
 
 -- line t is no control of g
 pub record Uncontrolled (g : Gate) (t : ℕ) : Type 0 where
@@ -36,12 +32,12 @@ pub record OneMore (g less : Gate) (k : ℕ) (positive : Bool) : Type 0 where
 -- two gates with the same target match, and what remains
 pub data Matches (g h : Gate) : Match → Type 0 where
   -- equal controls
-  pair : g .target ≡ h .target → g .positive ≡ h .positive → g .negative ≡ h .negative → Matches g h match.Cancel
+  pair : g .target ≡ h .target → g .positive ≡ h .positive → g .negative ≡ h .negative → Matches g h Match.pair
   -- the same control lines, exactly one of opposite polarity: r remains, without that control
-  drop : (r : Gate) (k : ℕ) (positive : Bool) → OneMore g r k positive → OneMore h r k (not positive) → Matches g h (match.RemoveControl r)
+  drop : (r : Gate) (k : ℕ) (positive : Bool) → OneMore g r k positive → OneMore h r k (not positive) → Matches g h (Match.drop r)
   -- the first, or the second, has exactly one control more: r remains, the longer with that control reversed
-  turn-first : (r : Gate) (k : ℕ) (positive : Bool) → OneMore g h k positive → OneMore r h k (not positive) → Matches g h (match.InvertControl r)
-  turn-second : (r : Gate) (k : ℕ) (positive : Bool) → OneMore h g k positive → OneMore r g k (not positive) → Matches g h (match.InvertControl r)
+  turn-first : (r : Gate) (k : ℕ) (positive : Bool) → OneMore g h k positive → OneMore r h k (not positive) → Matches g h (Match.turn r)
+  turn-second : (r : Gate) (k : ℕ) (positive : Bool) → OneMore h g k positive → OneMore r g k (not positive) → Matches g h (Match.turn r)
 
 abbrev pub gateIn : List Gate → ℕ → Gate
 gateIn gs i = getD gs i (notGate 0)
@@ -63,9 +59,9 @@ pub data Steps (gs : List Gate) : Step (List Gate) → Type 0 where
 
 -- the gates that a match takes away
 abbrev pub taken : Kind → ℕ
-taken kind.Cancel = 2
-taken kind.RemoveControl = 1
-taken kind.InvertControl = 1
+taken Kind.pair = 2
+taken Kind.drop = 1
+taken Kind.turn = 1
 
 -- gates hs do on every state what gs do, and are valid on n lines
 pub record Keeps (n : ℕ) (gs hs : List Gate) : Type 0 where
@@ -85,7 +81,7 @@ pub record StepLaws : Type 0 where
   -- gates that may pass commute on every state
   pub pass-commute : (g h : Gate) → valid maxLines g ≡ true → valid maxLines h ≡ true → mayPass g h ≡ true → (s : ℕ) → apply h (apply g s) ≡ apply g (apply h s)
   -- the match by masks is that by lines, and at most one holds of two gates
-  pub match-lines : (g h : Gate) (m : Match) → valid maxLines g ≡ true → valid maxLines h ≡ true → (matchOf g h ≡ Matched m) ↔ Matches g h m
+  pub match-lines : (g h : Gate) (m : Match) → valid maxLines g ≡ true → valid maxLines h ≡ true → (matchOf g h ≡ matched m) ↔ Matches g h m
   pub match-one : (g h : Gate) (m o : Match) → Matches g h m → Matches g h o → m ≡ o
   -- each match keeps the function of the two gates, and validity
   pub match-keeps : (n : ℕ) (g h : Gate) (m : Match) → n ≤ maxLines → valid n g ≡ true → valid n h ≡ true → Matches g h m → Keeps n (g ∷ h ∷ []) (remaining m)

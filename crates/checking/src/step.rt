@@ -14,7 +14,9 @@ ghost use Rattle.bits.specs.Lists.{over};
 ghost use Rattle.circuit.specs.Outcome.{Yields};
 ghost use Rattle.circuit.specs.Gate.{maxLines};
 ghost use Rattle.circuit.specs.Words.{gatesOf, gateAt, allValid};
-ghost use Rattle.checking.specs.Step.{mayPass, matchOf, scanFrom, searchFrom, replaced, filled, stepGates, counted, stepWords, stepOutcome, stepBuffer, ofStepped, ofStep};
+ghost use Rattle.checking.specs.Match.{mayPass, matchOf};
+ghost use Rattle.checking.specs.Step.{scanFrom, searchFrom, replaced, filled, stepGates, counted, stepWords, stepOutcome, stepBuffer, ofStep};
+ghost use Rattle.checking.specs.StepCode.{ofVerdict, ofScan, ofSearch, ofStepped};
 
 // Which match it was (01: pair, drop, turn).
 pub enum Kind {
@@ -96,7 +98,7 @@ fn may_pass(g: Gate, h: Gate) -> bool
 
 // Whether and how two gates match.
 pub fn match_gates(g: Gate, h: Gate) -> Verdict
-    ensures { λ r. ⌜ r ≡ matchOf g h ⌝ }
+    ensures { λ r. ⌜ ofVerdict r ≡ matchOf g h ⌝ }
 {
     let target = h.target;
     if g.target != target {
@@ -133,7 +135,7 @@ pub fn match_gates(g: Gate, h: Gate) -> Verdict
 fn scan_after(words: &[u64], i: usize) -> Scan
     requires { ⌜ i < length (now words) / 3 ⌝ }
     requires { ⌜ allValid maxLines (gatesOf (now words)) ≡ true ⌝ }
-    ensures { λ r. ⌜ r ≡ scanFrom (i + 1) (gateAt (now (words .entry)) i) (gatesOf (drop (3 * (i + 1)) (now (words .entry)))) ⌝ }
+    ensures { λ r. ⌜ ofScan r ≡ scanFrom (i + 1) (gateAt (now (words .entry)) i) (gatesOf (drop (3 * (i + 1)) (now (words .entry)))) ⌝ }
 {
     let gates = words.len() / Gate::WORDS;
     let g = circuit::words::gate_at(words, i);
@@ -156,7 +158,7 @@ fn scan_after(words: &[u64], i: usize) -> Scan
 // The lowest i, then the lowest j above it, of two gates that match.
 pub(crate) fn search_gates(words: &[u64]) -> Search
     requires { ⌜ allValid maxLines (gatesOf (now words)) ≡ true ⌝ }
-    ensures { λ r. ⌜ r ≡ searchFrom 0 (gatesOf (now (words .entry))) ⌝ }
+    ensures { λ r. ⌜ ofSearch r ≡ searchFrom 0 (gatesOf (now (words .entry))) ⌝ }
 {
     let gates = words.len() / Gate::WORDS;
     let mut i = 0;
@@ -233,7 +235,7 @@ fn merge_pair(words: &mut [u64], i: usize, j: usize, r: Gate)
 // Makes a step on the words of gates, by what the search found in them.
 pub(crate) fn make_step(words: &mut [u64], found: Search) -> Stepped
     requires { ⌜ length (now words) % 3 ≡ 0 ⌝ }
-    requires { ⌜ found ≡ searchFrom 0 (gatesOf (now words)) ⌝ }
+    requires { ⌜ ofSearch found ≡ searchFrom 0 (gatesOf (now words)) ⌝ }
     ensures { λ r. ⌜ Yields (ofStepped r) (now (words .exit)) (counted (stepGates (gatesOf (now (words .entry))))) (stepWords (stepGates (gatesOf (now (words .entry)))) (now (words .entry))) ⌝ }
 {
     let gates = words.len() / Gate::WORDS;

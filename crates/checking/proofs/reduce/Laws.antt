@@ -5,15 +5,12 @@ use Prim.Native.Nat.{ℕ, zero, suc, _+_, _≤_, _<_}
 use native.Mathlib.Omega.{arith}
 use lib.ListN.{length}
 use Rattle.circuit.specs.declared.gate.Gate.{Gate}
-use Rattle.checking.specs.declared.step.Kind.{Kind}
-use Rattle.checking.specs.declared.step.Kind.the-variants.{Cancel, RemoveControl, InvertControl}
-use Rattle.checking.specs.declared.step.Search.{Search}
-use Rattle.checking.specs.declared.step.Search.the-variants as hits
 use Rattle.circuit.specs.Gate.{maxMiterGates}
 use Rattle.circuit.specs.Outcome.{Outcome, served, refused, Yields}
 use Rattle.circuit.specs.Words.{gatesOf, checkOutcome}
 use Rattle.circuit.proofs.Outcome.{then-served, then-refused}
-use Rattle.checking.specs.Step.{searchFrom, remaining, Step, found, none, searched, stepGates, filled, servedWords}
+use Rattle.checking.specs.Match.{Kind, remaining}
+use Rattle.checking.specs.Step.{Search, searchFrom, Step, found, none, searched, stepGates, filled, servedWords}
 use Rattle.checking.specs.StepLaws.{taken}
 use Rattle.checking.specs.Reduce.{Reduced, tallied, continued, reduceBy, reduceGates, numbered, reduceOutcome, reduceBuffer}
 use Rattle.checking.proofs.step.Moving.{replaced-length}
@@ -21,9 +18,9 @@ use Rattle.checking.proofs.step.Relation.{search-places}
 use Rattle.checking.proofs.step.Keeping.{match-taken}
 
 pub taken-some : (k : Kind) → 0 < taken k
-taken-some Cancel = omega arith
-taken-some RemoveControl = omega arith
-taken-some InvertControl = omega arith
+taken-some Kind.pair = omega arith
+taken-some Kind.drop = omega arith
+taken-some Kind.turn = omega arith
 
 abbrev Shrinks : List Gate → Step (List Gate) → Type 0
 Shrinks gs (found i j k hs) = length hs + taken k ≡ length gs
@@ -34,12 +31,12 @@ unfolding stepGates
 shrinks gs = go (searchFrom 0 gs) refl
   where
     go : (r : Search) → searchFrom 0 gs ≡ r → Shrinks gs (searched r gs)
-    go (hits.At i j m) e =
+    go (Search.at i j m) e =
         let (a, b) = search-places gs i j m e in
         let n = replaced-length i j (remaining m) gs a b in
         let t = match-taken m in
         omega arith
-    go hits.Nothing e = tt
+    go Search.nothing e = tt
 
 -- a step takes one gate or two away
 pub step-shrinks : (gs : List Gate) (i j : ℕ) (k : Kind) (hs : List Gate) → stepGates gs ≡ found i j k hs → length hs + taken k ≡ length gs

@@ -12,8 +12,7 @@ use Rattle.circuit.specs.Outcome.{Outcome, served, refused, Untouched}
 use Rattle.circuit.specs.Words.{gatesOf, allValid, checkOutcome, Cascade, WordsFault}
 use Rattle.circuit.proofs.Outcome.{then-served, then-refused}
 use Rattle.circuit.proofs.words.Laws.{gates-length, valid-all-more, served-check, check-refused, refused-check}
-use Rattle.checking.specs.declared.step.Kind.{Kind}
-use Rattle.checking.specs.declared.step.Kind.the-variants.{Cancel, RemoveControl, InvertControl}
+use Rattle.checking.specs.Match.{Kind}
 use Rattle.checking.specs.Step.{Step, found, none, stepGates, filled, servedWords}
 use Rattle.checking.specs.StepLaws.{Steps, Keeps, Stands}
 use Rattle.checking.specs.Reduce.{Reduced, tallied, reduceGates, numbered, reduceOutcome, reduceBuffer}
@@ -26,9 +25,9 @@ abbrev pub ReducesTo : List Gate → Reduced (List Gate) → Type 0
 ReducesTo gs r = Reduces gs (r .left) (r .pairs) (r .merges)
 
 tallied-reduces : (gs hs : List Gate) (i j : ℕ) (k : Kind) (r : Reduced (List Gate)) → Steps gs (found i j k hs) → ReducesTo hs r → ReducesTo gs (tallied k r)
-tallied-reduces gs hs i j Cancel r s t = pairs s t
-tallied-reduces gs hs i j RemoveControl r s t = drops s t
-tallied-reduces gs hs i j InvertControl r s t = turns s t
+tallied-reduces gs hs i j Kind.pair r s t = pairs s t
+tallied-reduces gs hs i j Kind.drop r s t = drops s t
+tallied-reduces gs hs i j Kind.turn r s t = turns s t
 
 -- our reduction has the relation
 first-step : (gs : List Gate) → allValid maxLines gs ≡ true → (t : Step (List Gate)) → stepGates gs ≡ t
@@ -56,9 +55,9 @@ turn-back gs hs last i j p m k v s ih =
 
 pub reduces-reduce : (gs last : List Gate) (p m : ℕ) → allValid maxLines gs ≡ true → Reduces gs last p m → reduceGates gs ≡ record { left = last; pairs = p; merges = m }
 reduces-reduce gs _ _ _ v (ends s) = reduce-none gs (steps-step gs v none s)
-reduces-reduce gs last _ m v (pairs {hs = hs} {i = i} {j = j} {p = p} s t) = turn-back gs hs last i j p m Cancel v s (λ w. reduces-reduce hs last p m w t)
-reduces-reduce gs last p _ v (drops {hs = hs} {i = i} {j = j} {m = m} s t) = turn-back gs hs last i j p m RemoveControl v s (λ w. reduces-reduce hs last p m w t)
-reduces-reduce gs last p _ v (turns {hs = hs} {i = i} {j = j} {m = m} s t) = turn-back gs hs last i j p m InvertControl v s (λ w. reduces-reduce hs last p m w t)
+reduces-reduce gs last _ m v (pairs {hs = hs} {i = i} {j = j} {p = p} s t) = turn-back gs hs last i j p m Kind.pair v s (λ w. reduces-reduce hs last p m w t)
+reduces-reduce gs last p _ v (drops {hs = hs} {i = i} {j = j} {m = m} s t) = turn-back gs hs last i j p m Kind.drop v s (λ w. reduces-reduce hs last p m w t)
+reduces-reduce gs last p _ v (turns {hs = hs} {i = i} {j = j} {m = m} s t) = turn-back gs hs last i j p m Kind.turn v s (λ w. reduces-reduce hs last p m w t)
 
 -- ---- what a reduction keeps
 
@@ -71,18 +70,18 @@ module _ (n : ℕ) (l : n ≤ maxLines) where
 
   pub reduce-keeps : (gs last : List Gate) (p m : ℕ) → allValid n gs ≡ true → Reduces gs last p m → Keeps n gs last
   reduce-keeps gs _ _ _ v (ends s) = record { same = λ x. refl; good = v }
-  reduce-keeps gs last _ m v (pairs {hs = hs} {i = i} {j = j} {p = p} s t) = turn-keeps gs hs last i j Cancel v s (λ w. reduce-keeps hs last p m w t)
-  reduce-keeps gs last p _ v (drops {hs = hs} {i = i} {j = j} {m = m} s t) = turn-keeps gs hs last i j RemoveControl v s (λ w. reduce-keeps hs last p m w t)
-  reduce-keeps gs last p _ v (turns {hs = hs} {i = i} {j = j} {m = m} s t) = turn-keeps gs hs last i j InvertControl v s (λ w. reduce-keeps hs last p m w t)
+  reduce-keeps gs last _ m v (pairs {hs = hs} {i = i} {j = j} {p = p} s t) = turn-keeps gs hs last i j Kind.pair v s (λ w. reduce-keeps hs last p m w t)
+  reduce-keeps gs last p _ v (drops {hs = hs} {i = i} {j = j} {m = m} s t) = turn-keeps gs hs last i j Kind.drop v s (λ w. reduce-keeps hs last p m w t)
+  reduce-keeps gs last p _ v (turns {hs = hs} {i = i} {j = j} {m = m} s t) = turn-keeps gs hs last i j Kind.turn v s (λ w. reduce-keeps hs last p m w t)
 
 pub reduce-count : (gs last : List Gate) (p m : ℕ) → Reduces gs last p m → length gs ≡ length last + (2 * p + m)
 reduce-count gs _ _ _ (ends s) = omega arith
 reduce-count gs last _ m (pairs {hs = hs} {i = i} {j = j} {p = p} s t) =
-    let a = step-count gs i j Cancel hs s in let b = reduce-count hs last p m t in omega arith
+    let a = step-count gs i j Kind.pair hs s in let b = reduce-count hs last p m t in omega arith
 reduce-count gs last p _ (drops {hs = hs} {i = i} {j = j} {m = m} s t) =
-    let a = step-count gs i j RemoveControl hs s in let b = reduce-count hs last p m t in omega arith
+    let a = step-count gs i j Kind.drop hs s in let b = reduce-count hs last p m t in omega arith
 reduce-count gs last p _ (turns {hs = hs} {i = i} {j = j} {m = m} s t) =
-    let a = step-count gs i j InvertControl hs s in let b = reduce-count hs last p m t in omega arith
+    let a = step-count gs i j Kind.turn hs s in let b = reduce-count hs last p m t in omega arith
 
 -- ---- the call
 

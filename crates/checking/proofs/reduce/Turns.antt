@@ -12,8 +12,7 @@ use Rattle.circuit.specs.Outcome.{Yields}
 use Rattle.circuit.specs.Gate.{maxLines}
 use Rattle.circuit.specs.Words.{gatesOf, wordsOf, allValid}
 use Rattle.circuit.proofs.words.Laws.{gates-length, gates-words, words-gates, words-length}
-use Rattle.checking.specs.declared.step.Kind.{Kind}
-use Rattle.checking.specs.declared.step.Kind.the-variants.{Cancel, RemoveControl, InvertControl}
+use Rattle.checking.specs.Match.{Kind}
 use Rattle.checking.specs.Step.{Step, found, none, stepGates, counted, stepWords, filled}
 use Rattle.checking.specs.Reduce.{Reduced, tallied, reduceGates, numbered}
 use Rattle.checking.specs.StepLaws.{taken}
@@ -27,30 +26,30 @@ plus p m r = record { left = r .left; pairs = r .pairs + p; merges = r .merges +
 
 -- the pairs and merges that a match counts
 abbrev pub pairsOf : Kind → ℕ
-pairsOf Cancel = 1
-pairsOf RemoveControl = 0
-pairsOf InvertControl = 0
+pairsOf Kind.pair = 1
+pairsOf Kind.drop = 0
+pairsOf Kind.turn = 0
 
 abbrev pub mergesOf : Kind → ℕ
-mergesOf Cancel = 0
-mergesOf RemoveControl = 1
-mergesOf InvertControl = 1
+mergesOf Kind.pair = 0
+mergesOf Kind.drop = 1
+mergesOf Kind.turn = 1
 
 counts-taken : (k : Kind) → taken k ≡ 2 * pairsOf k + mergesOf k
-counts-taken Cancel = refl
-counts-taken RemoveControl = refl
-counts-taken InvertControl = refl
+counts-taken Kind.pair = refl
+counts-taken Kind.drop = refl
+counts-taken Kind.turn = refl
 
 plus-tallied : (k : Kind) (p m : ℕ) (r : Reduced (List Gate)) → plus p m (tallied k r) ≡ plus (p + pairsOf k) (m + mergesOf k) r
-plus-tallied Cancel p m r =
+plus-tallied Kind.pair p m r =
     let a : r .pairs + 1 + p ≡ r .pairs + (p + 1) = omega arith in
     let b : r .merges + m ≡ r .merges + (m + 0) = omega arith in
     ap₂ (λ (x y : ℕ). record { left = r .left; pairs = x; merges = y }) a b
-plus-tallied RemoveControl p m r =
+plus-tallied Kind.drop p m r =
     let a : r .pairs + p ≡ r .pairs + (p + 0) = omega arith in
     let b : r .merges + 1 + m ≡ r .merges + (m + 1) = omega arith in
     ap₂ (λ (x y : ℕ). record { left = r .left; pairs = x; merges = y }) a b
-plus-tallied InvertControl p m r =
+plus-tallied Kind.turn p m r =
     let a : r .pairs + p ≡ r .pairs + (p + 0) = omega arith in
     let b : r .merges + 1 + m ≡ r .merges + (m + 1) = omega arith in
     ap₂ (λ (x y : ℕ). record { left = r .left; pairs = x; merges = y }) a b

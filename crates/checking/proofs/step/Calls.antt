@@ -10,10 +10,8 @@ use Rattle.circuit.specs.Outcome.{Outcome, served, refused, Yields}
 use Rattle.circuit.specs.Words.{gatesOf, checkOutcome}
 use Rattle.circuit.proofs.Outcome.{then-served, then-refused}
 use Rattle.circuit.proofs.words.Laws.{gates-length}
-use Rattle.checking.specs.declared.step.Match.{Match}
-use Rattle.checking.specs.declared.step.Search.{Search}
-use Rattle.checking.specs.declared.step.Search.the-variants as hits
-use Rattle.checking.specs.Step.{searchFrom, kindOf, remaining, replaced, filled, Step, found, none, searched, stepGates, counted, stepWords, stepOutcome, servedWords, stepBuffer}
+use Rattle.checking.specs.Match.{Match, kindOf, remaining}
+use Rattle.checking.specs.Step.{Search, searchFrom, replaced, filled, Step, found, none, searched, stepGates, counted, stepWords, stepOutcome, servedWords, stepBuffer}
 use Rattle.checking.proofs.step.Moving.{replaced-length}
 use Rattle.checking.proofs.step.Relation.{search-places}
 
@@ -22,14 +20,14 @@ module _ (ws : List ℕ) where
   gs = gatesOf ws
 
   -- the places that the search tells stand in the words
-  pub places : (i j : ℕ) (m : Match) → searchFrom 0 gs ≡ hits.At i j m → (i < j) × (j < length ws / 3)
+  pub places : (i j : ℕ) (m : Match) → searchFrom 0 gs ≡ Search.at i j m → (i < j) × (j < length ws / 3)
   places i j m e = let (a, b) = search-places gs i j m e in let g = gates-length ws in (a, omega arith)
 
   told : (last : List ℕ) (r : Step ℕ) (t : Step (List Gate)) → stepGates gs ≡ t → r ≡ counted t → last ≡ stepWords t ws
       → Yields r last (counted (stepGates gs)) (stepWords (stepGates gs) ws)
   told last r t e a b = record { answer = a ∙ sym (ap counted e); buffer = b ∙ sym (ap (λ (x : Step (List Gate)). stepWords x ws) e) }
 
-  pub told-found : (i j : ℕ) (m : Match) → searchFrom 0 gs ≡ hits.At i j m → (k : ℕ) → k + 2 ≡ length ws / 3 + length (remaining m)
+  pub told-found : (i j : ℕ) (m : Match) → searchFrom 0 gs ≡ Search.at i j m → (k : ℕ) → k + 2 ≡ length ws / 3 + length (remaining m)
       → (last : List ℕ) → last ≡ filled (replaced i j (remaining m) gs) (length ws)
       → Yields (found i j (kindOf m) k) last (counted (stepGates gs)) (stepWords (stepGates gs) ws)
   unfolding stepGates
@@ -40,7 +38,7 @@ module _ (ws : List ℕ) where
       let q : k ≡ length (replaced i j (remaining m) gs) = omega arith in
       told last (found i j (kindOf m) k) (found i j (kindOf m) (replaced i j (remaining m) gs)) (ap (λ (x : Search). searched x gs) e) (ap (found i j (kindOf m)) q) l
 
-  pub told-none : searchFrom 0 gs ≡ hits.Nothing → Yields none ws (counted (stepGates gs)) (stepWords (stepGates gs) ws)
+  pub told-none : searchFrom 0 gs ≡ Search.nothing → Yields none ws (counted (stepGates gs)) (stepWords (stepGates gs) ws)
   unfolding stepGates
   told-none e = told ws none none (ap (λ (x : Search). searched x gs) e) refl refl
 

@@ -15,9 +15,8 @@ use Rattle.circuit.specs.Words.{allValid}
 use Rattle.circuit.specs.Run.{run}
 use Rattle.circuit.proofs.words.Laws.{valid-append}
 use Rattle.circuit.proofs.run.Laws.{run-append}
-use Rattle.checking.specs.declared.step.Match.{Match}
-use Rattle.checking.specs.declared.step.Match.the-variants as match
-use Rattle.checking.specs.Step.{mayPass, kindOf, remaining, between, replaced}
+use Rattle.checking.specs.Match.{mayPass, Match, kindOf, remaining}
+use Rattle.checking.specs.Step.{between, replaced}
 use Rattle.checking.specs.StepLaws.{gateIn, Candidate, taken}
 use Rattle.checking.proofs.step.Lines.{passing, match-run, match-valid}
 
@@ -114,6 +113,6 @@ module _ (gs : List Gate) (i j : ℕ) (order : i < j) (inside : j < length gs) w
 
 -- of two gates that match, so many go
 pub match-taken : (m : Match) → length (remaining m) + taken (kindOf m) ≡ 2
-match-taken match.Cancel = refl
-match-taken (match.RemoveControl r) = refl
-match-taken (match.InvertControl r) = refl
+match-taken Match.pair = refl
+match-taken (Match.drop r) = refl
+match-taken (Match.turn r) = refl

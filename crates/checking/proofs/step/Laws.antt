@@ -15,9 +15,8 @@ use Rattle.circuit.specs.Words.{gatesOf, wordsOf, allValid, checkOutcome, Casca
 use Rattle.circuit.proofs.Outcome.{never, then-served, then-refused, then-both}
 use Rattle.circuit.proofs.gate.Laws.{valid-more}
 use Rattle.circuit.proofs.words.Laws.{gates-length, gates-words, words-length, valid-all-more, served-check, check-refused, refused-check}
-use Rattle.checking.specs.declared.step.Kind.{Kind}
-use Rattle.checking.specs.declared.step.Match.{Match}
-use Rattle.checking.specs.Step.{remaining, filled, Step, found, none, stepGates, counted, stepWords, servedWords, stepOutcome, stepBuffer}
+use Rattle.checking.specs.Match.{Kind, Match, remaining}
+use Rattle.checking.specs.Step.{filled, Step, found, none, stepGates, counted, stepWords, servedWords, stepOutcome, stepBuffer}
 use Rattle.checking.specs.StepLaws.{Matches, Steps, finds, taken, Keeps, Stands, StepLaws}
 use Rattle.checking.proofs.step.Lines.{pass-clear, clear-pass, passing, match-run, match-valid}
 use Rattle.checking.proofs.step.Verdicts.{match-found, found-match, match-unique}

@@ -15,8 +15,7 @@ use Rattle.circuit.specs.Gate.{maxLines, fires, valid, apply}
 use Rattle.circuit.specs.Words.{allValid}
 use Rattle.circuit.specs.Run.{run}
 use Rattle.circuit.proofs.gate.Laws.{fires-lines, lines-fires, valid-by-lines, lines-valid, apply-bit, apply-twice}
-use Rattle.checking.specs.declared.step.Match.{Match}
-use Rattle.checking.specs.Step.{controlLines, mayPass, remaining}
+use Rattle.checking.specs.Match.{mayPass, controlLines, Match, remaining}
 use Rattle.checking.specs.StepLaws.{Uncontrolled, OneMore, Matches, pair, drop, turn-first, turn-second}
 
 -- what holds on line k and on every other line

@@ -7,31 +7,29 @@ use lib.Count.{ones}
 use borrow.Author.Tests.{eq-eqb, ne-eqb}
 use Rattle.bits.proofs.Bools.{cond-true, cond-false}
 use Rattle.circuit.specs.declared.gate.Gate.{Gate}
-use Rattle.checking.specs.declared.step.Match.the-variants as match
-use Rattle.checking.specs.declared.step.Verdict.the-variants.{Apart, Matched}
-use Rattle.checking.specs.Step.{matchOf, differing, controlRemoved, controlInverted}
+use Rattle.checking.specs.Match.{controlRemoved, controlInverted, differing, Match, apart, matched, matchOf}
 
 module _ (g h : Gate) where
   -- two gates with different targets
-  pub match-targets : (g .target ≡ h .target → ⊥) → matchOf g h ≡ Apart
+  pub match-targets : (g .target ≡ h .target → ⊥) → matchOf g h ≡ apart
   unfolding matchOf
   match-targets t = cond-false _ _ _ (ne-eqb _ _ t)
 
   module _ (same : g .target ≡ h .target) where
-    pub match-equal : differing g h ≡ 0 → matchOf g h ≡ Matched match.Cancel
+    pub match-equal : differing g h ≡ 0 → matchOf g h ≡ matched Match.pair
     unfolding matchOf
     match-equal d = cond-true _ _ _ (eq-eqb _ _ same) ∙ cond-true _ _ _ (eq-eqb _ _ d)
 
     module _ (some : differing g h ≡ 0 → ⊥) where
-      pub match-many : eqb (ones (differing g h)) 1 ≡ false → matchOf g h ≡ Apart
+      pub match-many : eqb (ones (differing g h)) 1 ≡ false → matchOf g h ≡ apart
       unfolding matchOf
       match-many o = cond-true _ _ _ (eq-eqb _ _ same) ∙ cond-false _ _ _ (ne-eqb _ _ some) ∙ cond-false _ _ _ o
 
       module _ (one : eqb (ones (differing g h)) 1 ≡ true) where
-        pub match-opposite : bitXor (g .positive) (h .positive) ≡ bitXor (g .negative) (h .negative) → matchOf g h ≡ Matched (match.RemoveControl (controlRemoved g h))
+        pub match-opposite : bitXor (g .positive) (h .positive) ≡ bitXor (g .negative) (h .negative) → matchOf g h ≡ matched (Match.drop (controlRemoved g h))
         unfolding matchOf
         match-opposite e = cond-true _ _ _ (eq-eqb _ _ same) ∙ cond-false _ _ _ (ne-eqb _ _ some) ∙ cond-true _ _ _ one ∙ cond-true _ _ _ (eq-eqb _ _ e)
 
-        pub match-longer : (bitXor (g .positive) (h .positive) ≡ bitXor (g .negative) (h .negative) → ⊥) → matchOf g h ≡ Matched (match.InvertControl (controlInverted g h))
+        pub match-longer : (bitXor (g .positive) (h .positive) ≡ bitXor (g .negative) (h .negative) → ⊥) → matchOf g h ≡ matched (Match.turn (controlInverted g h))
         unfolding matchOf
         match-longer e = cond-true _ _ _ (eq-eqb _ _ same) ∙ cond-false _ _ _ (ne-eqb _ _ some) ∙ cond-true _ _ _ one ∙ cond-false _ _ _ (ne-eqb _ _ e)

@@ -14,11 +14,7 @@ use Rattle.bits.proofs.Bools.{or-none, xor-false}
 use Rattle.circuit.specs.declared.gate.Gate.{Gate}
 use Rattle.circuit.specs.Gate.{maxLines, valid}
 use Rattle.circuit.proofs.gate.Laws.{valid-by-lines}
-use Rattle.checking.specs.declared.step.Match.{Match}
-use Rattle.checking.specs.declared.step.Match.the-variants as match
-use Rattle.checking.specs.declared.step.Verdict.{Verdict}
-use Rattle.checking.specs.declared.step.Verdict.the-variants.{Apart, Matched}
-use Rattle.checking.specs.Step.{matchOf, differing, controlRemoved, controlInverted}
+use Rattle.checking.specs.Match.{controlRemoved, controlInverted, differing, Match, Compared, apart, matched, matchOf}
 use Rattle.checking.specs.StepLaws.{OneMore, Matches, pair, drop, turn-first, turn-second}
 use Rattle.checking.proofs.step.Matching.{match-equal, match-opposite, match-longer}
 use Rattle.checking.proofs.step.Lines.{at-line}
@@ -183,7 +179,7 @@ extra-off′ false = refl
 four : (f : Bool → Bool → Bool → Bool → Bool) {a b c d a′ b′ c′ d′ : Bool} → a ≡ a′ → b ≡ b′ → c ≡ c′ → d ≡ d′ → f a b c d ≡ f a′ b′ c′ d′
 four f {c = c} {d = d} {a′ = a′} {b′ = b′} p q r s = ap₂ (λ (x y : Bool). f x y c d) p q ∙ ap₂ (f a′ b′) r s
 
-pub match-found : (g h : Gate) (m : Match) → Matches g h m → matchOf g h ≡ Matched m
+pub match-found : (g h : Gate) (m : Match) → Matches g h m → matchOf g h ≡ matched m
 unfolding differing
 match-found g h _ (pair t p q) =
     match-equal g h t (ap₂ (λ (x y : ℕ). bitOr (bitXor x (h .positive)) (bitXor y (h .negative))) p q ∙ ap₂ bitOr (xor-self (h .positive)) (xor-self (h .negative)) ∙ or-self 0)
@@ -193,7 +189,7 @@ match-found g h _ (drop r k b o u) =
     let e : (dp k g h a || dn k g h a) ≡ true = four (λ x y z w. xor x y || xor z w) (o .on) (u .on) (o .off) (u .off) ∙ opposite b in
     match-opposite g h t (some k g h a e) (one k g h a e)
     (masks-same k g h a (ap₂ xor (o .on) (u .on) ∙ opposite-same b ∙ sym (ap₂ xor (o .off) (u .off))))
-    ∙ ap (λ (x : Gate). Matched (match.RemoveControl x))
+    ∙ ap (λ (x : Gate). matched (Match.drop x))
     (removed-lines k g h a r (alike-back k h r (more-alike h r k (not b) u)) (sym (u .target))
     (ap₂ _&&_ (o .on) (u .on) ∙ never-both b ∙ sym (o .none-positive))
     (ap₂ _&&_ (o .off) (u .off) ∙ never-both (not b) ∙ sym (o .none-negative)))
@@ -202,7 +198,7 @@ match-found g h _ (turn-first r k b o u) =
     let e : (dp k g h a || dn k g h a) ≡ true = four (λ x y z w. xor x y || xor z w) (o .on) (o .none-positive) (o .off) (o .none-negative) ∙ extra b in
     match-longer g h (o .target) (some k g h a e) (one k g h a e)
     (masks-apart k g h a (λ q. extra-apart b (sym (ap₂ xor (o .on) (o .none-positive)) ∙ q ∙ ap₂ xor (o .off) (o .none-negative))))
-    ∙ ap (λ (x : Gate). Matched (match.InvertControl x))
+    ∙ ap (λ (x : Gate). matched (Match.turn x))
     (inverted-lines k g h a r (more-alike r h k (not b) u) (u .target)
     (four (λ x y z w. (x && y) || xor z w) (o .on) (o .none-positive) (o .off) (o .none-negative) ∙ extra-on b ∙ sym (u .on))
     (four (λ x y z w. (x && y) || xor z w) (o .off) (o .none-negative) (o .on) (o .none-positive) ∙ extra-off b ∙ sym (u .off)))
@@ -211,20 +207,20 @@ match-found g h _ (turn-second r k b o u) =
     let e : (dp k g h a || dn k g h a) ≡ true = four (λ x y z w. xor x y || xor z w) (o .none-positive) (o .on) (o .none-negative) (o .off) ∙ extra′ b in
     match-longer g h (sym (o .target)) (some k g h a e) (one k g h a e)
     (masks-apart k g h a (λ q. extra-apart′ b (sym (ap₂ xor (o .none-positive) (o .on)) ∙ q ∙ ap₂ xor (o .none-negative) (o .off))))
-    ∙ ap (λ (x : Gate). Matched (match.InvertControl x))
+    ∙ ap (λ (x : Gate). matched (Match.turn x))
     (inverted-lines k g h a r (alike-both k r g h (more-alike r g k (not b) u) a) (u .target ∙ sym (o .target))
     (four (λ x y z w. (x && y) || xor z w) (o .none-positive) (o .on) (o .none-negative) (o .off) ∙ extra-on′ b ∙ sym (u .on))
     (four (λ x y z w. (x && y) || xor z w) (o .none-negative) (o .off) (o .none-positive) (o .on) ∙ extra-off′ b ∙ sym (u .off)))
 
 -- ---- a match by masks is one by lines, of valid gates
 
-abbrev VerdictRight : Gate → Gate → Verdict → Type 0
-VerdictRight g h Apart = Unit {0}
-VerdictRight g h (Matched m) = Matches g h m
+abbrev VerdictRight : Gate → Gate → Compared → Type 0
+VerdictRight g h apart = Unit {0}
+VerdictRight g h (matched m) = Matches g h m
 
-by-cases : (P : Verdict → Type 0) (b c d e : Bool) (m₁ m₂ : Match) → P Apart → (b ≡ true → c ≡ true → P (Matched match.Cancel))
-    → (b ≡ true → d ≡ true → e ≡ true → P (Matched m₁)) → (b ≡ true → d ≡ true → e ≡ false → P (Matched m₂))
-    → P (cond b (cond c (Matched match.Cancel) (cond d (cond e (Matched m₁) (Matched m₂)) Apart)) Apart)
+by-cases : (P : Compared → Type 0) (b c d e : Bool) (m₁ m₂ : Match) → P apart → (b ≡ true → c ≡ true → P (matched Match.pair))
+    → (b ≡ true → d ≡ true → e ≡ true → P (matched m₁)) → (b ≡ true → d ≡ true → e ≡ false → P (matched m₂))
+    → P (cond b (cond c (matched Match.pair) (cond d (cond e (matched m₁) (matched m₂)) apart)) apart)
 by-cases P false c d e m₁ m₂ a p q r = a
 by-cases P true true d e m₁ m₂ a p q r = p refl refl
 by-cases P true false true true m₁ m₂ a p q r = q refl refl refl
@@ -321,12 +317,12 @@ module _ (g h : Gate) (vg : valid maxLines g ≡ true) (vh : valid maxLines h �
   one-more r less b al tt p q u v =
       record { target = tt; on = p; off = q; none-positive = u; none-negative = v; others-positive = al .positive; others-negative = al .negative }
 
-  removes : bitXor (g .positive) (h .positive) ≡ bitXor (g .negative) (h .negative) → Matches g h (match.RemoveControl (controlRemoved g h))
+  removes : bitXor (g .positive) (h .positive) ≡ bitXor (g .negative) (h .negative) → Matches g h (Match.drop (controlRemoved g h))
   unfolding controlRemoved
   removes e =
       go (opposite-line _ _ _ _ (valid-by-lines maxLines g vg .apart k) (valid-by-lines maxLines h vh .apart k) (here g h k is) (sym (bit-xor _ _ k) ∙ ap (λ (x : ℕ). bit x k) e ∙ bit-xor _ _ k))
     where
-      go : Opposite (bit (g .positive) k) (bit (g .negative) k) (bit (h .positive) k) (bit (h .negative) k) → Matches g h (match.RemoveControl (controlRemoved g h))
+      go : Opposite (bit (g .positive) k) (bit (g .negative) k) (bit (h .positive) k) (bit (h .negative) k) → Matches g h (Match.drop (controlRemoved g h))
       go (opposed b p q u v) =
           let r = controlRemoved g h in
           let x : bit (r .positive) k ≡ false = bit-and _ _ k ∙ ap₂ _&&_ p u ∙ never-both b in
@@ -334,12 +330,12 @@ module _ (g h : Gate) (vg : valid maxLines g ≡ true) (vh : valid maxLines h �
           let ah : AlikeBut k h r = alike-back k r h removed-alike in
           drop r k b (one-more g r b (alike-both k g h r a ah) t p q x y) (one-more h r (not b) ah refl u v x y)
 
-  inverts : (bitXor (g .positive) (h .positive) ≡ bitXor (g .negative) (h .negative) → ⊥) → Matches g h (match.InvertControl (controlInverted g h))
+  inverts : (bitXor (g .positive) (h .positive) ≡ bitXor (g .negative) (h .negative) → ⊥) → Matches g h (Match.turn (controlInverted g h))
   unfolding controlInverted
   inverts n =
       go (longer-line _ _ _ _ (valid-by-lines maxLines g vg .apart k) (valid-by-lines maxLines h vh .apart k) (λ e. n (masks-same k g h a e)))
     where
-      go : Longer (bit (g .positive) k) (bit (g .negative) k) (bit (h .positive) k) (bit (h .negative) k) → Matches g h (match.InvertControl (controlInverted g h))
+      go : Longer (bit (g .positive) k) (bit (g .negative) k) (bit (h .positive) k) (bit (h .negative) k) → Matches g h (Match.turn (controlInverted g h))
       go (first b p q u v) =
           let r = controlInverted g h in
           let x : bit (r .positive) k ≡ not b = bit-or _ _ k ∙ ap₂ _||_ (bit-and _ _ k) (bit-xor _ _ k) ∙ four (λ x y z w. (x && y) || xor z w) p u q v ∙ extra-on b in
@@ -356,7 +352,7 @@ verdict-right : (g h : Gate) → valid maxLines g ≡ true → valid maxLines h 
 unfolding matchOf
 verdict-right g h vg vh =
     by-cases (VerdictRight g h) (eqb (g .target) (h .target)) (eqb (differing g h) 0) (eqb (ones (differing g h)) 1)
-    (eqb (bitXor (g .positive) (h .positive)) (bitXor (g .negative) (h .negative))) (match.RemoveControl (controlRemoved g h)) (match.InvertControl (controlInverted g h)) tt
+    (eqb (bitXor (g .positive) (h .positive)) (bitXor (g .negative) (h .negative))) (Match.drop (controlRemoved g h)) (Match.turn (controlInverted g h)) tt
     (λ t z.
     let n = none-differs g h (eqb-true _ _ z) in
     pair (eqb-true _ _ t) (bits-equal _ _ (λ l. n l .0)) (bits-equal _ _ (λ l. n l .1)))
@@ -364,9 +360,9 @@ verdict-right g h vg vh =
     (λ t o e. let (k, is) = single-pow (differing g h) (eqb-true _ _ o) in inverts g h vg vh (eqb-true _ _ t) k is (eqb-false _ _ e))
 
 -- exactly the matches by lines are found
-pub found-match : (g h : Gate) (m : Match) → valid maxLines g ≡ true → valid maxLines h ≡ true → matchOf g h ≡ Matched m → Matches g h m
+pub found-match : (g h : Gate) (m : Match) → valid maxLines g ≡ true → valid maxLines h ≡ true → matchOf g h ≡ matched m → Matches g h m
 found-match g h m vg vh e = subst (VerdictRight g h) e (verdict-right g h vg vh)
 
 -- at most one match holds of two gates
 pub match-unique : (g h : Gate) (m o : Match) → Matches g h m → Matches g h o → m ≡ o
-match-unique g h m o a b = let e : Matched m ≡ Matched o = sym (match-found g h m a) ∙ match-found g h o b in cc
+match-unique g h m o a b = let e : matched m ≡ matched o = sym (match-found g h m a) ∙ match-found g h o b in cc

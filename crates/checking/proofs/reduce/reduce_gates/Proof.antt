@@ -4,9 +4,9 @@ use Prim.Native.Nat.{ℕ, _+_, _*_, _-_}
 use native.Mathlib.Omega.{arith}
 use borrow.Author.Needs.{needs}
 use borrow.Rule.Slice.PartMut.{putMid, same-len-mid}
-use Rattle.checking.specs.declared.step.Kind.{Kind}
-use Rattle.checking.specs.declared.step.Kind.the-variants.{Cancel, RemoveControl, InvertControl}
-use Rattle.checking.specs.Step.{found, ofStepped}
+use Rattle.checking.specs.Match.{Kind}
+use Rattle.checking.specs.Step.{found, ofKind}
+use Rattle.checking.specs.StepCode.{ofStepped}
 use Rattle.checking.specs.StepLaws.{taken}
 use Rattle.checking.proofs.reduce.Turns.{Standing, standing-first, lent-whole, lent-valid, ended, left-less, onward, pairsOf, mergesOf}
 use Rattle.checking.proofs.reduce.reduce_gates.Statement.{statement}
@@ -27,18 +27,18 @@ made c = c .before .before .before .before .before
 
 -- what the step found
 hit : (c : tie.After-known-told Inv-loop μ-loop) → ofStepped (made c .make-step .result)
-    ≡ found (c .before .kind .given .0 .0) (c .before .kind .given .0 .1 .0) (c .before .kind .given .0 .1 .1 .0) (c .before .kind .given .0 .1 .1 .1 .0)
+    ≡ found (c .before .kind .given .0 .0) (c .before .kind .given .0 .1 .0) (ofKind (c .before .kind .given .0 .1 .1 .0)) (c .before .kind .given .0 .1 .1 .1 .0)
 hit c = ap ofStepped (c .before .kind .given .1)
 
 -- the turn's numbers, by the match that it was
-less : (c : tie.After-known-told Inv-loop μ-loop) (k : Kind) → c .before .kind .given .0 .1 .1 .0 ≡ k
+less : (c : tie.After-known-told Inv-loop μ-loop) (k : Kind) → ofKind (c .before .kind .given .0 .1 .1 .0) ≡ k
     → c .before .kind .given .0 .1 .1 .1 .0 + taken k ≡ turn (made c) .loop .gates
 less c k e =
     let l = turn (made c) .loop in
     ap (λ (x : Kind). c .before .kind .given .0 .1 .1 .1 .0 + taken x) (sym e)
     ∙ left-less _ (l .words) (l .gates) (l .pairs) (l .merges) (l .inv) _ _ (made c .make-step .ensures) _ _ _ _ (hit c)
 
-again : (c : tie.After-known-told Inv-loop μ-loop) (k : Kind) → c .before .kind .given .0 .1 .1 .0 ≡ k → (p m : ℕ)
+again : (c : tie.After-known-told Inv-loop μ-loop) (k : Kind) → ofKind (c .before .kind .given .0 .1 .1 .0) ≡ k → (p m : ℕ)
     → p ≡ turn (made c) .loop .pairs + pairsOf k
     → m ≡ turn (made c) .loop .merges + mergesOf k
     → Standing (turn (made c) .before .before .args .words .now)
@@ -106,37 +106,37 @@ enum-told-2 : tie.Need-enum-told-2 Inv-loop μ-loop
 enum-told-2 c = search needs
 
 add-pairs : tie.Need-add-pairs Inv-loop μ-loop
-add-pairs c = let e = less (c .before .before) Cancel (c .enum-told2 .given .1) in omega arith
+add-pairs c = let e = less (c .before .before) Kind.pair (ap ofKind (c .enum-told2 .given .1)) in omega arith
 
 loop-less : tie.Need-loop-less Inv-loop μ-loop
-loop-less c = let e = less (c .before .before) Cancel (c .enum-told2 .given .1) in omega arith
+loop-less c = let e = less (c .before .before) Kind.pair (ap ofKind (c .enum-told2 .given .1)) in omega arith
 
 loop-again : tie.Need-loop-again Inv-loop μ-loop
-loop-again c = again (c .before .before) Cancel (c .enum-told2 .given .1) _ _ (omega arith) (omega arith)
+loop-again c = again (c .before .before) Kind.pair (ap ofKind (c .enum-told2 .given .1)) _ _ (omega arith) (omega arith)
 
 enum-told-3 : tie.Need-enum-told-3 Inv-loop μ-loop
 enum-told-3 c = search needs
 
 add-merges : tie.Need-add-merges Inv-loop μ-loop
-add-merges c = let e = less (c .before .before) RemoveControl (c .enum-told3 .given .1) in omega arith
+add-merges c = let e = less (c .before .before) Kind.drop (ap ofKind (c .enum-told3 .given .1)) in omega arith
 
 loop-less-2 : tie.Need-loop-less-2 Inv-loop μ-loop
-loop-less-2 c = let e = less (c .before .before) RemoveControl (c .enum-told3 .given .1) in omega arith
+loop-less-2 c = let e = less (c .before .before) Kind.drop (ap ofKind (c .enum-told3 .given .1)) in omega arith
 
 loop-again-2 : tie.Need-loop-again-2 Inv-loop μ-loop
-loop-again-2 c = again (c .before .before) RemoveControl (c .enum-told3 .given .1) _ _ (omega arith) (omega arith)
+loop-again-2 c = again (c .before .before) Kind.drop (ap ofKind (c .enum-told3 .given .1)) _ _ (omega arith) (omega arith)
 
 enum-told-4 : tie.Need-enum-told-4 Inv-loop μ-loop
 enum-told-4 c = search needs
 
 add-merges-2 : tie.Need-add-merges-2 Inv-loop μ-loop
-add-merges-2 c = let e = less (c .before .before) InvertControl (c .enum-told4 .given .1) in omega arith
+add-merges-2 c = let e = less (c .before .before) Kind.turn (ap ofKind (c .enum-told4 .given .1)) in omega arith
 
 loop-less-3 : tie.Need-loop-less-3 Inv-loop μ-loop
-loop-less-3 c = let e = less (c .before .before) InvertControl (c .enum-told4 .given .1) in omega arith
+loop-less-3 c = let e = less (c .before .before) Kind.turn (ap ofKind (c .enum-told4 .given .1)) in omega arith
 
 loop-again-3 : tie.Need-loop-again-3 Inv-loop μ-loop
-loop-again-3 c = again (c .before .before) InvertControl (c .enum-told4 .given .1) _ _ (omega arith) (omega arith)
+loop-again-3 c = again (c .before .before) Kind.turn (ap ofKind (c .enum-told4 .given .1)) _ _ (omega arith) (omega arith)
 
 pub reduce-gates-spec : {M : Type 1} → statement M
 reduce-gates-spec =

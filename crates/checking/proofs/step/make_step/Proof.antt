@@ -5,9 +5,10 @@ use native.Mathlib.Omega.{arith}
 use lib.ListN.{length}
 use borrow.Author.Needs.{needs}
 use Rattle.circuit.specs.Words.{gatesOf}
-use Rattle.checking.specs.declared.step.Match.the-variants as match
-use Rattle.checking.specs.declared.step.Search.the-variants as hits
-use Rattle.checking.specs.Step.{searchFrom}
+use Rattle.checking.specs.declared.step.Match as code
+use Rattle.checking.specs.Match.{Match}
+use Rattle.checking.specs.Step.{Search, searchFrom}
+use Rattle.checking.specs.StepCode.{ofMatch, ofSearch}
 use Rattle.checking.proofs.step.Calls.{places, told-found, told-none}
 use Rattle.checking.proofs.step.make_step.Statement.{statement}
 use Rattle.checking.proofs.step.make_step.Tie as tie
@@ -15,8 +16,8 @@ use Rattle.checking.proofs.step.make_step.Tie as tie
 -- what the search found
 at : (c : tie.After-known-told)
     → searchFrom 0 (gatesOf (c .before .before .before .before .args .words .now))
-    ≡ hits.At (c .before .found .given .0 .0) (c .before .found .given .0 .1 .0) (c .before .found .given .0 .1 .1 .0)
-at c = sym (c .before .before .before .before .pre .1) ∙ c .before .found .given .1
+    ≡ Search.at (c .before .found .given .0 .0) (c .before .found .given .0 .1 .0) (ofMatch (c .before .found .given .0 .1 .1 .0))
+at c = sym (c .before .before .before .before .pre .1) ∙ ap ofSearch (c .before .found .given .1)
 
 inside : (c : tie.After-known-told)
     → (c .before .found .given .0 .0 < c .before .found .given .0 .1 .0)
@@ -63,7 +64,7 @@ sub-t26 : tie.Need-sub-t26
 sub-t26 c = let (a, b) = inside (c .before .before .before .before .before .before .before) in omega arith
 
 returns : tie.Need-returns
-returns c = told-none _ (sym (c .before .before .before .pre .1) ∙ c .enum-told .given .1)
+returns c = told-none _ (sym (c .before .before .before .pre .1) ∙ ap ofSearch (c .enum-told .given .1))
 
 same-length : tie.Need-same-length
 same-length c = search needs
@@ -76,7 +77,7 @@ returns-2 c =
     let (a, b) = inside f in
     let i = f .before .found .given .0 .0 in
     let j = f .before .found .given .0 .1 .0 in
-    told-found _ i j match.Cancel (at f ∙ ap (hits.At i j) (e .enum-told2 .given .1)) _ (omega arith) _ (p .remove-pair .ensures)
+    told-found _ i j Match.pair (at f ∙ ap (λ (m : code.Match). Search.at i j (ofMatch m)) (e .enum-told2 .given .1)) _ (omega arith) _ (p .remove-pair .ensures)
 
 same-length-2 : tie.Need-same-length-2
 same-length-2 c = search needs
@@ -89,7 +90,7 @@ returns-3 c =
     let (a, b) = inside f in
     let i = f .before .found .given .0 .0 in
     let j = f .before .found .given .0 .1 .0 in
-    told-found _ i j (match.RemoveControl (e .by .given .0 .0)) (at f ∙ ap (hits.At i j) (e .by .given .1)) _ (omega arith) _ (p .merge-pair .ensures)
+    told-found _ i j (Match.drop (e .by .given .0 .0)) (at f ∙ ap (λ (m : code.Match). Search.at i j (ofMatch m)) (e .by .given .1)) _ (omega arith) _ (p .merge-pair .ensures)
 
 same-length-3 : tie.Need-same-length-3
 same-length-3 c = search needs
@@ -102,7 +103,7 @@ returns-4 c =
     let (a, b) = inside f in
     let i = f .before .found .given .0 .0 in
     let j = f .before .found .given .0 .1 .0 in
-    told-found _ i j (match.InvertControl (e .by2 .given .0 .0)) (at f ∙ ap (hits.At i j) (e .by2 .given .1)) _ (omega arith) _ (p .merge-pair2 .ensures)
+    told-found _ i j (Match.turn (e .by2 .given .0 .0)) (at f ∙ ap (λ (m : code.Match). Search.at i j (ofMatch m)) (e .by2 .given .1)) _ (omega arith) _ (p .merge-pair2 .ensures)
 
 pub make-step-spec : {M : Type 1} → statement M
 make-step-spec =

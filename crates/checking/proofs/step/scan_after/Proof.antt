@@ -8,6 +8,7 @@ use borrow.Author.Tests.{not-true, not-false}
 use Rattle.circuit.specs.declared.gate.Gate.{Gate}
 use Rattle.circuit.specs.Words.{gatesOf, gateAt}
 use Rattle.checking.specs.Step.{scanFrom}
+use Rattle.checking.specs.StepCode.{ofVerdict}
 use Rattle.checking.proofs.step.Relation.{target-low}
 use Rattle.checking.proofs.step.Searching.{words-hit, words-stop, words-on, words-end}
 use Rattle.checking.proofs.step.scan_after.Statement.{statement}
@@ -44,7 +45,7 @@ returns c =
     let b = c .before in
     let m = b .before .before in
     let l = m .before .before .before in
-    sym (l .loop .inv .2 ∙ words-hit _ _ _ _ (m .before .before .loop-test .taken) (m .before .gate-at2 .ensures) _ (sym (m .match-gates .ensures) ∙ b .by .given .1))
+    sym (l .loop .inv .2 ∙ words-hit _ _ _ _ (m .before .before .loop-test .taken) (m .before .gate-at2 .ensures) _ (sym (m .match-gates .ensures) ∙ ap ofVerdict (b .by .given .1)))
 
 enum-told : tie.Need-enum-told Inv-loop μ-loop
 enum-told c = search needs
@@ -66,7 +67,7 @@ returns-2 c =
     let m = t .before .before in
     let l = m .before .before .before in
     sym (l .loop .inv .2
-    ∙ words-stop _ _ _ _ (m .before .before .loop-test .taken) (m .before .gate-at2 .ensures) (sym (m .match-gates .ensures) ∙ t .enum-told .given .1)
+    ∙ words-stop _ _ _ _ (m .before .before .loop-test .taken) (m .before .gate-at2 .ensures) (sym (m .match-gates .ensures) ∙ ap ofVerdict (t .enum-told .given .1))
     (sym (p .may-pass .ensures) ∙ not-true _ (c .if1 .taken)))
 
 add-j-2 : tie.Need-add-j-2 Inv-loop μ-loop
@@ -84,7 +85,7 @@ loop-again c =
       omega arith,
       omega arith,
       l .loop .inv .2
-          ∙ words-on _ _ _ _ (m .before .before .loop-test .taken) (m .before .gate-at2 .ensures) (sym (m .match-gates .ensures) ∙ t .enum-told .given .1)
+          ∙ words-on _ _ _ _ (m .before .before .loop-test .taken) (m .before .gate-at2 .ensures) (sym (m .match-gates .ensures) ∙ ap ofVerdict (t .enum-told .given .1))
           (sym (p .may-pass .ensures) ∙ not-false _ (c .if1 .left)),
     )
 
