@@ -11,7 +11,7 @@ use borrow.Author.Needs.{needs}
 use Rattle.circuit.specs.Gate.{maxLines}
 use Rattle.circuit.specs.Words.{gatesOf, allValid}
 use Rattle.circuit.proofs.words.Laws.{gates-length, valid-next, valid-later}
-use Rattle.checking.specs.Faults.{narrowed}
+use Rattle.checking.specs.private.Narrowing.{narrowed}
 use Rattle.checking.proofs.faults.Loops.{twoSet, narrow-turn, narrow-end}
 use Rattle.checking.proofs.faults.narrow.Statement.{statement}
 use Rattle.checking.proofs.faults.narrow.Tie as tie
