@@ -1,13 +1,12 @@
 -- Faults: the lines that may be a missing control of a gate of the suspect, by document 01. A line that stands is a candidate.
 use mathlib.Core.Bool.{Bool, true, false, not, xor, cond, _&&_}
 use mathlib.Core.List.{List, [], _∷_, _++_}
-use Prim.Native.Nat.{ℕ, zero, suc, _+_, _*_, _-_, _^_}
+use Prim.Native.Nat.{ℕ, zero, suc, _+_, _*_, _^_}
 use lib.Dec.{eqb, leb, ltb}
-use lib.Bits.{bitAnd, bitXor}
 use lib.ListN.{length}
 use Rattle.bits.specs.Digits.{bit}
 use Rattle.circuit.specs.declared.gate.Gate.{Gate}
-use Rattle.circuit.specs.Gate.{maxLines, fires, apply}
+use Rattle.circuit.specs.Gate.{fires}
 use Rattle.circuit.specs.Outcome.{Outcome, served, demand, andThen, written}
 use Rattle.circuit.specs.Refusal.{badState, agreeingState, noRoom}
 use Rattle.circuit.specs.Words.{gatesOf, pairOutcome}
@@ -64,20 +63,3 @@ faultOutcome na a nb b xs room = andThen (faultCheck na a nb b xs) (λ gates. de
 -- the masks at the buffer's start
 unfoldable pub faultBuffer : ℕ → List ℕ → ℕ → List ℕ → List ℕ → List ℕ → List ℕ
 faultBuffer na a nb b xs out = written (faultOutcome na a nb b xs (length out)) (faultMasks na (gatesOf a) xs) out
-
--- ---- one state at a time, as the masks are made
-
--- the lines that a state leaves in a mask of a gate
-unfoldable pub kept : Bool → Gate → ℕ → ℕ
-kept positive g s = cond (fires g s) (cond positive (bitXor s (2 ^ maxLines - 1)) s) 0
-
--- the masks of gates after one state more; s is the state before the first gate
-unfoldable pub narrowed : List Gate → ℕ → List ℕ → List ℕ
-narrowed [] s ms = ms
-narrowed (g ∷ gs) s [] = []
-narrowed (g ∷ gs) s (p ∷ []) = p ∷ []
-narrowed (g ∷ gs) s (p ∷ q ∷ ms) = bitAnd p (kept true g s) ∷ bitAnd q (kept false g s) ∷ narrowed gs (apply g s) ms
-
-unfoldable pub narrowedBy : List Gate → List ℕ → List ℕ → List ℕ
-narrowedBy gs [] ms = ms
-narrowedBy gs (x ∷ xs) ms = narrowedBy gs xs (narrowed gs x ms)

@@ -1,7 +1,6 @@
 pub mod Miter
 pub mod Match
 pub mod Step
-pub mod StepCode
 pub mod Reduce
 pub mod MiterLaws
 pub mod StepLaws
@@ -13,8 +12,6 @@ pub mod Forced
 pub mod Stored
 pub mod Sizes
 pub mod ClauseRows
-pub mod Emitter
-pub mod Emission
 pub mod Emit
 pub mod Told
 pub mod Equality
@@ -28,3 +25,4 @@ pub mod Faults
 pub mod RefusalLaws
 pub mod FaultLaws
 pub mod Laws
+pub mod private

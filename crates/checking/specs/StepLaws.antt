@@ -11,7 +11,7 @@ use Rattle.circuit.specs.Gate.{maxLines, maxMiterGates, notGate, valid, apply}
 use Rattle.circuit.specs.Outcome.{served, refused, Untouched}
 use Rattle.circuit.specs.Words.{gatesOf, allValid, Cascade, WordsFault}
 use Rattle.circuit.specs.Run.{run}
-use Rattle.checking.specs.Match.{mayPass, Kind, Match, apart, matched, matchOf, kindOf, remaining}
+use Rattle.checking.specs.Match.{mayPass, Kind, Match, matched, matchOf, kindOf, remaining}
 use Rattle.checking.specs.Step.{replaced, Step, found, none, stepGates, counted, stepOutcome, stepBuffer}
 
 -- line t is no control of g

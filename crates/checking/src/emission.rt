@@ -10,7 +10,7 @@ ghost use Rattle.circuit.specs.Outcome.{Yields};
 ghost use Rattle.circuit.specs.Words.{gatesOf};
 ghost use Rattle.checking.specs.Clauses.{inputOf, newVariable, clausesOf};
 ghost use Rattle.checking.specs.Stored.{stored, wordLimit};
-ghost use Rattle.checking.specs.Emission.{Holds, lineStored, linesStored, lastStored, LineReady, LinesReady, GatesReady, GatesPut, ListReady};
+ghost use Rattle.checking.specs.private.Emission.{Holds, lineStored, linesStored, lastStored, LineReady, LinesReady, GatesReady, GatesPut, ListReady};
 
 // Words written and variables numbered so far.
 pub(crate) struct Front {

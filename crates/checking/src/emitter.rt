@@ -9,7 +9,7 @@ ghost use lib.ListN.{length};
 ghost use Rattle.bits.specs.Lists.{over};
 ghost use Rattle.circuit.specs.Outcome.{Yields};
 ghost use Rattle.checking.specs.Stored.{wordLimit};
-ghost use Rattle.checking.specs.Emitter.{literalWord, literalsIn, controlsStored, Currents, Lines, Many, manyStored, gateStored, Ready};
+ghost use Rattle.checking.specs.private.Emitter.{literalWord, literalsIn, controlsStored, Currents, Lines, Many, manyStored, gateStored, Ready};
 
 // The number as a word.
 pub(crate) fn number(x: u64) -> i16

@@ -16,7 +16,8 @@ ghost use Rattle.circuit.specs.Outcome.{Yields};
 ghost use Rattle.circuit.specs.Refusal.{badState, agreeingState};
 ghost use Rattle.circuit.specs.Words.{gatesOf, allValid, ofCount};
 ghost use Rattle.checking.specs.Compare.{outputsDiffer};
-ghost use Rattle.checking.specs.Faults.{isFree, maskWhere, masksFrom, eachFrom, faultCheck, faultOutcome, faultBuffer, kept, narrowed, narrowedBy};
+ghost use Rattle.checking.specs.Faults.{isFree, maskWhere, masksFrom, eachFrom, faultCheck, faultOutcome, faultBuffer};
+ghost use Rattle.checking.specs.private.Narrowing.{kept, narrowed, narrowedBy};
 
 // The lines below n.
 fn lines_below(n: u64) -> u64

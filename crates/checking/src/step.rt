@@ -16,7 +16,7 @@ ghost use Rattle.circuit.specs.Gate.{maxLines};
 ghost use Rattle.circuit.specs.Words.{gatesOf, gateAt, allValid};
 ghost use Rattle.checking.specs.Match.{mayPass, matchOf};
 ghost use Rattle.checking.specs.Step.{scanFrom, searchFrom, replaced, filled, stepGates, counted, stepWords, stepOutcome, stepBuffer, ofStep};
-ghost use Rattle.checking.specs.StepCode.{ofVerdict, ofScan, ofSearch, ofStepped};
+ghost use Rattle.checking.specs.private.StepCode.{ofVerdict, ofScan, ofSearch, ofStepped};
 
 // Which match it was (01: pair, drop, turn).
 pub enum Kind {

@@ -11,7 +11,7 @@ use Rattle.circuit.specs.Gate.{maxLines, maxGates, Control}
 use Rattle.circuit.specs.Outcome.{Outcome, served, refused, Untouched, Yields}
 use Rattle.circuit.specs.Words.{gatesOf, wordsOf, allValid, Cascade, WordsFault}
 use Rattle.circuit.specs.Text.{linesWord, gateWord, endWord, numberText, controlText, headerLine, gateLines, textOf}
-use Rattle.circuit.specs.File.{Line, firstLine, linesOf, fieldsOf, Reading, reading, ReadCounts, readOutcome, readBuffer, writeOutcome, writeBuffer}
+use Rattle.circuit.specs.File.{Inside, Line, firstLine, linesOf, fieldsOf, Reading, reading, ReadCounts, readOutcome, readBuffer, writeOutcome, writeBuffer}
 
 -- a cascade that a file can hold
 pub record FileCascade (n : ℕ) (gs : List Gate) : Type 0 where
@@ -49,11 +49,6 @@ pub data ControlsOffence (n : ℕ) : List (List ℕ) → ℕ → Type 0 where
   form : (f : List ℕ) (fs : List (List ℕ)) → ((c : Control) → ControlField f c → ⊥) → ControlsOffence n (f ∷ fs) 1
   value : (f : List ℕ) (fs : List (List ℕ)) (c : Control) → ControlField f c → n ≤ c .line → ControlsOffence n (f ∷ fs) 3
   later : (f : List ℕ) (fs : List (List ℕ)) (c : Control) → ControlField f c → c .line < n → (number : ℕ) → ControlsOffence n fs number → ControlsOffence n (f ∷ fs) number
-
--- every control is a line of the cascade
-pub data Inside (n : ℕ) : List Control → Type 0 where
-  none : Inside n []
-  more : (c : Control) (cs : List Control) → c .line < n → Inside n cs → Inside n (c ∷ cs)
 
 -- line t is one of the controls'
 pub data Among (t : ℕ) : List Control → Type 0 where

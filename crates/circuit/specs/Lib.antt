@@ -7,7 +7,5 @@ pub mod Inverse
 pub mod Text
 pub mod File
 pub mod FileLaws
-pub mod Scan
-pub mod Fill
-pub mod Put
 pub mod Laws
+pub mod private

@@ -14,8 +14,8 @@ ghost use Rattle.circuit.specs.Gate.{maxLines, maxGates};
 ghost use Rattle.circuit.specs.Outcome.{Yields};
 ghost use Rattle.circuit.specs.Words.{gatesOf, allValid};
 ghost use Rattle.circuit.specs.Text.{gateLines, endLine, textOf};
-ghost use Rattle.circuit.specs.Put.{Put, TwoDigits};
-ghost use Rattle.circuit.specs.Scan.{countsFrom};
+ghost use Rattle.circuit.specs.private.Put.{Put, TwoDigits};
+ghost use Rattle.circuit.specs.private.Scan.{countsFrom};
 ghost use Rattle.circuit.specs.File.{readOutcome, readBuffer, ofRead, writeOutcome, writeBuffer, ofWrite};
 
 pub mod fill;

@@ -8,7 +8,8 @@ ghost use Prim.Native.Nat.{_≤_};
 ghost use Rattle.circuit.specs.Gate.{maxLines};
 ghost use Rattle.circuit.specs.Outcome.{served, andThen};
 ghost use Rattle.circuit.specs.Words.{gatesOf, validFrom};
-ghost use Rattle.circuit.specs.Run.{run, runTested, runOutcome, ofRun, begun, goesOn, advanced, ended, recordsOutcome};
+ghost use Rattle.circuit.specs.Run.{run, runTested, runOutcome, ofRun, recordsOutcome};
+ghost use Rattle.circuit.specs.private.Records.{begun, goesOn, advanced, ended};
 
 // The output state, or a refusal.
 pub enum RunAnswer {

@@ -10,7 +10,7 @@ ghost use mathlib.Core.Path.{_≡_};
 ghost use lib.ListN.{length};
 ghost use Rattle.circuit.specs.Words.{gatesOf};
 ghost use Rattle.text.specs.Tomiter.{maxWords, pairVerdict, secondVerdict, verdict};
-ghost use Rattle.text.specs.Answers.{FileWords, Says};
+ghost use Rattle.text.specs.private.Lists.{FileWords, Says};
 
 // The totals of a clause list that stands in the clause buffer; or a refusal with its file, 1, 2, or 0 for both.
 pub enum ListAnswer {

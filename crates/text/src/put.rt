@@ -4,7 +4,7 @@ ghost use mathlib.Core.Path.{_≡_};
 ghost use mathlib.Core.List.{[], _∷_, _++_};
 ghost use Prim.Native.Nat.{_+_, _/_, _%_, _≤_, _<_};
 ghost use lib.ListN.{length};
-ghost use Rattle.circuit.specs.Put.{Put};
+ghost use Rattle.circuit.specs.private.Put.{Put};
 ghost use Rattle.circuit.specs.Text.{lineFeed, digit};
 ghost use Rattle.text.specs.Dimacs.{decimal};
 

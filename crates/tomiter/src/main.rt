@@ -5,7 +5,7 @@ use libc::STDOUT_FILENO;
 use text::TextAnswer;
 ghost use Prim.Native.Nat.{_≤_};
 ghost use lib.ListN.{length};
-ghost use Rattle.circuit.specs.Put.{Put};
+ghost use Rattle.circuit.specs.private.Put.{Put};
 ghost use Rattle.text.specs.Tomiter.{maxText, tomiterText};
 
 // One byte more than an input may have.

@@ -19,7 +19,7 @@ use Rattle.checking.specs.Clauses.{clausesOf}
 use Rattle.checking.specs.Stored.{stored}
 use Rattle.checking.specs.Sizes.{sizesOf, sizesOutcome}
 use Rattle.checking.specs.Emit.{emitOutcome, emitBuffer}
-use Rattle.checking.specs.Emission.{ListReady}
+use Rattle.checking.specs.private.Emission.{ListReady}
 use Rattle.checking.specs.EmitLaws.{Counted, EmitFault, words-fault, short, EmitLaws}
 use Rattle.checking.proofs.clauses.Sums.{sizes-list}
 

@@ -23,8 +23,8 @@ use Rattle.checking.specs.declared.clauses.Totals.{Totals}
 use Rattle.checking.specs.Clauses.{Clause, plus, minus, inputOf, literalOf, gateClauses, newVariable, usedBy, moved, clausesOfGate, gatesClauses, usedAfter, currentAfter}
 use Rattle.checking.specs.Stored.{stored}
 use Rattle.checking.specs.Sizes.{gateSizes}
-use Rattle.checking.specs.Emitter.{byLine, gateStored, Ready}
-use Rattle.checking.specs.Emission.{Holds, GatesReady, GatesPut}
+use Rattle.checking.specs.private.Emitter.{byLine, gateStored, Ready}
+use Rattle.checking.specs.private.Emission.{Holds, GatesReady, GatesPut}
 use Rattle.checking.proofs.clauses.Gates.{Within, controls-within, new-named}
 use Rattle.checking.proofs.clauses.Reading.{stored-append}
 use Rattle.checking.proofs.clauses.Sums.{gate-sizes}

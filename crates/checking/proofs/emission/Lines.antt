@@ -15,8 +15,8 @@ use Rattle.bits.proofs.Bools.{either}
 use Rattle.bits.proofs.Lists.{over-length, over-push, lent-over}
 use Rattle.checking.specs.Clauses.{plus, inputOf, upFrom, differenceClauses}
 use Rattle.checking.specs.Stored.{stored}
-use Rattle.checking.specs.Emitter.{byLine}
-use Rattle.checking.specs.Emission.{lineStored, linesStored, lastStored, LineReady, LinesReady}
+use Rattle.checking.specs.private.Emitter.{byLine}
+use Rattle.checking.specs.private.Emission.{lineStored, linesStored, lastStored, LineReady, LinesReady}
 use Rattle.checking.proofs.clauses.Forced.{length-upFrom}
 use Rattle.checking.proofs.clauses.Loop.{upFrom-more}
 use Rattle.checking.proofs.emitter.Parts.{lent-long}

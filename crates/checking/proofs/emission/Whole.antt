@@ -18,8 +18,8 @@ use Rattle.circuit.proofs.words.Laws.{gates-length}
 use Rattle.checking.specs.declared.clauses.Totals.{Totals}
 use Rattle.checking.specs.Clauses.{Clause, OR, plus, inputOf, usedBy, moved, gatesClauses, usedAfter, currentAfter, targeted, upFrom, differenceClause, differenceClauses, clausesOf}
 use Rattle.checking.specs.Stored.{stored, wordLimit}
-use Rattle.checking.specs.Emitter.{byLine}
-use Rattle.checking.specs.Emission.{Holds, linesStored, lastStored, LinesReady, GatesReady, GatesPut, ListReady}
+use Rattle.checking.specs.private.Emitter.{byLine}
+use Rattle.checking.specs.private.Emission.{Holds, linesStored, lastStored, LinesReady, GatesReady, GatesPut, ListReady}
 use Rattle.checking.proofs.clauses.Gates.{new-named}
 use Rattle.checking.proofs.clauses.Bounds.{after-named, inputs-named, used-bound}
 use Rattle.checking.proofs.clauses.Forced.{Inside, inside-upFrom, used-more}

@@ -19,7 +19,7 @@ use Rattle.bits.proofs.Lowest.{lowest-below, lines-on, lines-done}
 use Rattle.circuit.specs.Gate.{maxLines}
 use Rattle.checking.specs.Clauses.{Clause, OR, XOR, plus, minus, implied, manyClauses}
 use Rattle.checking.specs.Stored.{stored}
-use Rattle.checking.specs.Emitter.{literalWord, literalAt, literalsIn, controlsStored, byLine, manyStored, Lines, Many}
+use Rattle.checking.specs.private.Emitter.{literalWord, literalAt, literalsIn, controlsStored, byLine, manyStored, Lines, Many}
 use Rattle.checking.proofs.clauses.Reading.{stored-append}
 use Rattle.checking.proofs.clauses.Sums.{implied-words}
 

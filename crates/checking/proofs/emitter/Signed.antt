@@ -8,7 +8,7 @@ use mir.Syntax.{w16}
 use mir.Val.{SFits, toZ, ofZ}
 use mir.ValLaws.{toZ-pos, toZ-ofZ}
 use Rattle.checking.specs.Stored.{wordLimit}
-use Rattle.checking.specs.Emitter.{literalWord}
+use Rattle.checking.specs.private.Emitter.{literalWord}
 
 negated-fits : (v : ℕ) → v < wordLimit → SFits w16 (negℤ (pos v))
 negated-fits zero h = record { sfits = omega arith }

@@ -20,7 +20,7 @@ use Rattle.checking.specs.declared.clauses.Totals.{Totals}
 use Rattle.checking.specs.Clauses.{plus, minus, literalOf, gateClauses, manyClauses}
 use Rattle.checking.specs.Stored.{stored, wordLimit}
 use Rattle.checking.specs.Sizes.{gateSizes}
-use Rattle.checking.specs.Emitter.{byLine, literalAt, literalsIn, gateStored, manyStored, Many, Ready}
+use Rattle.checking.specs.private.Emitter.{byLine, literalAt, literalsIn, gateStored, manyStored, Many, Ready}
 use Rattle.checking.proofs.clauses.Sums.{many-words}
 use Rattle.checking.proofs.clauses.Loop.{sizes-many}
 

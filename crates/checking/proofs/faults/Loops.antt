@@ -19,7 +19,8 @@ use Rattle.circuit.specs.Words.{gatesOf, gateAt, Counts, pairOutcome, Cascade}
 use Rattle.circuit.proofs.Outcome.{demand-met, demand-failed, then-served, then-refused, then-both, told}
 use Rattle.circuit.proofs.words.Laws.{gates-next, gates-end, pair-served}
 use Rattle.checking.specs.Compare.{outputsDiffer}
-use Rattle.checking.specs.Faults.{isFree, stands, maskWhere, masksFrom, faultMasks, eachFrom, faultCheck, faultOutcome, faultBuffer, kept, narrowed, narrowedBy, everywhere}
+use Rattle.checking.specs.Faults.{isFree, stands, maskWhere, masksFrom, faultMasks, eachFrom, faultCheck, faultOutcome, faultBuffer, everywhere}
+use Rattle.checking.specs.private.Narrowing.{kept, narrowed, narrowedBy}
 use Rattle.checking.proofs.faults.Masks.{same-mask, narrowed-by}
 
 -- ---- two words stored at a place

@@ -17,7 +17,8 @@ use Rattle.circuit.specs.declared.gate.Gate.{Gate}
 use Rattle.circuit.specs.Gate.{maxLines, fires, apply}
 use Rattle.circuit.specs.Run.{run}
 use Rattle.circuit.proofs.run.Laws.{run-append}
-use Rattle.checking.specs.Faults.{isFree, missing, everywhere, stands, maskWhere, masksFrom, kept, narrowed, narrowedBy}
+use Rattle.checking.specs.Faults.{isFree, missing, everywhere, stands, maskWhere, masksFrom}
+use Rattle.checking.specs.private.Narrowing.{kept, narrowed, narrowedBy}
 
 -- ---- digits
 

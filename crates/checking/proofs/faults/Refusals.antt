@@ -8,7 +8,7 @@ use lib.Dec.{leb, ltb}
 use lib.ListN.{length, getD}
 use borrow.Author.Tests.{leb-true, leb-false, lt-ltb, le-ltb, ltb-true, ltb-false}
 use Rattle.bits.proofs.Bools.{either}
-use Rattle.circuit.specs.Outcome.{Outcome, served, refused}
+use Rattle.circuit.specs.Outcome.{served, refused}
 use Rattle.circuit.specs.Refusal.{badState, agreeingState, noRoom, tooWide}
 use Rattle.circuit.specs.Words.{gatesOf, Counts, pairOutcome, PairFault}
 use Rattle.circuit.specs.Run.{run}

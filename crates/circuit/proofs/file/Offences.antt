@@ -16,7 +16,8 @@ use Rattle.circuit.specs.Words.{allValid, lineCountGood}
 use Rattle.circuit.specs.Text.{tab, lineFeed, plus, minus, linesWord, gateWord, endWord, numberText, controlText, controlsText, gateText, gateLine, endLine, gateLines}
 use Rattle.circuit.specs.File.{Line, noLine, firstLine, laterLines, linesOf, size, fieldsOf, same, numberOf, lineOf, controlOf, controlsFrom, among, risingFrom, gateOf, closedGate, gateFields, gateOn, headerFields, headerOn, isEnd, Reading, readFrom}
 use Rattle.circuit.specs.FileLaws as laws
-use Rattle.circuit.specs.FileLaws.{NumberField, ControlField, HeaderOffence, ControlsOffence, Inside, Among, NotRising, GoodFields, LineOffence}
+use Rattle.circuit.specs.FileLaws.{NumberField, ControlField, HeaderOffence, ControlsOffence, Among, NotRising, GoodFields, LineOffence}
+use Rattle.circuit.specs.File.{Inside}
 use Rattle.circuit.proofs.Outcome.{never, demand-met, demand-failed, then-served, then-refused}
 use Rattle.circuit.proofs.words.Laws.{lines-good, good-lines}
 use Rattle.circuit.proofs.file.Lines.{tabbed, whole, fields-back, same-true, same-self, true-same, Cut, cut-first}
@@ -154,13 +155,13 @@ offence-controls n i fs number cs m (laws.later f gs c h l k x) =
 
 pub inside-within : (n : ℕ) (cs : List Control) → Inside n cs → within n cs ≡ true
 unfolding within
-inside-within n cs laws.none = refl
-inside-within n cs (laws.more c ds l x) = both (lt-ltb (c .line) n l) (inside-within n ds x)
+inside-within n cs Inside.none = refl
+inside-within n cs (Inside.more c ds l x) = both (lt-ltb (c .line) n l) (inside-within n ds x)
 
 pub within-inside : (n : ℕ) (cs : List Control) → within n cs ≡ true → Inside n cs
 unfolding within
-within-inside n [] w = laws.none
-within-inside n (c ∷ cs) w = let (a, b) = and-parts (ltb (c .line) n) (within n cs) w in laws.more c cs (ltb-true (c .line) n a) (within-inside n cs b)
+within-inside n [] w = Inside.none
+within-inside n (c ∷ cs) w = let (a, b) = and-parts (ltb (c .line) n) (within n cs) w in Inside.more c cs (ltb-true (c .line) n a) (within-inside n cs b)
 
 pub among-true : (t : ℕ) (cs : List Control) → among t cs ≡ true → Among t cs
 unfolding among

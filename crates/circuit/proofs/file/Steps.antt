@@ -2,7 +2,7 @@
 use mathlib.Core.Path.{_≡_, refl, sym, ap, ap₂, _∙_, subst}
 use mathlib.Core.Bool.{true, false, false≢true}
 use mathlib.Core.List.{List, [], _∷_, _++_}
-use Prim.Native.Nat.{ℕ, _+_, _-_, _≤_, _<_}
+use Prim.Native.Nat.{ℕ, _+_, _≤_, _<_}
 use native.Mathlib.Omega.{arith}
 use lib.ListN.{length, drop, length-drop, length-append}
 use lib.Seq.{drop-drop}
@@ -14,8 +14,8 @@ use Rattle.circuit.specs.Refusal.{wrongForm}
 use Rattle.circuit.specs.Text.{lineFeed, endWord, endLine}
 use Rattle.circuit.specs.File.{Line, noLine, firstLine, laterLines, linesOf, size, fieldsOf, same, gateFields, gateOn, headerOn, isEnd, Reading, readFrom, reading, ReadCounts, countsOf, gatesRead, readOutcome, readBuffer}
 use Rattle.circuit.specs.Words.{wordsOf}
-use Rattle.circuit.specs.Scan.{lineAt, gateNext, HeaderNext, headerNext, countsFrom}
-use Rattle.circuit.specs.Fill.{GatesAt}
+use Rattle.circuit.specs.private.Scan.{lineAt, gateNext, HeaderNext, headerNext, countsFrom}
+use Rattle.circuit.specs.private.Fill.{GatesAt}
 use Rattle.circuit.proofs.Outcome.{never, then-served, then-refused, then-both, told}
 use Rattle.circuit.proofs.words.Laws.{valid-all-more}
 use Rattle.circuit.proofs.file.Lines.{cut-first, same-true}

@@ -15,8 +15,8 @@ use Rattle.circuit.specs.Refusal.{noRoom}
 use Rattle.circuit.specs.Words.{gatesOf, gateAt, allValid, checkOutcome}
 use Rattle.circuit.specs.Text.{headerLine, gateLine, gateLines, endLine, textOf}
 use Rattle.circuit.specs.File.{writeOutcome, writeBuffer}
-use Rattle.circuit.specs.Put.{Put}
-use Rattle.circuit.specs.Scan.{width}
+use Rattle.circuit.specs.private.Put.{Put}
+use Rattle.circuit.specs.private.Scan.{width}
 use Rattle.circuit.proofs.Outcome.{demand-met, demand-failed, then-served, then-refused, told}
 use Rattle.circuit.proofs.gate.Laws.{valid-facts}
 use Rattle.circuit.proofs.words.Laws.{gates-next, gates-end}

@@ -16,7 +16,8 @@ use Rattle.circuit.specs.Gate.{maxLines, maxGates, valid, apply, notGate
 use Rattle.circuit.specs.Outcome.{Outcome, served, refused, demand, andThen}
 use Rattle.circuit.specs.Refusal.{badState, badLineCount, tooManyGates}
 use Rattle.circuit.specs.Words.{gatesOf, wordsOf, allValid, lineCountGood, validFrom}
-use Rattle.circuit.specs.Run.{run, runOutcome, recordsOutcome, begun, goesOn, advanced, ended}
+use Rattle.circuit.specs.Run.{run, runOutcome, recordsOutcome}
+use Rattle.circuit.specs.private.Records.{begun, goesOn, advanced, ended}
 use Rattle.circuit.specs.FileLaws.{FileCascade}
 use Rattle.circuit.specs.Laws.{RunFault}
 use Rattle.circuit.proofs.Outcome.{demand-met, demand-failed, then-refused}

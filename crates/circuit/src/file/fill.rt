@@ -14,7 +14,7 @@ ghost use Rattle.circuit.specs.Gate.{maxLines, Control};
 ghost use Rattle.circuit.specs.Words.{wordsOf};
 ghost use Rattle.circuit.specs.Text.{numberText, controlsText, gateLine};
 ghost use Rattle.circuit.specs.File.{gateOf};
-ghost use Rattle.circuit.specs.Fill.{NumberAt, ControlsAt, GateAt, GatesAt};
+ghost use Rattle.circuit.specs.private.Fill.{NumberAt, ControlsAt, GateAt, GatesAt};
 
 // A gate and the position after its line.
 pub struct GateRead {

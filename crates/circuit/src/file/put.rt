@@ -8,7 +8,7 @@ ghost use Prim.Native.Nat.{_+_, _/_, _%_, _<_, _≤_};
 ghost use lib.ListN.{length};
 ghost use Rattle.circuit.specs.Gate.{controlsOf};
 ghost use Rattle.circuit.specs.Text.{tab, plus, minus, digit, numberText, controlText, controlsText, headerLine, gateText, gateLine, endLine};
-ghost use Rattle.circuit.specs.Put.{Put, TwoDigits, maskGate};
+ghost use Rattle.circuit.specs.private.Put.{Put, TwoDigits, maskGate};
 
 // The texts 00 to 99.
 pub(crate) const DIGITS: [u8; 200] = *b"0001020304050607080910111213141516171819\

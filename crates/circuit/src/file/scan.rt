@@ -11,7 +11,7 @@ ghost use lib.ListN.{length, drop, getD};
 ghost use Rattle.circuit.specs.Gate.{maxLines};
 ghost use Rattle.circuit.specs.Text.{plus, minus};
 ghost use Rattle.circuit.specs.File.{isDigit, numberOf, lineOf, controlOf, isEnd};
-ghost use Rattle.circuit.specs.Scan.{isStop, fieldAt, lineAt, startsWith, orHundred, width, added, headerNext, gateNext, controlsNext, ofLine, ofControl, ofGate, ofHeader, LineEnds, ControlEnds};
+ghost use Rattle.circuit.specs.private.Scan.{isStop, fieldAt, lineAt, startsWith, orHundred, width, added, headerNext, gateNext, controlsNext, ofLine, ofControl, ofGate, ofHeader, LineEnds, ControlEnds};
 
 const TAB: u64 = 9;
 

@@ -8,14 +8,14 @@ use lib.IntN.{ℤ, pos}
 use lib.ListN.{length, take, drop, getD, length-append, length-drop, drop-of-length-le}
 use lib.Seq.{drop-cons, drop-drop, getD-drop, take-append-seam, drop-append-seam}
 use borrow.Rule.Slice.PartMut.{putMid}
-use Rattle.circuit.specs.Put.{Put}
+use Rattle.circuit.specs.private.Put.{Put}
 use Rattle.circuit.proofs.file.put.Laws.{Written, written-none, written-more, written-put, put-as}
 use Rattle.checking.specs.Clauses.{Clause, OR, XOR}
 use Rattle.checking.specs.Satisfaction.{clauseLiterals}
 use Rattle.checking.specs.Stored.{stored, clausesIn}
 use Rattle.checking.proofs.clauses.Reading.{read-back}
 use Rattle.text.specs.Dimacs.{blank, literalText, literalsText, clauseText, clausesText}
-use Rattle.text.specs.Words.{recordText, readText, wordsText, Stores}
+use Rattle.text.specs.private.Words.{recordText, readText, wordsText, Stores}
 
 -- ---- literals
 

@@ -14,7 +14,7 @@ use mir.ValLaws.{toZ-ofZ}
 use Rattle.checking.specs.Satisfaction.{size}
 use Rattle.circuit.specs.Text.{minus}
 use Rattle.text.specs.Dimacs.{xorSign}
-use Rattle.text.specs.Words.{signText, kindText}
+use Rattle.text.specs.private.Words.{signText, kindText}
 
 -- a word of 16 bits fits 64
 wide : (z : ℤ) → SFits w16 z → SFits w64 z

@@ -35,7 +35,7 @@ use Rattle.checking.proofs.clauses.Laws.{clause-laws}
 use Rattle.text.specs.declared.list.ListAnswer.{ListAnswer}
 use Rattle.text.specs.declared.list.ListAnswer.the-variants as list
 use Rattle.text.specs.Tomiter.{maxInput, maxWords, Verdict, listed, refusedAt, ofFile, listVerdict, pairVerdict, secondVerdict, verdict}
-use Rattle.text.specs.Answers.{FileWords, Says}
+use Rattle.text.specs.private.Lists.{FileWords, Says}
 
 -- the same verdict, said in another way
 pub says-as : (r : ListAnswer) (buffer : List ℤ) (v w : Verdict) → v ≡ w → Says r buffer w → Says r buffer v

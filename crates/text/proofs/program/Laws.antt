@@ -10,13 +10,13 @@ use Rattle.circuit.specs.declared.refusal.Refusal.{Refusal}
 use Rattle.circuit.specs.Outcome.{Outcome, served, refused, written}
 use Rattle.circuit.specs.Refusal.{noRoom}
 use Rattle.circuit.proofs.Outcome.{demand-met, demand-failed, told}
-use Rattle.circuit.specs.Put.{Put}
+use Rattle.circuit.specs.private.Put.{Put}
 use Rattle.checking.specs.declared.clauses.Totals.{Totals}
 use Rattle.text.specs.declared.list.ListAnswer.the-variants as list
 use Rattle.text.specs.Dimacs.{headerText, dimacsOf}
-use Rattle.text.specs.Words.{wordsText, Stores}
+use Rattle.text.specs.private.Words.{wordsText, Stores}
 use Rattle.text.specs.Tomiter.{Verdict, listed, refusedAt, refusalText, verdictText, tomiterText, tomiterOutcome, tomiterBuffer, WritesText}
-use Rattle.text.specs.Answers.{Says}
+use Rattle.text.specs.private.Lists.{Says}
 use Rattle.text.proofs.ProgramLaws.{answers}
 use Rattle.text.proofs.dimacs.Loops.{words-text}
 

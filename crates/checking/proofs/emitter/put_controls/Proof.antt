@@ -15,7 +15,7 @@ use mir.Val.{toZ, ofZ}
 use Rattle.bits.specs.Digits.{bit}
 use Rattle.circuit.specs.Gate.{maxLines}
 use Rattle.checking.specs.Stored.{wordLimit}
-use Rattle.checking.specs.Emitter.{literalWord, byLine}
+use Rattle.checking.specs.private.Emitter.{literalWord, byLine}
 use Rattle.checking.proofs.emitter.Signed.{literal-kept}
 use Rattle.checking.proofs.emitter.Parts.{Walk, lent-long, walk-start, walk-done, line-below, inside, walk-on}
 use Rattle.checking.proofs.emitter.put_controls.Statement.{statement}

@@ -14,7 +14,7 @@ use Rattle.circuit.specs.Gate.{maxLines}
 use Rattle.bits.specs.Lists.{over}
 use Rattle.checking.specs.Clauses.{plus, minus}
 use Rattle.checking.specs.Stored.{wordLimit}
-use Rattle.checking.specs.Emitter.{literalWord, byLine}
+use Rattle.checking.specs.private.Emitter.{literalWord, byLine}
 use Rattle.checking.proofs.emitter.Signed.{literal-kept}
 use Rattle.checking.proofs.emitter.Whole.{target-below, target-small, room-none, written-none, room-one, line-below, written-one, many-ready, written-many, words-many}
 use Rattle.checking.proofs.emitter.put_gate.Statement.{statement}

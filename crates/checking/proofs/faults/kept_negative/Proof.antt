@@ -2,7 +2,7 @@
 use mathlib.Core.Path.{sym, _∙_}
 use borrow.Author.Needs.{needs}
 use Rattle.bits.proofs.Bools.{cond-true, cond-false}
-use Rattle.checking.specs.Faults.{kept}
+use Rattle.checking.specs.private.Narrowing.{kept}
 use Rattle.checking.proofs.faults.kept_negative.Statement.{statement}
 use Rattle.checking.proofs.faults.kept_negative.Tie as tie
 

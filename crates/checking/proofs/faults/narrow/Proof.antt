@@ -12,7 +12,7 @@ use Rattle.circuit.specs.Gate.{maxLines}
 use Rattle.circuit.specs.Words.{gatesOf, allValid}
 use Rattle.circuit.proofs.gate.Laws.{toggled-apply}
 use Rattle.circuit.proofs.words.Laws.{gates-length, valid-next, valid-later}
-use Rattle.checking.specs.Faults.{narrowed}
+use Rattle.checking.specs.private.Narrowing.{narrowed}
 use Rattle.checking.proofs.faults.Loops.{twoSet, narrow-turn, narrow-end}
 use Rattle.checking.proofs.faults.narrow.Statement.{statement}
 use Rattle.checking.proofs.faults.narrow.Tie as tie

@@ -6,7 +6,7 @@ use Rattle.circuit.specs.Gate.{maxLines, maxMiterGates}
 use Rattle.circuit.specs.Outcome.{served}
 use Rattle.circuit.specs.Words.{ofCount, checkOutcome}
 use Rattle.circuit.proofs.words.Laws.{check-served, valid-all-more}
-use Rattle.checking.specs.StepCode.{ofStepped}
+use Rattle.checking.specs.private.StepCode.{ofStepped}
 use Rattle.checking.proofs.step.Calls.{step-refused, step-made}
 use Rattle.checking.proofs.step.step.Statement.{statement}
 use Rattle.checking.proofs.step.step.Tie as tie

@@ -20,9 +20,8 @@ use Rattle.circuit.specs.declared.file.scan.Numeral.{Numeral}
 use Rattle.circuit.specs.declared.file.fill.GateRead.{GateRead}
 use Rattle.circuit.specs.Text.{tab, lineFeed, plus, minus, digit, numberText, controlText, controlsText, gateLine, gateLines}
 use Rattle.circuit.specs.File.{maskOf, gateOf}
-use Rattle.circuit.specs.FileLaws as laws
-use Rattle.circuit.specs.FileLaws.{Inside}
-use Rattle.circuit.specs.Fill.{Stands, NumberAt, ControlsAt, GateAt, GatesAt}
+use Rattle.circuit.specs.File.{Inside}
+use Rattle.circuit.specs.private.Fill.{Stands, NumberAt, ControlsAt, GateAt, GatesAt}
 use Rattle.circuit.proofs.gate.Laws.{valid-facts}
 use Rattle.circuit.proofs.words.Laws.{words-append, words-length, put-fits}
 use Rattle.circuit.proofs.file.Numbers.{text-short, text-long}
@@ -157,7 +156,7 @@ unfolding controlsText
 first-control text at c cs s = go (s .lines)
   where
     go : Inside maxLines (c ∷ cs) → Control₁ text at c cs
-    go (laws.more d ds h i) =
+    go (Inside.more d ds h i) =
         let (a, x) = byte-there text at tab _ (s .stands) in
         let (b, y) = byte-there text (at + 1) (cond (c .positive) plus minus) _ (later text at (tab ∷ []) _ (s .stands)) in
         let p =

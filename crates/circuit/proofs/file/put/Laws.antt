@@ -22,8 +22,8 @@ use Rattle.circuit.specs.declared.gate.Gate.{Gate}
 use Rattle.circuit.specs.Gate.{maxLines, Control, controlAt, controlsBelow, controlsOf}
 use Rattle.circuit.proofs.gate.Controls.{controlOn, controls-lines}
 use Rattle.circuit.specs.Text.{tab, lineFeed, numberText, controlText, controlsText, gateText, gateLine, headerLine}
-use Rattle.circuit.specs.Put.{Put, maskGate}
-use Rattle.circuit.specs.Scan.{width}
+use Rattle.circuit.specs.private.Put.{Put, maskGate}
+use Rattle.circuit.specs.private.Scan.{width}
 use Rattle.circuit.proofs.file.scan.Rest.{number-width}
 
 -- ---- bytes after bytes

@@ -9,7 +9,7 @@ use lib.ListN.{length, getD}
 use borrow.Author.Tests.{eqb-true}
 use Rattle.bits.proofs.Bools.{and-parts}
 use Rattle.circuit.specs.Text.{digit}
-use Rattle.circuit.specs.Put.{TwoDigits}
+use Rattle.circuit.specs.private.Put.{TwoDigits}
 
 -- the texts 00 to 99
 unfoldable pub digits : List ℕ

@@ -8,7 +8,7 @@ use Rattle.circuit.specs.Outcome.{Outcome, served, refused}
 use Rattle.circuit.specs.Refusal.{noRoom}
 use Rattle.circuit.specs.Words.{wordsOf}
 use Rattle.circuit.specs.File.{Reading, reading, ReadCounts, countsOf, gatesRead, ofRead}
-use Rattle.circuit.specs.Scan.{ofHeader}
+use Rattle.circuit.specs.private.Scan.{ofHeader}
 use Rattle.circuit.proofs.Outcome.{why}
 use Rattle.circuit.proofs.file.Laws.{read-bad, read-short, read-fits}
 use Rattle.circuit.proofs.file.Steps.{Started, header-bad, header-start, judged, judged-bad, judged-good, read-told}

@@ -13,7 +13,7 @@ use Rattle.circuit.specs.Outcome.{Outcome, served, refused, demand, andT
 use Rattle.circuit.specs.Refusal.{wrongForm, lineOutside}
 use Rattle.circuit.specs.Text.{tab, lineFeed, plus, minus}
 use Rattle.circuit.specs.File.{isDigit, numberOf, lineOf, controlOf}
-use Rattle.circuit.specs.Scan.{isStop, fieldAt, startsWith, orHundred, width}
+use Rattle.circuit.specs.private.Scan.{isStop, fieldAt, startsWith, orHundred, width}
 use Rattle.circuit.proofs.Outcome.{demand-met, demand-failed, then-served, then-refused}
 use Rattle.circuit.proofs.file.Numbers.{text-number, number-else, number-wrong}
 

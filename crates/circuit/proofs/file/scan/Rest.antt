@@ -17,7 +17,7 @@ use Rattle.circuit.specs.Refusal.{wrongForm, badLineCount, lineOutside, 
 use Rattle.circuit.specs.Words.{lineCountGood}
 use Rattle.circuit.specs.Text.{tab, lineFeed, linesWord, gateWord, endWord, numberText}
 use Rattle.circuit.specs.File.{Line, noLine, firstLine, linesOf, size, longer, fieldsOf, same, numberOf, lineOf, controlOf, controlsFrom, among, risingFrom, gateOf, closedGate, gateFields, gateOn, headerFields, headerOn, isEnd}
-use Rattle.circuit.specs.Scan.{isStop, fieldAt, lineAt, startsWith, orHundred, width, added, laterFields, headerNext, gateNext, controlsNext}
+use Rattle.circuit.specs.private.Scan.{isStop, fieldAt, lineAt, startsWith, orHundred, width, added, laterFields, headerNext, gateNext, controlsNext}
 use Rattle.circuit.proofs.Outcome.{never, demand-met, demand-failed, demanded, then-served, then-refused, then-both}
 use Rattle.circuit.proofs.file.Lines.{line-more, line-over, lines-none, field-over, fields-none, fields-some, same-self, same-true, cut-first, tabbed, whole, fields-back}
 use Rattle.circuit.proofs.file.Lines as lines

@@ -47,7 +47,8 @@ use denote.Exit.{yes}
 use Rattle.bits.proofs.Bools.{either}
 use Rattle.bits.proofs.Walks.{after, offset-fits, next-fits, next-le, nearer, opens, shuts, promise, called-on-values}
 use Rattle.circuit.specs.Gate.{maxLines, notGate}
-use Rattle.circuit.specs.Run.{recordsOutcome, begun, goesOn, advanced, ended, ofRun}
+use Rattle.circuit.specs.Run.{recordsOutcome, ofRun}
+use Rattle.circuit.specs.private.Records.{begun, goesOn, advanced, ended}
 use Rattle.circuit.specs.declared.gate.Gate.{Gate}
 use Rattle.circuit.specs.declared.run.RunAnswer.{RunAnswer}
 use Rattle.circuit.proofs.gate.Gate as G

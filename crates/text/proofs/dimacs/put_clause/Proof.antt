@@ -6,7 +6,7 @@ use lib.IntN.{ℤ}
 use lib.ListN.{length, length-append}
 use Rattle.circuit.proofs.file.put.Laws.{put-as}
 use Rattle.text.specs.Dimacs.{literalsText, closing}
-use Rattle.text.specs.Words.{kindText}
+use Rattle.text.specs.private.Words.{kindText}
 use Rattle.text.proofs.put.Laws.{two-put}
 use Rattle.text.proofs.dimacs.Signed.{word-is}
 use borrow.Author.Needs.{needs}

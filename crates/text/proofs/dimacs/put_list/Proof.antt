@@ -2,7 +2,7 @@
 use native.Mathlib.Omega.{arith}
 use lib.ListN.{length-append}
 use Rattle.text.specs.Dimacs.{headerText}
-use Rattle.text.specs.Words.{wordsText}
+use Rattle.text.specs.private.Words.{wordsText}
 use Rattle.text.proofs.put.Laws.{two-put}
 use borrow.Author.Needs.{needs}
 use Rattle.text.proofs.dimacs.put_list.Statement.{statement}

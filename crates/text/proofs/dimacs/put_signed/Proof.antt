@@ -8,7 +8,7 @@ use lib.ListN.{length, length-append}
 use Rattle.circuit.proofs.file.put.Laws.{put-as}
 use Rattle.checking.specs.Satisfaction.{size}
 use Rattle.text.specs.Dimacs.{decimal, literalText}
-use Rattle.text.specs.Words.{signText}
+use Rattle.text.specs.private.Words.{signText}
 use Rattle.text.proofs.put.Laws.{two-put}
 use Rattle.text.proofs.dimacs.Signed.{word-is}
 use borrow.Author.Needs.{needs}

@@ -6,7 +6,7 @@ use lib.Seq.{length-take-le}
 use Rattle.circuit.proofs.file.put.Laws.{put-as}
 use Rattle.text.specs.declared.list.ListAnswer.{ListAnswer}
 use Rattle.text.specs.Tomiter.{refusalText, verdict, tomiterText}
-use Rattle.text.specs.Answers.{Says}
+use Rattle.text.specs.private.Lists.{Says}
 use Rattle.text.proofs.Sizes.{text-fits}
 use Rattle.text.proofs.program.Laws.{Written, refusal-text, list-text}
 use borrow.Author.Needs.{needs}

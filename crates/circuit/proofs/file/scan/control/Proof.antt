@@ -11,7 +11,7 @@ use borrow.Author.Tests.{not-true, not-false}
 use Rattle.circuit.specs.Text.{plus, minus}
 use Rattle.circuit.specs.File.{lineOf}
 use Rattle.circuit.specs.Outcome.{served}
-use Rattle.circuit.specs.Scan.{fieldAt, ofLine, LineEnds}
+use Rattle.circuit.specs.private.Scan.{fieldAt, ofLine, LineEnds}
 use Rattle.circuit.proofs.Outcome.{why}
 use Rattle.circuit.proofs.file.scan.Laws.{byte-at, sign-inside, control-unsigned, control-refused, control-good}
 use borrow.Author.Needs.{needs}

@@ -9,7 +9,7 @@ use lib.Seq.{drop-drop}
 use borrow.Author.Tests.{not-true, not-false}
 use Rattle.circuit.specs.File.{lineOf}
 use Rattle.circuit.specs.Outcome.{served}
-use Rattle.circuit.specs.Scan.{fieldAt, startsWith, ofLine, LineEnds}
+use Rattle.circuit.specs.private.Scan.{fieldAt, startsWith, ofLine, LineEnds}
 use Rattle.circuit.proofs.Outcome.{why}
 use Rattle.circuit.proofs.file.scan.Rest.{parted, gate-other, gate-room, gate-many, gate-refused, gate-target, line-field-length}
 use borrow.Author.Needs.{needs}

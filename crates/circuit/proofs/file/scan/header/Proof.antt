@@ -8,7 +8,7 @@ use lib.ListN.{getD}
 use borrow.Author.Tests.{not-true, not-false}
 use Rattle.circuit.specs.Outcome.{served}
 use Rattle.circuit.specs.Words.{lineCountGood}
-use Rattle.circuit.specs.Scan.{startsWith, width}
+use Rattle.circuit.specs.private.Scan.{startsWith, width}
 use Rattle.circuit.proofs.Outcome.{why}
 use Rattle.circuit.proofs.file.scan.Laws.{default-any}
 use Rattle.circuit.proofs.file.scan.Rest.{header-other, header-room, header-wrong, header-outside, header-missing, header-further, header-good}

@@ -2,7 +2,8 @@
 use mathlib.Core.Path.{sym, ap}
 use borrow.Author.Needs.{needs}
 use Rattle.circuit.specs.declared.run.RunAnswer.{RunAnswer}
-use Rattle.circuit.specs.Run.{goesOn, ofRun}
+use Rattle.circuit.specs.Run.{ofRun}
+use Rattle.circuit.specs.private.Records.{goesOn}
 use Rattle.circuit.proofs.run.RunAnswer.goes_on.Statement.{statement}
 use Rattle.circuit.proofs.run.RunAnswer.goes_on.Tie as tie
 

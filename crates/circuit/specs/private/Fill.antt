@@ -8,7 +8,7 @@ use Rattle.circuit.specs.declared.gate.Gate.{Gate}
 use Rattle.circuit.specs.Gate.{maxLines, valid, Control}
 use Rattle.circuit.specs.Words.{allValid}
 use Rattle.circuit.specs.Text.{lineFeed, numberText, controlsText, gateLine, gateLines}
-use Rattle.circuit.specs.FileLaws.{Inside}
+use Rattle.circuit.specs.File.{Inside}
 
 -- these bytes, and then anything
 pub record Stands (text : List ℕ) (at : ℕ) (bytes : List ℕ) : Type 0 where

@@ -12,7 +12,7 @@ use Rattle.circuit.specs.Gate.{maxLines, maxMiterGates}
 use Rattle.circuit.specs.Words.{gatesOf, allValid}
 use Rattle.checking.specs.Clauses.{OR, plus, inputOf, gatesClauses, usedAfter, currentAfter, upFrom, differenceClause, differenceClauses, clausesOf}
 use Rattle.checking.specs.Stored.{storedClause, stored, wordLimit}
-use Rattle.checking.specs.Emitter.{byLine}
+use Rattle.checking.specs.private.Emitter.{byLine}
 
 -- the words hold the current variables of lines below n
 abbrev pub Holds : ℕ → List ℕ → (ℕ → ℕ) → Type 0

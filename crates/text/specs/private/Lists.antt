@@ -1,0 +1,33 @@
+-- For the contracts of the functions that fill the clause buffer.
+use mathlib.Core.Path.{_≡_}
+use mathlib.Core.List.{List}
+use Prim.Native.Nat.{ℕ, _≤_}
+use lib.IntN.{ℤ}
+use lib.ListN.{length, take}
+use Rattle.circuit.specs.Gate.{maxGates}
+use Rattle.circuit.specs.Words.{Cascade}
+use Rattle.checking.specs.declared.clauses.Totals.{Totals}
+use Rattle.checking.specs.Clauses.{Clause}
+use Rattle.checking.specs.Stored.{stored}
+use Rattle.text.specs.declared.list.ListAnswer.{ListAnswer}
+use Rattle.text.specs.declared.list.ListAnswer.the-variants as list
+use Rattle.text.specs.Tomiter.{Verdict, listed, refusedAt}
+
+-- the words of a cascade on n lines that a file can hold
+pub record FileWords (n : ℕ) (ws : List ℕ) : Type 0 where
+  pub count : ℕ
+  pub cascade : Cascade n ws maxGates count
+
+-- the totals are those of clauses over so many variables, which are stored at the start of the buffer
+pub record Stands (t : Totals) (buffer : List ℤ) (variables : ℕ) (cs : List Clause) : Type 0 where
+  pub variables-are : t .variables ≡ variables
+  pub count : t .clauses ≡ length cs
+  pub inside : t .words ≤ length buffer
+  pub words : take (t .words) buffer ≡ stored cs
+
+-- an answer and the clause buffer say a verdict
+abbrev pub Says : ListAnswer → List ℤ → Verdict → Type 0
+Says (list.Listed t) buffer (listed variables cs) = Stands t buffer variables cs
+Says (list.Listed t) buffer (refusedAt number file place) = ⊥
+Says (list.Refused why f) buffer (listed variables cs) = ⊥
+Says (list.Refused why f) buffer (refusedAt number file place) = (why .number ≡ number) × (f ≡ file) × (why .place ≡ place)
