@@ -200,7 +200,7 @@ fn check_unwritten() {
     assert!(written.status.success() && written.stderr.is_empty() && written.stdout.starts_with(b"p cnf 2 2\n"));
     let full = std::fs::OpenOptions::new().write(true).open("/dev/full").expect("/dev/full");
     let unwritten = script(full.into());
-    assert!(unwritten.status.code() == Some(1) && !unwritten.stderr.is_empty(), "an unwritten text was not told");
+    assert!(unwritten.status.code() == Some(2) && !unwritten.stderr.is_empty(), "an unwritten text was not told");
 }
 
 // ---- the solver
