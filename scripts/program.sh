@@ -12,7 +12,7 @@ set -u
 root=${self%/*}
 work=''
 
-trap '[ -z "$work" ] || rm -rf "$work"' EXIT
+trap 'ended=$?; [ -z "$work" ] || rm -rf "$work"; exit "$ended"' EXIT
 trap 'fail "stopped by a signal"' HUP INT TERM
 
 tell() { # REASON
