@@ -26,7 +26,7 @@ fail() { # REASON
 }
 
 capture() { # NAME
-    program=$(sh "$root/scripts/build" "$1") || fail "there is no program to run"
+    program=$(sh "$root/scripts/build" "$1" </dev/null) || fail "there is no program to run"
     "$program" >"$work/text" || fail "the program ended with status $?"
 }
 

@@ -150,13 +150,13 @@ static void refusals(void)
     REFUSED(cascade_fault_masks(3, one_control, 3, 3, toffoli, 3, agreeing, 2, out, 12), 12, 1);
 }
 
-/* The longest file: 1,024 gates with 63 controls on 64 lines, targets in turn; and twice as many, the
- * longest clause list. */
-static uint64_t longest[CASCADE_MAX_MITER_GATES * CASCADE_GATE_WORDS];
+/* The longest file: 1,024 gates with 63 controls on 64 lines, targets in turn; twice as many, the
+ * longest clause list; and one more. */
+static uint64_t longest[(CASCADE_MAX_MITER_GATES + 1) * CASCADE_GATE_WORDS];
 
 static void fill_longest(void)
 {
-    for (size_t i = 0; i < CASCADE_MAX_MITER_GATES; i++) {
+    for (size_t i = 0; i <= CASCADE_MAX_MITER_GATES; i++) {
         longest[3 * i] = 0;
         longest[3 * i + 1] = ~((uint64_t)1 << i % 64);
         longest[3 * i + 2] = i % 64;
