@@ -5,7 +5,8 @@ use checking::step::StepAnswer;
 ghost use mathlib.Core.Path.{_≡_};
 ghost use Rattle.circuit.specs.Outcome.{Yields};
 ghost use Rattle.checking.specs.Match.{kindNumber};
-ghost use Rattle.checking.specs.Step.{stepOutcome, stepBuffer, ofKind};
+ghost use Rattle.checking.specs.Step.{stepOutcome, stepBuffer};
+ghost use Rattle.checking.specs.Match.{ofKind};
 ghost use Rattle.capi.specs.Step.{stepAnswer};
 
 #[repr(C)]

@@ -33,7 +33,7 @@ pub enum RefusalAnswer {
 }
 
 // Whether two cascades give different outputs on a state.
-pub fn outputs_differ(a: &[u64], b: &[u64], state: u64) -> bool
+fn outputs_differ(a: &[u64], b: &[u64], state: u64) -> bool
     ensures { λ r. ⌜ r ≡ outputsDiffer (gatesOf (now (a .entry))) (gatesOf (now (b .entry))) state ⌝ }
 {
     circuit::run::run_words(a, state) != circuit::run::run_words(b, state)

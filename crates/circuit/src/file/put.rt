@@ -8,7 +8,7 @@ ghost use Prim.Native.Nat.{_+_, _/_, _%_, _<_, _≤_};
 ghost use lib.ListN.{length};
 ghost use Rattle.bits.specs.Digits.{bit};
 ghost use Rattle.circuit.specs.Gate.{maxLines, controlsOf};
-ghost use Rattle.circuit.specs.Text.{tab, plus, minus, digit, numberText, controlText, controlsText, headerLine, gateText, gateLine, endLine};
+ghost use Rattle.circuit.specs.Text.{tab, plusSign, minusSign, digit, numberText, controlText, controlsText, headerLine, gateText, gateLine, endLine};
 ghost use Rattle.circuit.specs.private.Put.{Put, TwoDigits, maskGate};
 
 // The texts 00 to 99.
@@ -63,7 +63,7 @@ fn put_number(out: &mut [u8], k: u64, table: &[u8]) -> usize
 
 // A control's sign.
 fn sign(positive: bool) -> u8
-    ensures { λ r. ⌜ r ≡ cond positive plus minus ⌝ }
+    ensures { λ r. ⌜ r ≡ cond positive plusSign minusSign ⌝ }
 {
     if positive {
         return 43;
