@@ -13,7 +13,7 @@ pub struct CascadeCountAnswer {
 }
 
 // A number of gates or a refusal, in numbers.
-pub fn count_answer(answer: CountAnswer) -> CascadeCountAnswer
+pub(crate) fn count_answer(answer: CountAnswer) -> CascadeCountAnswer
     ensures { λ r. ⌜ r ≡ countAnswer (ofCount answer) ⌝ }
 {
     match answer {

@@ -14,7 +14,7 @@ pub struct CascadeRunAnswer {
 }
 
 // A state or a refusal, in numbers.
-pub fn run_answer(answer: RunAnswer) -> CascadeRunAnswer
+pub(crate) fn run_answer(answer: RunAnswer) -> CascadeRunAnswer
     ensures { λ r. ⌜ r ≡ runAnswer (ofRun answer) ⌝ }
 {
     match answer {

@@ -15,7 +15,7 @@ pub struct CascadeSizesAnswer {
 }
 
 // The totals of a clause list or a refusal, in numbers.
-pub fn sizes_answer(answer: SizesAnswer) -> CascadeSizesAnswer
+pub(crate) fn sizes_answer(answer: SizesAnswer) -> CascadeSizesAnswer
     ensures { λ r. ⌜ r ≡ sizesAnswer (ofSizes answer) ⌝ }
 {
     match answer {

@@ -8,7 +8,8 @@ ghost use Prim.Native.Nat.{_/_};
 ghost use lib.ListN.{length};
 ghost use Rattle.circuit.specs.Outcome.{Yields};
 ghost use Rattle.checking.specs.Match.{kindNumber};
-ghost use Rattle.checking.specs.Step.{stepOutcome, stepBuffer, ofKind};
+ghost use Rattle.checking.specs.Step.{stepOutcome, stepBuffer};
+ghost use Rattle.checking.specs.Match.{ofKind};
 ghost use Rattle.capi.specs.Step.{stepAnswer};
 
 #[repr(C)]

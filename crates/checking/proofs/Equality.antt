@@ -18,7 +18,7 @@ use Rattle.circuit.proofs.Outcome.{demand-met, then-served, then-refused}
 use Rattle.circuit.proofs.words.Laws.{check-served, served-check, valid-all-more}
 use Rattle.checking.specs.declared.clauses.Totals.{Totals}
 use Rattle.checking.specs.Miter.{miterGates, miterOutcome, miterBuffer}
-use Rattle.checking.specs.Step.{Step, found, none, stepGates, counted, stepOutcome, stepBuffer}
+use Rattle.checking.specs.Step.{Step, found, none, stepGates, withCount, stepOutcome, stepBuffer}
 use Rattle.checking.specs.StepLaws.{Keeps, Stands}
 use Rattle.checking.specs.Reduce.{Reduced, reduceGates, reduceOutcome, reduceBuffer}
 use Rattle.checking.specs.Clauses.{Clause, clausesOf, variablesOf}
@@ -54,7 +54,7 @@ module _ (n : ℕ) (start : List Gate) (ws : List ℕ) (g : Standing n start ws)
       }
 
   module _ (m : ℕ) where
-    step-found : (k : ℕ) → Cascade m ws maxMiterGates k → (t : Step (List Gate)) → stepGates (gatesOf ws) ≡ t → Standing n start (stepLeaves (served (counted t)) (stepBuffer m ws))
+    step-found : (k : ℕ) → Cascade m ws maxMiterGates k → (t : Step (List Gate)) → stepGates (gatesOf ws) ≡ t → Standing n start (stepLeaves (served (withCount t)) (stepBuffer m ws))
     step-found k c (found i j kind hs) e =
         let s : Stands n ws (stepBuffer n ws) hs = step-laws .call-stands n ws (g .count) (g .cascade) i j kind hs e in
         let keeps : Keeps n (gatesOf ws) hs = step-laws .step-keeps n (gatesOf ws) (g .cascade .lines-high) (g .cascade .gates) i j kind hs (step-laws .step-steps (gatesOf ws) all-lines _ .0 e) in

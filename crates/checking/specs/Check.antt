@@ -31,8 +31,8 @@ pub record Held : Type 0 where
   pub gates : ℕ
   pub words : List ℕ
 
-abbrev pub standing : Held → List ℕ
-standing h = take (3 * h .gates) (h .words)
+abbrev pub heldWords : Held → List ℕ
+heldWords h = take (3 * h .gates) (h .words)
 
 -- the number of gates after a call
 abbrev pub stepGatesLeft : Outcome (Step ℕ) → ℕ → ℕ
@@ -47,9 +47,9 @@ reduceGatesLeft (refused number place) before = before
 -- a call is given the gates that stand, and leaves the rest of the buffer
 unfoldable pub called : Call → Held → Held
 called (stepOn n) h =
-    record { gates = stepGatesLeft (stepOutcome n (standing h)) (h .gates); words = over (stepBuffer n (standing h)) (h .words) }
+    record { gates = stepGatesLeft (stepOutcome n (heldWords h)) (h .gates); words = over (stepBuffer n (heldWords h)) (h .words) }
 called (reduceOn n) h =
-    record { gates = reduceGatesLeft (reduceOutcome n (standing h)) (h .gates); words = over (reduceBuffer n (standing h)) (h .words) }
+    record { gates = reduceGatesLeft (reduceOutcome n (heldWords h)) (h .gates); words = over (reduceBuffer n (heldWords h)) (h .words) }
 
 unfoldable pub calledAll : List Call → Held → Held
 calledAll [] h = h
@@ -57,28 +57,28 @@ calledAll (c ∷ cs) h = calledAll cs (called c h)
 
 -- after the miter of k gates and the calls
 abbrev pub held : ℕ → List ℕ → ℕ → List ℕ → List Call → List ℕ → ℕ → Held
-held na a nb b calls room k = calledAll calls (record { gates = k; words = miterBuffer na a nb b room })
+held na a nb b calls work k = calledAll calls (record { gates = k; words = miterBuffer na a nb b work })
 
 -- what is wrong with the miter, else what the emission answers
 unfoldable pub checkedOutcome : ℕ → List ℕ → ℕ → List ℕ → List Call → List ℕ → ℕ → Outcome Totals
-checkedOutcome na a nb b calls room size =
-    andThen (miterOutcome na a nb b (length room)) (λ k. emitOutcome na (standing (held na a nb b calls room k)) size)
+checkedOutcome na a nb b calls work size =
+    andThen (miterOutcome na a nb b (length work)) (λ k. emitOutcome na (heldWords (held na a nb b calls work k)) size)
 
 -- the miter's buffer and the clause buffer after it
-abbrev pub roomLeft : Outcome ℕ → ℕ → List ℕ → ℕ → List ℕ → List Call → List ℕ → List ℕ
-roomLeft (served k) na a nb b calls room = held na a nb b calls room k .words
-roomLeft (refused number place) na a nb b calls room = room
+abbrev pub workLeft : Outcome ℕ → ℕ → List ℕ → ℕ → List ℕ → List Call → List ℕ → List ℕ
+workLeft (served k) na a nb b calls work = held na a nb b calls work k .words
+workLeft (refused number place) na a nb b calls work = work
 
 abbrev pub clausesLeft : Outcome ℕ → ℕ → List ℕ → ℕ → List ℕ → List Call → List ℕ → List ℤ → List ℤ
-clausesLeft (served k) na a nb b calls room out = emitBuffer na (standing (held na a nb b calls room k)) out
-clausesLeft (refused number place) na a nb b calls room out = out
+clausesLeft (served k) na a nb b calls work out = emitBuffer na (heldWords (held na a nb b calls work k)) out
+clausesLeft (refused number place) na a nb b calls work out = out
 
 -- what the function owes: its answer, both buffers, that where it is served its clauses tell on which states the cascades differ, and demand 3 of this answer and this clause buffer
-pub record Checks (na : ℕ) (a : List ℕ) (nb : ℕ) (b : List ℕ) (calls : List Call) (room : List ℕ) (out : List ℤ)
-    (told : Outcome Totals) (room-last : List ℕ) (out-last : List ℤ) : Type 0 where
-  pub answer : told ≡ checkedOutcome na a nb b calls room (length out)
-  pub words : room-last ≡ roomLeft (miterOutcome na a nb b (length room)) na a nb b calls room
-  pub clauses : out-last ≡ clausesLeft (miterOutcome na a nb b (length room)) na a nb b calls room out
+pub record Checks (na : ℕ) (a : List ℕ) (nb : ℕ) (b : List ℕ) (calls : List Call) (work : List ℕ) (out : List ℤ)
+    (told : Outcome Totals) (work-last : List ℕ) (out-last : List ℤ) : Type 0 where
+  pub answer : told ≡ checkedOutcome na a nb b calls work (length out)
+  pub words : work-last ≡ workLeft (miterOutcome na a nb b (length work)) na a nb b calls work
+  pub clauses : out-last ≡ clausesLeft (miterOutcome na a nb b (length work)) na a nb b calls work out
   pub tells : ServedTells na a nb b told out-last
-  pub claim : (i j : ℕ) → Cascade na a maxGates i → Cascade nb b maxGates j → na ≡ nb → length a + length b ≤ length room
-      → Claim na a b room calls out told out-last
+  pub claim : (i j : ℕ) → Cascade na a maxGates i → Cascade nb b maxGates j → na ≡ nb → length a + length b ≤ length work
+      → Claim na a b work calls out told out-last

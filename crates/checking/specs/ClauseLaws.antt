@@ -3,7 +3,7 @@ use mathlib.Core.Path.{_≡_}
 use mathlib.Core.Logic.{_↔_}
 use mathlib.Core.Bool.{Bool, true}
 use mathlib.Core.List.{List, [], _++_}
-use Prim.Native.Nat.{ℕ, suc, _+_, _^_, _<_, _≤_}
+use Prim.Native.Nat.{ℕ, suc, _+_, _*_, _^_, _<_, _≤_}
 use lib.IntN.{ℤ}
 use lib.ListN.{length, take}
 use Rattle.bits.specs.Digits.{bit}
@@ -36,7 +36,7 @@ pub record ClauseLaws : Type 0 where
   pub read-bad : (ws : List ℤ) (i : ℕ) → clausesIn ws ≡ badRecord i → BadAt ws i
   -- each variable is an input, a gate's w, a p or a d; there are at most 4,224, and every word of a list fits 16 bits
   pub variables-counted : (n : ℕ) (gs : List Gate) → variablesOf n gs ≡ n + (length gs + countP gs) + n
-  pub variables-few : (n : ℕ) (gs : List Gate) → n ≤ maxLines → length gs ≤ maxMiterGates → variablesOf n gs ≤ 4224
+  pub variables-few : (n : ℕ) (gs : List Gate) → n ≤ maxLines → length gs ≤ maxMiterGates → variablesOf n gs ≤ 2 * maxLines + 2 * maxMiterGates
   pub words-fit : (n : ℕ) (gs : List Gate) → n ≤ maxLines → length gs ≤ maxMiterGates → allValid n gs ≡ true → AllFit (stored (clausesOf n gs))
   -- the sums gate by gate are the variables, clauses and words of the list
   pub sizes-list : (n : ℕ) (gs : List Gate) → n ≤ maxLines → allValid n gs ≡ true

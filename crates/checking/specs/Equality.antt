@@ -46,7 +46,7 @@ miterLeaves (refused number place) buffer = []
 
 -- the words that stand after the miter of A and B on n lines and a list of calls
 abbrev pub leftAfter : ℕ → List ℕ → List ℕ → List ℕ → List Call → List ℕ
-leftAfter n a b room calls = afterAll calls (miterLeaves (miterOutcome n a n b (length room)) (miterBuffer n a n b room))
+leftAfter n a b work calls = afterAll calls (miterLeaves (miterOutcome n a n b (length work)) (miterBuffer n a n b work))
 
 -- what an emission with this answer and this final buffer says of A and B on n lines: it is served, and its clauses tell on which states A and B differ
 pub record Emitted (n : ℕ) (a b : List ℕ) (answer : Outcome Totals) (buffer : List ℤ) : Type 0 where
@@ -55,19 +55,19 @@ pub record Emitted (n : ℕ) (a b : List ℕ) (answer : Outcome Totals) (buffer 
   pub told : Told n a b totals buffer
 
 -- of A and B as words of cascades on n lines, a buffer for their miter, a list of calls, a clause buffer, and the answer and the final buffer of an emission of the gates that then stand
-pub record Claim (n : ℕ) (a b room : List ℕ) (calls : List Call) (out : List ℤ) (answer : Outcome Totals) (buffer : List ℤ) : Type 0 where
+pub record Claim (n : ℕ) (a b work : List ℕ) (calls : List Call) (out : List ℤ) (answer : Outcome Totals) (buffer : List ℤ) : Type 0 where
   -- the miter is served
   pub gates : ℕ
-  pub miter-served : miterOutcome n a n b (length room) ≡ served gates
+  pub miter-served : miterOutcome n a n b (length work) ≡ served gates
   -- where the clause buffer is at least as long as the clause list of the gates that stand
-  pub emission : length (stored (clausesOf n (gatesOf (leftAfter n a b room calls)))) ≤ length out → Emitted n a b answer buffer
+  pub emission : length (stored (clausesOf n (gatesOf (leftAfter n a b work calls)))) ≤ length out → Emitted n a b answer buffer
 
 -- of any emission, by its answer and its final buffer
 abbrev pub EqualityOf : (ℕ → List ℕ → ℕ → Outcome Totals) → (ℕ → List ℕ → List ℤ → List ℤ) → Type 0
 EqualityOf emits leaves =
     (n : ℕ) (a b : List ℕ) (i j : ℕ) → Cascade n a maxGates i → Cascade n b maxGates j
-    → (room : List ℕ) → length a + length b ≤ length room → (calls : List Call) (out : List ℤ)
-    → Claim n a b room calls out (emits n (leftAfter n a b room calls) (length out)) (leaves n (leftAfter n a b room calls) out)
+    → (work : List ℕ) → length a + length b ≤ length work → (calls : List Call) (out : List ℤ)
+    → Claim n a b work calls out (emits n (leftAfter n a b work calls) (length out)) (leaves n (leftAfter n a b work calls) out)
 
 -- demand 3, of the very definitions that the calls' contracts cite
 abbrev pub Equality : Type 0

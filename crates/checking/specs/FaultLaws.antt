@@ -8,9 +8,9 @@ use lib.Bits.{bitOr}
 use lib.ListN.{length, take, drop, getD}
 use Rattle.bits.specs.Digits.{bit}
 use Rattle.circuit.specs.declared.gate.Gate.{Gate}
-use Rattle.circuit.specs.Gate.{maxLines, notGate, valid, fires, apply}
+use Rattle.circuit.specs.Gate.{maxLines, valid, fires, apply}
 use Rattle.circuit.specs.Outcome.{served, Untouched}
-use Rattle.circuit.specs.Words.{gatesOf, allValid}
+use Rattle.circuit.specs.Words.{gatesOf, gateIn, allValid}
 use Rattle.circuit.specs.Run.{run, Differs}
 use Rattle.checking.specs.Compare.{Difference, none, lowestFrom, Says}
 use Rattle.checking.specs.Faults.{isFree, missing, maskWhere, faultMasks, faultOutcome, faultBuffer}
@@ -24,20 +24,17 @@ Sweeping sweep = (n : ℕ) (a b : List Gate) → Says n a b (served (sweep n a b
 
 -- ---- candidates and excluded lines
 
--- gate i of the suspect, and the state before it
-abbrev pub gateOf : List Gate → ℕ → Gate
-gateOf gs i = getD gs i (notGate 0)
-
+-- the state before gate i
 abbrev pub stateAt : List Gate → ℕ → List ℕ → ℕ → ℕ
 stateAt gs i xs j = run (take i gs) (getD xs j 0)
 
 -- line k may be a missing control of gate i: it is neither target nor control, and for every given state the gate fires and the line is 0 (1 for a negative control)
 pub record Candidate (n : ℕ) (gs : List Gate) (xs : List ℕ) (i : ℕ) (positive : Bool) (k : ℕ) : Type 0 where
   pub below : k < n
-  pub not-target : k ≡ gateOf gs i .target → ⊥
-  pub not-positive : bit (gateOf gs i .positive) k ≡ false
-  pub not-negative : bit (gateOf gs i .negative) k ≡ false
-  pub fired : (j : ℕ) → j < length xs → fires (gateOf gs i) (stateAt gs i xs j) ≡ true
+  pub not-target : k ≡ gateIn gs i .target → ⊥
+  pub not-positive : bit (gateIn gs i .positive) k ≡ false
+  pub not-negative : bit (gateIn gs i .negative) k ≡ false
+  pub fired : (j : ℕ) → j < length xs → fires (gateIn gs i) (stateAt gs i xs j) ≡ true
   pub line : (j : ℕ) → j < length xs → bit (stateAt gs i xs j) k ≡ not positive
 
 -- two masks a gate, positive then negative, in which exactly the candidates stand
@@ -70,7 +67,7 @@ strikesAll n (g ∷ gs) xs = 0 ∷ 0 ∷ strikesAll n gs xs
 
 -- the cascade with gate i repaired, and every other gate as it was
 abbrev pub repairedAt : ℕ → (Gate → Gate) → List Gate → List Gate
-repairedAt i repair gs = take i gs ++ (repair (gateOf gs i) ∷ drop (i + 1) gs)
+repairedAt i repair gs = take i gs ++ (repair (gateIn gs i) ∷ drop (i + 1) gs)
 
 -- a fault: where its pattern does not match, the repaired gate acts as before
 abbrev pub Repairs : (Gate → ℕ → Bool) → (Gate → Gate) → Gate → Type 0
@@ -95,18 +92,18 @@ pub record FaultLaws : Type 0 where
       → MasksStand na (gatesOf a) states k out (faultBuffer na a nb b states out)
   pub masks-untouched : (na : ℕ) (a : List ℕ) (nb : ℕ) (b states out : List ℕ) → Untouched (faultOutcome na a nb b states (length out)) out (faultBuffer na a nb b states out)
   -- for any fault: where the pattern does not match on a state, the repair leaves that state as it was
-  pub repair-leaves : (pattern : Gate → ℕ → Bool) (repair : Gate → Gate) (gs : List Gate) (i : ℕ) → i < length gs → Repairs pattern repair (gateOf gs i)
-      → (x : ℕ) → pattern (gateOf gs i) (run (take i gs) x) ≡ false → run (repairedAt i repair gs) x ≡ run gs x
+  pub repair-leaves : (pattern : Gate → ℕ → Bool) (repair : Gate → Gate) (gs : List Gate) (i : ℕ) → i < length gs → Repairs pattern repair (gateIn gs i)
+      → (x : ℕ) → pattern (gateIn gs i) (run (take i gs) x) ≡ false → run (repairedAt i repair gs) x ≡ run gs x
   -- an added control is such a repair, and gives a gate
   pub control-repairs : (positive : Bool) (k : ℕ) (g : Gate) → valid maxLines g ≡ true → k < maxLines → isFree g k ≡ true → Repairs (missing positive k) (withControl positive k) g
   pub control-valid : (n : ℕ) (positive : Bool) (k : ℕ) (g : Gate) → valid n g ≡ true → k < n → isFree g k ≡ true → valid n (withControl positive k g) ≡ true
   -- so for each line that is excluded and is neither target nor control, adding that control leaves some given state wrong
   pub excluded : (n : ℕ) (suspect reference : List Gate) (xs : List ℕ) (i k : ℕ) (positive : Bool) → n ≤ maxLines → allValid n suspect ≡ true
-      → ((j : ℕ) → j < length xs → Differs n suspect reference (getD xs j 0)) → i < length suspect → k < n → isFree (gateOf suspect i) k ≡ true
+      → ((j : ℕ) → j < length xs → Differs n suspect reference (getD xs j 0)) → i < length suspect → k < n → isFree (gateIn suspect i) k ≡ true
       → (Candidate n suspect xs i positive k → ⊥)
       → (j : ℕ) × (j < length xs) × Differs n (repairedAt i (withControl positive k) suspect) reference (getD xs j 0)
   -- no guilty gate is excluded: where the suspect with that control added to gate i agrees with the reference on every given state, the line stands in the buffer
   pub guilty-stands : (na : ℕ) (a : List ℕ) (nb : ℕ) (b states out : List ℕ) (k : ℕ) → faultOutcome na a nb b states (length out) ≡ served k
-      → (i line : ℕ) (positive : Bool) → i < k → line < na → isFree (gateOf (gatesOf a) i) line ≡ true
+      → (i line : ℕ) (positive : Bool) → i < k → line < na → isFree (gateIn (gatesOf a) i) line ≡ true
       → Every (λ x. run (repairedAt i (withControl positive line) (gatesOf a)) x ≡ run (gatesOf b) x) states
       → bit (getD (faultBuffer na a nb b states out) (maskPlace positive i) 0) line ≡ true

@@ -6,6 +6,12 @@ use lib.Dec.{eqb}
 use lib.Bits.{bitAnd, bitOr, bitXor}
 use lib.Count.{ones}
 use Rattle.circuit.specs.declared.gate.Gate.{Gate}
+use Rattle.checking.specs.declared.step.Kind as declared-kind
+use Rattle.checking.specs.declared.step.Kind.the-variants as kind
+use Rattle.checking.specs.declared.step.Match as declared-match
+use Rattle.checking.specs.declared.step.Match.the-variants as match
+use Rattle.checking.specs.declared.step.Verdict.{Verdict}
+use Rattle.checking.specs.declared.step.Verdict.the-variants.{Apart, Matched}
 
 -- the control lines
 unfoldable pub controlLines : Gate → ℕ
@@ -77,3 +83,18 @@ abbrev pub remaining : Match → List Gate
 remaining Match.pair = []
 remaining (Match.drop r) = r ∷ []
 remaining (Match.turn r) = r ∷ []
+
+-- the code's answers in document 01's words
+abbrev pub ofKind : declared-kind.Kind → Kind
+ofKind kind.Cancel = Kind.pair
+ofKind kind.RemoveControl = Kind.drop
+ofKind kind.InvertControl = Kind.turn
+
+abbrev pub ofMatch : declared-match.Match → Match
+ofMatch match.Cancel = Match.pair
+ofMatch (match.RemoveControl r) = Match.drop r
+ofMatch (match.InvertControl r) = Match.turn r
+
+abbrev pub ofVerdict : Verdict → Compared
+ofVerdict Apart = apart
+ofVerdict (Matched m) = matched (ofMatch m)

@@ -7,7 +7,8 @@ use lib.ListN.{length, take, drop}
 use Rattle.circuit.specs.declared.gate.Gate.{Gate}
 use Rattle.circuit.specs.Gate.{maxGates, maxMiterGates}
 use Rattle.circuit.specs.Outcome.{served, refused, Untouched}
-use Rattle.circuit.specs.Words.{gatesOf, Cascade, PairFault}
+use Rattle.circuit.specs.Refusal.{noRoom}
+use Rattle.circuit.specs.Words.{gatesOf, Cascade, PairRefused}
 use Rattle.circuit.specs.Run.{run}
 use Rattle.checking.specs.Miter.{miterGates, miterOutcome, miterBuffer}
 
@@ -22,9 +23,9 @@ pub record MiterServed (na : ℕ) (a : List ℕ) (nb : ℕ) (b : List ℕ) (room
   pub count : k ≡ first + second
 
 -- what is wrong with a miter's call: with the two cascades, or 10 where they are good and the buffer has fewer words than both together
-pub data MiterFault (na : ℕ) (a : List ℕ) (nb : ℕ) (b : List ℕ) (room : ℕ) : ℕ → ℕ → Type 0 where
-  pair-fault : {number place : ℕ} → PairFault na a nb b number place → MiterFault na a nb b room number place
-  short : (k m : ℕ) → Cascade na a maxGates k → Cascade nb b maxGates m → na ≡ nb → room < length a + length b → MiterFault na a nb b room 10 0
+pub data MiterRefused (na : ℕ) (a : List ℕ) (nb : ℕ) (b : List ℕ) (room : ℕ) : ℕ → ℕ → Type 0 where
+  miter-pair : {number place : ℕ} → PairRefused na a nb b number place → MiterRefused na a nb b room number place
+  short : (k m : ℕ) → Cascade na a maxGates k → Cascade nb b maxGates m → na ≡ nb → room < length a + length b → MiterRefused na a nb b room noRoom 0
 
 -- what stands in the buffer after a served miter of k gates: the miter, a cascade that steps and reductions take, and the rest as it was
 pub record MiterStands (na : ℕ) (a : List ℕ) (nb : ℕ) (b out : List ℕ) (k : ℕ) : Type 0 where
@@ -38,7 +39,7 @@ pub record MiterLaws : Type 0 where
   -- served exactly for valid pairs with room
   pub miter-served : (na : ℕ) (a : List ℕ) (nb : ℕ) (b : List ℕ) (room k : ℕ) → (miterOutcome na a nb b room ≡ served k) ↔ MiterServed na a nb b room k
   -- and refused exactly by what is wrong
-  pub miter-refused : (na : ℕ) (a : List ℕ) (nb : ℕ) (b : List ℕ) (room number place : ℕ) → (miterOutcome na a nb b room ≡ refused number place) ↔ MiterFault na a nb b room number place
+  pub miter-refused : (na : ℕ) (a : List ℕ) (nb : ℕ) (b : List ℕ) (room number place : ℕ) → (miterOutcome na a nb b room ≡ refused number place) ↔ MiterRefused na a nb b room number place
   -- what it leaves: the miter where it is served, and the buffer as it was where it is refused
   pub miter-untouched : (na : ℕ) (a : List ℕ) (nb : ℕ) (b out : List ℕ) → Untouched (miterOutcome na a nb b (length out)) out (miterBuffer na a nb b out)
   pub miter-stands : (na : ℕ) (a : List ℕ) (nb : ℕ) (b out : List ℕ) (k : ℕ) → miterOutcome na a nb b (length out) ≡ served k → MiterStands na a nb b out k

@@ -8,7 +8,7 @@ use lib.ListN.{length}
 use Rattle.circuit.specs.declared.gate.Gate.{Gate}
 use Rattle.circuit.specs.Gate.{maxLines, maxMiterGates}
 use Rattle.circuit.specs.Outcome.{served, refused, Untouched}
-use Rattle.circuit.specs.Words.{gatesOf, allValid, Cascade, WordsFault}
+use Rattle.circuit.specs.Words.{gatesOf, allValid, Cascade, WordsRefused}
 use Rattle.checking.specs.Match.{Kind}
 use Rattle.checking.specs.Step.{found, none}
 use Rattle.checking.specs.Reduce.{Reduced, reduceGates, numbered, reduceOutcome, reduceBuffer}
@@ -29,7 +29,7 @@ pub record ReduceLaws : Type 0 where
   pub reduce-count : (gs last : List Gate) (p m : ℕ) → Reduces gs last p m → length gs ≡ length last + (2 * p + m)
   -- the call: served for a cascade, else refused by what is wrong
   pub call-served : (n : ℕ) (ws : List ℕ) (k : ℕ) → Cascade n ws maxMiterGates k → reduceOutcome n ws ≡ served (numbered (reduceGates (gatesOf ws)))
-  pub call-refused : (n : ℕ) (ws : List ℕ) (number place : ℕ) → (reduceOutcome n ws ≡ refused number place) ↔ WordsFault n ws maxMiterGates number place
+  pub call-refused : (n : ℕ) (ws : List ℕ) (number place : ℕ) → (reduceOutcome n ws ≡ refused number place) ↔ WordsRefused n ws maxMiterGates number place
   -- its words: the gates left, and zeros; as they were where it is refused
   pub call-stands : (n : ℕ) (ws : List ℕ) (k : ℕ) → Cascade n ws maxMiterGates k → Stands n ws (reduceBuffer n ws) (reduceGates (gatesOf ws) .left)
   pub call-untouched : (n : ℕ) (ws : List ℕ) → Untouched (reduceOutcome n ws) ws (reduceBuffer n ws)

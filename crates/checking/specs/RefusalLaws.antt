@@ -6,9 +6,10 @@ use Prim.Native.Nat.{ℕ, _*_, _^_, _<_, _≤_}
 use lib.ListN.{length, getD}
 use Rattle.circuit.specs.Gate.{maxGates}
 use Rattle.circuit.specs.Outcome.{served, refused}
-use Rattle.circuit.specs.Words.{gatesOf, Cascade, PairFault}
+use Rattle.circuit.specs.Refusal.{badState, noRoom, agreeingState, tooWide}
+use Rattle.circuit.specs.Words.{gatesOf, Cascade, PairRefused}
 use Rattle.circuit.specs.Run.{run}
-use Rattle.checking.specs.Compare.{differenceOutcome, differsOutcome, pickOutcome}
+use Rattle.checking.specs.Compare.{maxSweepLines, differenceOutcome, differsOutcome, pickOutcome}
 use Rattle.checking.specs.Faults.{faultOutcome}
 
 -- two cascades of k and m gates on as many lines
@@ -18,14 +19,14 @@ pub record GoodPair (na : ℕ) (a : List ℕ) (nb : ℕ) (b : List ℕ) (k m : �
   pub lines : na ≡ nb
 
 -- what is wrong with a sweep: with the pair, or 13 for a good pair on more than 16 lines
-pub data SweepFault (na : ℕ) (a : List ℕ) (nb : ℕ) (b : List ℕ) : ℕ → ℕ → Type 0 where
-  sweep-pair : {number place : ℕ} → PairFault na a nb b number place → SweepFault na a nb b number place
-  wide : (k m : ℕ) → GoodPair na a nb b k m → 16 < na → SweepFault na a nb b 13 0
+pub data SweepRefused (na : ℕ) (a : List ℕ) (nb : ℕ) (b : List ℕ) : ℕ → ℕ → Type 0 where
+  sweep-pair : {number place : ℕ} → PairRefused na a nb b number place → SweepRefused na a nb b number place
+  wide : (k m : ℕ) → GoodPair na a nb b k m → maxSweepLines < na → SweepRefused na a nb b tooWide 0
 
 -- what is wrong with an input check: with the pair, or 9 for a good pair and a state of 2 ^ n or more
-pub data InputFault (na : ℕ) (a : List ℕ) (nb : ℕ) (b : List ℕ) (x : ℕ) : ℕ → ℕ → Type 0 where
-  input-pair : {number place : ℕ} → PairFault na a nb b number place → InputFault na a nb b x number place
-  outside : (k m : ℕ) → GoodPair na a nb b k m → 2 ^ na ≤ x → InputFault na a nb b x 9 0
+pub data DiffersRefused (na : ℕ) (a : List ℕ) (nb : ℕ) (b : List ℕ) (x : ℕ) : ℕ → ℕ → Type 0 where
+  input-pair : {number place : ℕ} → PairRefused na a nb b number place → DiffersRefused na a nb b x number place
+  outside : (k m : ℕ) → GoodPair na a nb b k m → 2 ^ na ≤ x → DiffersRefused na a nb b x badState 0
 
 -- every state of a list is good
 abbrev pub Every : (ℕ → Type 0) → List ℕ → Type 0
@@ -46,24 +47,24 @@ pub record MasksServed (na : ℕ) (a : List ℕ) (nb : ℕ) (b states : List ℕ
   pub fits : 2 * k ≤ room
 
 -- what is wrong with a fault call: with the pair, with a state of the list, or with the buffer
-pub data MasksFault (na : ℕ) (a : List ℕ) (nb : ℕ) (b states : List ℕ) (room : ℕ) : ℕ → ℕ → Type 0 where
-  masks-pair : {number place : ℕ} → PairFault na a nb b number place → MasksFault na a nb b states room number place
+pub data MasksRefused (na : ℕ) (a : List ℕ) (nb : ℕ) (b states : List ℕ) (room : ℕ) : ℕ → ℕ → Type 0 where
+  masks-pair : {number place : ℕ} → PairRefused na a nb b number place → MasksRefused na a nb b states room number place
   -- for a good pair 9 at the first state of 2 ^ n or more
-  outside-at : (k m : ℕ) → GoodPair na a nb b k m → (i : ℕ) → First (λ x. x < 2 ^ na) (λ x. 2 ^ na ≤ x) states i → MasksFault na a nb b states room 9 i
+  outside-at : (k m : ℕ) → GoodPair na a nb b k m → (i : ℕ) → First (λ x. x < 2 ^ na) (λ x. 2 ^ na ≤ x) states i → MasksRefused na a nb b states room badState i
   -- where there is none, 12 at the first state on which the two agree
   agreeing-at : (k m : ℕ) → GoodPair na a nb b k m → Every (λ x. x < 2 ^ na) states
       → (i : ℕ) → First (λ x. run (gatesOf a) x ≡ run (gatesOf b) x → ⊥) (λ x. run (gatesOf a) x ≡ run (gatesOf b) x) states i
-      → MasksFault na a nb b states room 12 i
+      → MasksRefused na a nb b states room agreeingState i
   -- where there is none either, 10 for a buffer of fewer than two masks a gate of the suspect
   short : (k m : ℕ) → GoodPair na a nb b k m → Every (λ x. x < 2 ^ na) states → Every (λ x. run (gatesOf a) x ≡ run (gatesOf b) x → ⊥) states
-      → room < 2 * k → MasksFault na a nb b states room 10 0
+      → room < 2 * k → MasksRefused na a nb b states room noRoom 0
 
 -- each call is refused exactly by what is wrong
 pub record RefusalLaws : Type 0 where
-  pub sweep-refused : (na : ℕ) (a : List ℕ) (nb : ℕ) (b : List ℕ) (number place : ℕ) → (differenceOutcome na a nb b ≡ refused number place) ↔ SweepFault na a nb b number place
-  pub input-refused : (na : ℕ) (a : List ℕ) (nb : ℕ) (b : List ℕ) (x number place : ℕ) → (differsOutcome na a nb b x ≡ refused number place) ↔ InputFault na a nb b x number place
-  pub pick-refused : (na : ℕ) (a : List ℕ) (nb : ℕ) (b : List ℕ) (number place : ℕ) → (pickOutcome na a nb b ≡ refused number place) ↔ PairFault na a nb b number place
+  pub sweep-refused : (na : ℕ) (a : List ℕ) (nb : ℕ) (b : List ℕ) (number place : ℕ) → (differenceOutcome na a nb b ≡ refused number place) ↔ SweepRefused na a nb b number place
+  pub input-refused : (na : ℕ) (a : List ℕ) (nb : ℕ) (b : List ℕ) (x number place : ℕ) → (differsOutcome na a nb b x ≡ refused number place) ↔ DiffersRefused na a nb b x number place
+  pub pick-refused : (na : ℕ) (a : List ℕ) (nb : ℕ) (b : List ℕ) (number place : ℕ) → (pickOutcome na a nb b ≡ refused number place) ↔ PairRefused na a nb b number place
   -- the fault call is served exactly for these
   pub masks-served : (na : ℕ) (a : List ℕ) (nb : ℕ) (b states : List ℕ) (room k : ℕ) → (faultOutcome na a nb b states room ≡ served k) ↔ MasksServed na a nb b states room k
   pub masks-refused : (na : ℕ) (a : List ℕ) (nb : ℕ) (b states : List ℕ) (room number place : ℕ)
-      → (faultOutcome na a nb b states room ≡ refused number place) ↔ MasksFault na a nb b states room number place
+      → (faultOutcome na a nb b states room ≡ refused number place) ↔ MasksRefused na a nb b states room number place

@@ -44,15 +44,15 @@ unfoldable pub spelled : ℕ → List Bool → ℕ
 spelled zero σ = 0
 spelled (suc n) σ = spelled n σ + cond (variable σ (suc n)) (2 ^ n) 0
 
--- the size of a literal: its variable
-abbrev pub size : ℤ → ℕ
-size (pos v) = v
-size (negsuc i) = suc i
+-- the variable of a literal
+abbrev pub variableOf : ℤ → ℕ
+variableOf (pos v) = v
+variableOf (negsuc i) = suc i
 
 -- every literal is one of a variable from 1 to V
 abbrev pub LiteralsWithin : ℕ → List ℤ → Type 0
 LiteralsWithin v [] = Unit {0}
-LiteralsWithin v (l ∷ ls) = (1 ≤ size l) × ((size l ≤ v) × LiteralsWithin v ls)
+LiteralsWithin v (l ∷ ls) = (1 ≤ variableOf l) × ((variableOf l ≤ v) × LiteralsWithin v ls)
 
 abbrev pub clauseLiterals : Clause → List ℤ
 clauseLiterals (OR ls) = ls

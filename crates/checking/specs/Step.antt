@@ -7,11 +7,9 @@ use Rattle.circuit.specs.declared.gate.Gate.{Gate}
 use Rattle.circuit.specs.Gate.{maxMiterGates}
 use Rattle.circuit.specs.Outcome.{Outcome, served, refused, andThen}
 use Rattle.circuit.specs.Words.{gatesOf, wordsOf, checkOutcome}
-use Rattle.checking.specs.declared.step.Kind as declared
-use Rattle.checking.specs.declared.step.Kind.the-variants as kind
 use Rattle.checking.specs.declared.step.StepAnswer.{StepAnswer}
 use Rattle.checking.specs.declared.step.StepAnswer.the-variants as answer
-use Rattle.checking.specs.Match.{mayPass, Kind, Match, Compared, apart, matched, matchOf, kindOf, remaining}
+use Rattle.checking.specs.Match.{mayPass, Kind, Match, Compared, apart, matched, matchOf, kindOf, remaining, ofKind}
 
 -- what a scan from one gate on finds: the place of the gate that it matches, and the match; and what the search finds: the places of both
 pub data Scan : Type 0 where
@@ -62,9 +60,9 @@ unfoldable pub stepGates : List Gate → Step (List Gate)
 stepGates gs = searched (searchFrom 0 gs) gs
 
 -- the same with the number of gates
-abbrev pub counted : Step (List Gate) → Step ℕ
-counted (found i j k gs) = found i j k (length gs)
-counted none = none
+abbrev pub withCount : Step (List Gate) → Step ℕ
+withCount (found i j k gs) = found i j k (length gs)
+withCount none = none
 
 -- the words of gates, and zeros after them up to `room` words
 unfoldable pub filled : List Gate → ℕ → List ℕ
@@ -77,7 +75,7 @@ stepWords none ws = ws
 
 -- 2, 11, 6, 7
 unfoldable pub stepOutcome : ℕ → List ℕ → Outcome (Step ℕ)
-stepOutcome n ws = andThen (checkOutcome n ws maxMiterGates) (λ k. served (counted (stepGates (gatesOf ws))))
+stepOutcome n ws = andThen (checkOutcome n ws maxMiterGates) (λ k. served (withCount (stepGates (gatesOf ws))))
 
 -- a refused step leaves the words as they were
 abbrev pub servedWords : {A : Type 0} → Outcome A → List ℕ → List ℕ → List ℕ
@@ -88,11 +86,6 @@ unfoldable pub stepBuffer : ℕ → List ℕ → List ℕ
 stepBuffer n ws = servedWords (stepOutcome n ws) (stepWords (stepGates (gatesOf ws)) ws) ws
 
 -- the answer in document 01's values
-abbrev pub ofKind : declared.Kind → Kind
-ofKind kind.Cancel = Kind.pair
-ofKind kind.RemoveControl = Kind.drop
-ofKind kind.InvertControl = Kind.turn
-
 abbrev pub ofStep : StepAnswer → Outcome (Step ℕ)
 ofStep (answer.Found i j k gates) = served (found i j (ofKind k) gates)
 ofStep answer.Nothing = served none

@@ -7,12 +7,12 @@ use Prim.Native.Nat.{ℕ, _+_, _*_, _<_, _≤_}
 use lib.ListN.{length, take, getD}
 use Rattle.bits.specs.Digits.{bit}
 use Rattle.circuit.specs.declared.gate.Gate.{Gate}
-use Rattle.circuit.specs.Gate.{maxLines, maxMiterGates, notGate, valid, apply}
+use Rattle.circuit.specs.Gate.{maxLines, maxMiterGates, valid, apply}
 use Rattle.circuit.specs.Outcome.{served, refused, Untouched}
-use Rattle.circuit.specs.Words.{gatesOf, allValid, Cascade, WordsFault}
+use Rattle.circuit.specs.Words.{gatesOf, gateIn, allValid, Cascade, WordsRefused}
 use Rattle.circuit.specs.Run.{run}
 use Rattle.checking.specs.Match.{mayPass, Kind, Match, matched, matchOf, kindOf, remaining}
-use Rattle.checking.specs.Step.{replaced, Step, found, none, stepGates, counted, stepOutcome, stepBuffer}
+use Rattle.checking.specs.Step.{replaced, Step, found, none, stepGates, withCount, stepOutcome, stepBuffer}
 
 -- line t is no control of g
 pub record Uncontrolled (g : Gate) (t : ℕ) : Type 0 where
@@ -39,11 +39,8 @@ pub data Matches (g h : Gate) : Match → Type 0 where
   turn-first : (r : Gate) (k : ℕ) (positive : Bool) → OneMore g h k positive → OneMore r h k (not positive) → Matches g h (Match.turn r)
   turn-second : (r : Gate) (k : ℕ) (positive : Bool) → OneMore h g k positive → OneMore r g k (not positive) → Matches g h (Match.turn r)
 
-abbrev pub gateIn : List Gate → ℕ → Gate
-gateIn gs i = getD gs i (notGate 0)
-
 -- gates i and j match, and gate i may pass every gate strictly between
-pub record Candidate (gs : List Gate) (i j : ℕ) (m : Match) : Type 0 where
+pub record Meets (gs : List Gate) (i j : ℕ) (m : Match) : Type 0 where
   pub order : i < j
   pub inside : j < length gs
   pub matches : Matches (gateIn gs i) (gateIn gs j) m
@@ -51,11 +48,11 @@ pub record Candidate (gs : List Gate) (i j : ℕ) (m : Match) : Type 0 where
 
 -- what a step finds: the lowest i, then the lowest j; none where there are no such i and j
 pub data Steps (gs : List Gate) : Step (List Gate) → Type 0 where
-  finds : (i j : ℕ) (m : Match) → Candidate gs i j m
-      → ((a b : ℕ) (o : Match) → Candidate gs a b o → i ≤ a)
-      → ((b : ℕ) (o : Match) → Candidate gs i b o → j ≤ b)
+  finds : (i j : ℕ) (m : Match) → Meets gs i j m
+      → ((a b : ℕ) (o : Match) → Meets gs a b o → i ≤ a)
+      → ((b : ℕ) (o : Match) → Meets gs i b o → j ≤ b)
       → Steps gs (found i j (kindOf m) (replaced i j (remaining m) gs))
-  idles : ((i j : ℕ) (m : Match) → Candidate gs i j m → ⊥) → Steps gs none
+  idles : ((i j : ℕ) (m : Match) → Meets gs i j m → ⊥) → Steps gs none
 
 -- the gates that a match takes away
 abbrev pub taken : Kind → ℕ
@@ -91,8 +88,8 @@ pub record StepLaws : Type 0 where
   pub step-keeps : (n : ℕ) (gs : List Gate) → n ≤ maxLines → allValid n gs ≡ true → (i j : ℕ) (k : Kind) (hs : List Gate) → Steps gs (found i j k hs) → Keeps n gs hs
   pub step-count : (gs : List Gate) (i j : ℕ) (k : Kind) (hs : List Gate) → Steps gs (found i j k hs) → length gs ≡ length hs + taken k
   -- the call: served with what the step on the gates finds exactly for a cascade, else refused by what is wrong
-  pub call-served : (n : ℕ) (ws : List ℕ) (k : ℕ) → Cascade n ws maxMiterGates k → stepOutcome n ws ≡ served (counted (stepGates (gatesOf ws)))
-  pub call-refused : (n : ℕ) (ws : List ℕ) (number place : ℕ) → (stepOutcome n ws ≡ refused number place) ↔ WordsFault n ws maxMiterGates number place
+  pub call-served : (n : ℕ) (ws : List ℕ) (k : ℕ) → Cascade n ws maxMiterGates k → stepOutcome n ws ≡ served (withCount (stepGates (gatesOf ws)))
+  pub call-refused : (n : ℕ) (ws : List ℕ) (number place : ℕ) → (stepOutcome n ws ≡ refused number place) ↔ WordsRefused n ws maxMiterGates number place
   -- its words: the gates that then stand, and zeros; as they were where it answers none or is refused
   pub call-stands : (n : ℕ) (ws : List ℕ) (k : ℕ) → Cascade n ws maxMiterGates k → (i j : ℕ) (m : Kind) (hs : List Gate) → stepGates (gatesOf ws) ≡ found i j m hs → Stands n ws (stepBuffer n ws) hs
   pub call-none : (n : ℕ) (ws : List ℕ) → stepOutcome n ws ≡ served none → stepBuffer n ws ≡ ws

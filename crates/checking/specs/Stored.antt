@@ -19,9 +19,9 @@ stored [] = []
 stored (c ∷ cs) = storedClause c ++ stored cs
 
 -- the clauses that words store, or the index of the first record that is no whole clause
-pub data Reading : Type 0 where
-  clausesRead : List Clause → Reading
-  badRecord : ℕ → Reading
+pub data ReadBack : Type 0 where
+  clausesRead : List Clause → ReadBack
+  badRecord : ℕ → ReadBack
 
 -- the clause of a kind word and literals, and the count of a count word, where they are such
 abbrev pub clauseOf : ℤ → List ℤ → Option Clause
@@ -35,18 +35,18 @@ countOf (pos k) = some k
 countOf (negsuc k) = none
 
 -- a record and what is read after it; i is the record's index
-abbrev pub joined : ℕ → Option Clause → Reading → Reading
+abbrev pub joined : ℕ → Option Clause → ReadBack → ReadBack
 joined i none later = badRecord i
 joined i (some c) (clausesRead cs) = clausesRead (c ∷ cs)
 joined i (some c) (badRecord j) = badRecord j
 
 -- one record: a kind, a count that fits, and as many literals; `later` reads the words after it
-abbrev pub readRecord : ℕ → ℤ → Option ℕ → List ℤ → (List ℤ → Reading) → Reading
+abbrev pub readRecord : ℕ → ℤ → Option ℕ → List ℤ → (List ℤ → ReadBack) → ReadBack
 readRecord i kind none ws later = badRecord i
 readRecord i kind (some k) ws later = cond (leb k (length ws)) (joined i (clauseOf kind (take k ws)) (later (drop k ws))) (badRecord i)
 
 -- the records from index i on, at most `most` of them
-unfoldable pub readFrom : ℕ → ℕ → List ℤ → Reading
+unfoldable pub readFrom : ℕ → ℕ → List ℤ → ReadBack
 readFrom i zero [] = clausesRead []
 readFrom i zero (kind ∷ ws) = badRecord i
 readFrom i (suc most) [] = clausesRead []
@@ -54,7 +54,7 @@ readFrom i (suc most) (kind ∷ []) = badRecord i
 readFrom i (suc most) (kind ∷ count ∷ ws) = readRecord i kind (countOf count) ws (λ (rest : List ℤ). readFrom (suc i) most rest)
 
 -- a record has two words at least, so there are no more records than words
-unfoldable pub clausesIn : List ℤ → Reading
+unfoldable pub clausesIn : List ℤ → ReadBack
 clausesIn ws = readFrom 0 (length ws) ws
 
 -- i whole clauses stand at the start of the words, and what is left starts with none

@@ -56,24 +56,24 @@ fn make_calls(calls: &[u64], gates: usize, words: &mut [u64]) -> usize
 }
 
 // The sizes of the clauses that tell whether two cascades differ: those of their miter after the calls, which stand at the start of `out`.
-// The miter and what the calls left of it stand in `room`. Else what is wrong with the miter, or with the emission.
+// The miter and what the calls left of it stand in `work`. Else what is wrong with the miter, or with the emission.
 pub fn check(
     na: u64,
     a: &[u64],
     nb: u64,
     b: &[u64],
     calls: &[u64],
-    room: &mut [u64],
+    work: &mut [u64],
     out: &mut [i16],
 ) -> SizesAnswer
-    ensures { λ r. ⌜ Checks na (now (a .entry)) nb (now (b .entry)) (callsOf (now (calls .entry))) (now (room .entry)) (now (out .entry)) (ofSizes r) (now (room .exit)) (now (out .exit)) ⌝ }
+    ensures { λ r. ⌜ Checks na (now (a .entry)) nb (now (b .entry)) (callsOf (now (calls .entry))) (now (work .entry)) (now (out .entry)) (ofSizes r) (now (work .exit)) (now (out .exit)) ⌝ }
 {
-    match crate::miter::miter(na, a, nb, b, room) {
+    match crate::miter::miter(na, a, nb, b, work) {
         CountAnswer::Refused(why) => SizesAnswer::Refused(why),
         CountAnswer::Gates(gates) => {
-            let left = make_calls(calls, gates, room);
+            let left = make_calls(calls, gates, work);
             let end = Gate::WORDS * left;
-            crate::clauses::emit(na, &room[..end], out)
+            crate::clauses::emit(na, &work[..end], out)
         }
     }
 }

@@ -15,8 +15,9 @@ ghost use Rattle.circuit.specs.Outcome.{Yields};
 ghost use Rattle.circuit.specs.Gate.{maxLines};
 ghost use Rattle.circuit.specs.Words.{gatesOf, gateAt, allValid};
 ghost use Rattle.checking.specs.Match.{mayPass, matchOf};
-ghost use Rattle.checking.specs.Step.{scanFrom, searchFrom, replaced, filled, stepGates, counted, stepWords, stepOutcome, stepBuffer, ofStep};
-ghost use Rattle.checking.specs.private.StepCode.{ofVerdict, ofScan, ofSearch, ofStepped};
+ghost use Rattle.checking.specs.Step.{scanFrom, searchFrom, replaced, filled, stepGates, withCount, stepWords, stepOutcome, stepBuffer, ofStep};
+ghost use Rattle.checking.specs.private.StepCode.{ofScan, ofSearch, ofStepped};
+ghost use Rattle.checking.specs.Match.{ofVerdict};
 
 // Which match it was (01: pair, drop, turn).
 pub enum Kind {
@@ -236,7 +237,7 @@ fn merge_pair(words: &mut [u64], i: usize, j: usize, r: Gate)
 pub(crate) fn make_step(words: &mut [u64], found: Search) -> Stepped
     requires { ⌜ length (now words) % 3 ≡ 0 ⌝ }
     requires { ⌜ ofSearch found ≡ searchFrom 0 (gatesOf (now words)) ⌝ }
-    ensures { λ r. ⌜ Yields (ofStepped r) (now (words .exit)) (counted (stepGates (gatesOf (now (words .entry))))) (stepWords (stepGates (gatesOf (now (words .entry)))) (now (words .entry))) ⌝ }
+    ensures { λ r. ⌜ Yields (ofStepped r) (now (words .exit)) (withCount (stepGates (gatesOf (now (words .entry))))) (stepWords (stepGates (gatesOf (now (words .entry)))) (now (words .entry))) ⌝ }
 {
     let gates = words.len() / Gate::WORDS;
     match found {

@@ -14,7 +14,7 @@ use Rattle.circuit.specs.Gate.{maxGates, Control}
 use Rattle.circuit.specs.Outcome.{Outcome, served, refused, demand, andThen, written}
 use Rattle.circuit.specs.Refusal.{wrongForm, badLineCount, lineOutside, targetControlled, notRising, tooManyGates, noRoom}
 use Rattle.circuit.specs.Words.{gatesOf, wordsOf, lineCountGood, checkOutcome}
-use Rattle.circuit.specs.Text.{tab, lineFeed, plus, minus, linesWord, gateWord, endWord, textOf}
+use Rattle.circuit.specs.Text.{tab, lineFeed, plusSign, minusSign, linesWord, gateWord, endWord, textOf}
 
 -- ---- lines and fields
 
@@ -43,8 +43,8 @@ linesOf (b ∷ bs) =
     (record { bytes = b ∷ firstLine (linesOf bs) .bytes; ended = firstLine (linesOf bs) .ended } ∷ laterLines (linesOf bs))
 
 -- a line's bytes with its LF
-abbrev pub size : Line → ℕ
-size l = length (l .bytes) + 1
+abbrev pub lineSize : Line → ℕ
+lineSize l = length (l .bytes) + 1
 
 -- one byte more at the start of the first field
 abbrev pub longer : ℕ → List (List ℕ) → List (List ℕ)
@@ -83,8 +83,8 @@ lineOf n i f = andThen (numberOf i f) (λ k. demand (ltb k n) lineOutside i (ser
 unfoldable pub controlOf : ℕ → ℕ → List ℕ → Outcome Control
 controlOf n i [] = refused wrongForm i
 controlOf n i (s ∷ f) =
-    demand (eqb s plus || eqb s minus) wrongForm i
-    (andThen (lineOf n i f) (λ k. served (record { line = k; positive = eqb s plus })))
+    demand (eqb s plusSign || eqb s minusSign) wrongForm i
+    (andThen (lineOf n i f) (λ k. served (record { line = k; positive = eqb s plusSign })))
 
 -- the controls cs, and those of the fields after them: 1, 3 by field
 unfoldable pub controlsFrom : ℕ → ℕ → List Control → List (List ℕ) → Outcome (List Control)
@@ -165,14 +165,14 @@ pub record Reading : Type 0 where
 unfoldable pub readFrom : ℕ → ℕ → List Gate → ℕ → List Line → Outcome Reading
 readFrom n first gs at [] = refused wrongForm (length gs + first)
 readFrom n first gs at (l ∷ ls) =
-    cond (isEnd l) (served (record { lines = n; gates = gs; taken = at + size l }))
-    (andThen (gateOn n (length gs + first) (length gs) l) (λ g. readFrom n first (gs ++ (g ∷ [])) (at + size l) ls))
+    cond (isEnd l) (served (record { lines = n; gates = gs; taken = at + lineSize l }))
+    (andThen (gateOn n (length gs + first) (length gs) l) (λ g. readFrom n first (gs ++ (g ∷ [])) (at + lineSize l) ls))
 
 -- lines from the top; gate lines start at line 1
 unfoldable pub reading : List ℕ → Outcome Reading
 reading text =
     andThen (headerOn (firstLine (linesOf text))) (λ n.
-    readFrom n 1 [] (size (firstLine (linesOf text))) (laterLines (linesOf text)))
+    readFrom n 1 [] (lineSize (firstLine (linesOf text))) (laterLines (linesOf text)))
 
 -- ---- the two calls
 

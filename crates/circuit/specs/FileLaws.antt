@@ -9,7 +9,8 @@ use Rattle.bits.specs.Lists.{over}
 use Rattle.circuit.specs.declared.gate.Gate.{Gate}
 use Rattle.circuit.specs.Gate.{maxLines, maxGates, Control}
 use Rattle.circuit.specs.Outcome.{Outcome, served, refused, Untouched, Yields}
-use Rattle.circuit.specs.Words.{gatesOf, wordsOf, allValid, Cascade, WordsFault}
+use Rattle.circuit.specs.Refusal.{wrongForm, badLineCount, lineOutside, targetControlled, notRising, tooManyGates, noRoom}
+use Rattle.circuit.specs.Words.{gatesOf, wordsOf, allValid, Cascade, WordsRefused}
 use Rattle.circuit.specs.Text.{linesWord, gateWord, endWord, numberText, controlText, headerLine, gateLines, textOf}
 use Rattle.circuit.specs.File.{Inside, Line, firstLine, linesOf, fieldsOf, Reading, reading, ReadCounts, readOutcome, readBuffer, writeOutcome, writeBuffer}
 
@@ -35,19 +36,19 @@ pub record ControlField (f : List ℕ) (c : Control) : Type 0 where
 -- line 0
 pub data HeaderOffence (l : Line) : ℕ → Type 0 where
   -- it does not start `lines` tab
-  no-lines : ((k : List ℕ) (fs : List (List ℕ)) → fieldsOf (l .bytes) ≡ linesWord ∷ k ∷ fs → ⊥) → HeaderOffence l 1
+  no-lines : ((k : List ℕ) (fs : List (List ℕ)) → fieldsOf (l .bytes) ≡ linesWord ∷ k ∷ fs → ⊥) → HeaderOffence l wrongForm
   -- no number follows
-  no-number : (k : List ℕ) (fs : List (List ℕ)) → fieldsOf (l .bytes) ≡ linesWord ∷ k ∷ fs → ((n : ℕ) → NumberField k n → ⊥) → HeaderOffence l 1
+  no-number : (k : List ℕ) (fs : List (List ℕ)) → fieldsOf (l .bytes) ≡ linesWord ∷ k ∷ fs → ((n : ℕ) → NumberField k n → ⊥) → HeaderOffence l wrongForm
   -- n is outside 1 to 64
-  outside : (k : List ℕ) (fs : List (List ℕ)) → fieldsOf (l .bytes) ≡ linesWord ∷ k ∷ fs → (n : ℕ) → NumberField k n → (1 ≤ n → n ≤ maxLines → ⊥) → HeaderOffence l 2
+  outside : (k : List ℕ) (fs : List (List ℕ)) → fieldsOf (l .bytes) ≡ linesWord ∷ k ∷ fs → (n : ℕ) → NumberField k n → (1 ≤ n → n ≤ maxLines → ⊥) → HeaderOffence l badLineCount
   -- n is good, and a further field stands there or the LF is missing
   no-end : (k : List ℕ) (fs : List (List ℕ)) → fieldsOf (l .bytes) ≡ linesWord ∷ k ∷ fs → (n : ℕ) → NumberField k n → 1 ≤ n → n ≤ maxLines
-      → (fs ≡ [] → l .ended ≡ true → ⊥) → HeaderOffence l 1
+      → (fs ≡ [] → l .ended ≡ true → ⊥) → HeaderOffence l wrongForm
 
 -- the first control field that is wrong, by its form or its value
 pub data ControlsOffence (n : ℕ) : List (List ℕ) → ℕ → Type 0 where
-  form : (f : List ℕ) (fs : List (List ℕ)) → ((c : Control) → ControlField f c → ⊥) → ControlsOffence n (f ∷ fs) 1
-  value : (f : List ℕ) (fs : List (List ℕ)) (c : Control) → ControlField f c → n ≤ c .line → ControlsOffence n (f ∷ fs) 3
+  form : (f : List ℕ) (fs : List (List ℕ)) → ((c : Control) → ControlField f c → ⊥) → ControlsOffence n (f ∷ fs) wrongForm
+  value : (f : List ℕ) (fs : List (List ℕ)) (c : Control) → ControlField f c → n ≤ c .line → ControlsOffence n (f ∷ fs) lineOutside
   later : (f : List ℕ) (fs : List (List ℕ)) (c : Control) → ControlField f c → c .line < n → (number : ℕ) → ControlsOffence n fs number → ControlsOffence n (f ∷ fs) number
 
 -- line t is one of the controls'
@@ -69,24 +70,24 @@ pub record GoodFields (n : ℕ) (l : Line) (k : ℕ) (cs : List Control) : Type 
 -- line i, after the header and so many gate lines
 pub data LineOffence (n i count : ℕ) (l : Line) : ℕ → Type 0 where
   -- it does not start `g` tab, and is not `end` with its LF
-  no-gate : ((t : List ℕ) (fs : List (List ℕ)) → fieldsOf (l .bytes) ≡ gateWord ∷ t ∷ fs → ⊥) → (l .bytes ≡ endWord → l .ended ≡ true → ⊥) → LineOffence n i count l 1
+  no-gate : ((t : List ℕ) (fs : List (List ℕ)) → fieldsOf (l .bytes) ≡ gateWord ∷ t ∷ fs → ⊥) → (l .bytes ≡ endWord → l .ended ≡ true → ⊥) → LineOffence n i count l wrongForm
   -- it starts `g` tab, and 1,024 gate lines stand before it
-  many : (t : List ℕ) (fs : List (List ℕ)) → fieldsOf (l .bytes) ≡ gateWord ∷ t ∷ fs → maxGates ≤ count → LineOffence n i count l 6
+  many : (t : List ℕ) (fs : List (List ℕ)) → fieldsOf (l .bytes) ≡ gateWord ∷ t ∷ fs → maxGates ≤ count → LineOffence n i count l tooManyGates
   -- the target's form, its value, then the controls
-  target-form : (t : List ℕ) (fs : List (List ℕ)) → fieldsOf (l .bytes) ≡ gateWord ∷ t ∷ fs → count < maxGates → ((k : ℕ) → NumberField t k → ⊥) → LineOffence n i count l 1
-  target-value : (t : List ℕ) (fs : List (List ℕ)) → fieldsOf (l .bytes) ≡ gateWord ∷ t ∷ fs → count < maxGates → (k : ℕ) → NumberField t k → n ≤ k → LineOffence n i count l 3
+  target-form : (t : List ℕ) (fs : List (List ℕ)) → fieldsOf (l .bytes) ≡ gateWord ∷ t ∷ fs → count < maxGates → ((k : ℕ) → NumberField t k → ⊥) → LineOffence n i count l wrongForm
+  target-value : (t : List ℕ) (fs : List (List ℕ)) → fieldsOf (l .bytes) ≡ gateWord ∷ t ∷ fs → count < maxGates → (k : ℕ) → NumberField t k → n ≤ k → LineOffence n i count l lineOutside
   controls : (t : List ℕ) (fs : List (List ℕ)) → fieldsOf (l .bytes) ≡ gateWord ∷ t ∷ fs → count < maxGates → (k : ℕ) → NumberField t k → k < n
       → (number : ℕ) → ControlsOffence n fs number → LineOffence n i count l number
   -- all fields are good: a missing LF, the target among its controls, controls that do not rise
-  no-end : (k : ℕ) (cs : List Control) → GoodFields n l k cs → count < maxGates → l .ended ≡ false → LineOffence n i count l 1
-  controlled : (k : ℕ) (cs : List Control) → GoodFields n l k cs → count < maxGates → l .ended ≡ true → Among k cs → LineOffence n i count l 4
-  not-rising : (k : ℕ) (cs : List Control) → GoodFields n l k cs → count < maxGates → l .ended ≡ true → (Among k cs → ⊥) → NotRising cs → LineOffence n i count l 5
+  no-end : (k : ℕ) (cs : List Control) → GoodFields n l k cs → count < maxGates → l .ended ≡ false → LineOffence n i count l wrongForm
+  controlled : (k : ℕ) (cs : List Control) → GoodFields n l k cs → count < maxGates → l .ended ≡ true → Among k cs → LineOffence n i count l targetControlled
+  not-rising : (k : ℕ) (cs : List Control) → GoodFields n l k cs → count < maxGates → l .ended ≡ true → (Among k cs → ⊥) → NotRising cs → LineOffence n i count l notRising
 
 -- the lines before are good, and the line or the missing line after them is not
-pub data FileFault (text : List ℕ) : ℕ → ℕ → Type 0 where
-  header-line : (number : ℕ) → HeaderOffence (firstLine (linesOf text)) number → FileFault text number 0
+pub data FileRefused (text : List ℕ) : ℕ → ℕ → Type 0 where
+  header-line : (number : ℕ) → HeaderOffence (firstLine (linesOf text)) number → FileRefused text number 0
   later-line : (n : ℕ) (gs : List Gate) (rest : List ℕ) → FileCascade n gs → text ≡ headerLine n ++ (gateLines gs ++ rest)
-      → (number : ℕ) → LineOffence n (length gs + 1) (length gs) (firstLine (linesOf rest)) number → FileFault text number (length gs + 1)
+      → (number : ℕ) → LineOffence n (length gs + 1) (length gs) (firstLine (linesOf rest)) number → FileRefused text number (length gs + 1)
 
 -- ---- the laws, of any reader
 
@@ -97,7 +98,7 @@ pub record ReaderLaws (read : List ℕ → Outcome Reading) : Type 0 where
   -- a text that is read as a cascade, with t bytes taken, has the cascade's text as its first t bytes
   pub read-text : (text : List ℕ) (c : Reading) → read text ≡ served c → (FileCascade (c .lines) (c .gates)) × (take (c .taken) text ≡ textOf (c .lines) (c .gates))
   -- refused with a number at a place exactly for what is wrong there first
-  pub read-refused : (text : List ℕ) (number place : ℕ) → (read text ≡ refused number place) ↔ FileFault text number place
+  pub read-refused : (text : List ℕ) (number place : ℕ) → (read text ≡ refused number place) ↔ FileRefused text number place
 
 -- a text that starts with the text of a cascade, and a buffer that has room for its words
 pub record Readable (text : List ℕ) (room : ℕ) (c : ReadCounts) : Type 0 where
@@ -110,9 +111,9 @@ pub record Readable (text : List ℕ) (room : ℕ) (c : ReadCounts) : Type 0 whe
   pub fits : 3 * length cascade ≤ room
 
 -- what is wrong with the text; or, where nothing is, the buffer is too short
-pub data ReadFault (text : List ℕ) (room : ℕ) : ℕ → ℕ → Type 0 where
-  wrong : (number place : ℕ) → FileFault text number place → ReadFault text room number place
-  short : (n : ℕ) (gs : List Gate) (rest : List ℕ) → FileCascade n gs → text ≡ textOf n gs ++ rest → room < 3 * length gs → ReadFault text room 10 0
+pub data ReadRefused (text : List ℕ) (room : ℕ) : ℕ → ℕ → Type 0 where
+  wrong : (number place : ℕ) → FileRefused text number place → ReadRefused text room number place
+  short : (n : ℕ) (gs : List Gate) (rest : List ℕ) → FileCascade n gs → text ≡ textOf n gs ++ rest → room < 3 * length gs → ReadRefused text room noRoom 0
 
 -- the words of a cascade, and a buffer that has room for its text of k bytes
 pub record Writable (n : ℕ) (ws : List ℕ) (room k : ℕ) : Type 0 where
@@ -122,9 +123,9 @@ pub record Writable (n : ℕ) (ws : List ℕ) (room k : ℕ) : Type 0 where
   pub fits : k ≤ room
 
 -- what is wrong with a writing: with the words, or 10 for a cascade and a buffer shorter than its text
-pub data WriteFault (n : ℕ) (ws : List ℕ) (room : ℕ) : ℕ → ℕ → Type 0 where
-  words : {number place : ℕ} → WordsFault n ws maxGates number place → WriteFault n ws room number place
-  no-room : (k : ℕ) → Cascade n ws maxGates k → room < length (textOf n (gatesOf ws)) → WriteFault n ws room 10 0
+pub data WriteRefused (n : ℕ) (ws : List ℕ) (room : ℕ) : ℕ → ℕ → Type 0 where
+  words : {number place : ℕ} → WordsRefused n ws maxGates number place → WriteRefused n ws room number place
+  no-room : (k : ℕ) → Cascade n ws maxGates k → room < length (textOf n (gatesOf ws)) → WriteRefused n ws room noRoom 0
 
 -- of two calls on files, by their outcomes and what they leave in their buffers
 pub record RoundTrip (read : List ℕ → ℕ → Outcome ReadCounts) (read-into : List ℕ → List ℕ → List ℕ)
@@ -154,9 +155,9 @@ pub record FileLaws : Type 0 where
   pub idle-writing : (read : List ℕ → ℕ → Outcome ReadCounts) (read-into : List ℕ → List ℕ → List ℕ) → RoundTrip read read-into writeOutcome (λ n ws out. out) → ⊥
   -- a text is served exactly when it starts with the text of a cascade and the buffer is long enough, and refused exactly by what is wrong
   pub read-served : (text : List ℕ) (room : ℕ) (c : ReadCounts) → (readOutcome text room ≡ served c) ↔ Readable text room c
-  pub read-refused : (text : List ℕ) (room number place : ℕ) → (readOutcome text room ≡ refused number place) ↔ ReadFault text room number place
+  pub read-refused : (text : List ℕ) (room number place : ℕ) → (readOutcome text room ≡ refused number place) ↔ ReadRefused text room number place
   -- words are written exactly where they are a cascade's and the buffer has room for its text, and refused exactly by what is wrong
   pub write-served : (n : ℕ) (ws : List ℕ) (room k : ℕ) → (writeOutcome n ws room ≡ served k) ↔ Writable n ws room k
-  pub write-refused : (n : ℕ) (ws : List ℕ) (room number place : ℕ) → (writeOutcome n ws room ≡ refused number place) ↔ WriteFault n ws room number place
+  pub write-refused : (n : ℕ) (ws : List ℕ) (room number place : ℕ) → (writeOutcome n ws room ≡ refused number place) ↔ WriteRefused n ws room number place
   -- a reader that refuses all does not have the laws
   pub refuses-all : (read : List ℕ → Outcome Reading) → ((text : List ℕ) → (number : ℕ) × (place : ℕ) × (read text ≡ refused number place)) → ReaderLaws read → ⊥

@@ -12,8 +12,9 @@ use Rattle.bits.specs.Lists.{over}
 use Rattle.circuit.specs.declared.gate.Gate.{Gate}
 use Rattle.circuit.specs.Gate.{maxLines, maxGates, notGate, valid, fires, apply, toggled, controlCount, controlsOf, allMet}
 use Rattle.circuit.specs.Outcome.{served, refused, Untouched, Yields}
-use Rattle.circuit.specs.Words.{gatesOf, wordsOf, allValid, checkOutcome, Cascade, WordsFault, Counts, pairOutcome, PairFault}
+use Rattle.circuit.specs.Words.{gatesOf, wordsOf, allValid, checkOutcome, Cascade, Counts, pairOutcome, WordsRefused, PairRefused}
 use Rattle.circuit.specs.Run.{run, runTested, Equal, Differs, runOutcome, recordsOutcome}
+use Rattle.circuit.specs.Refusal.{badState, noRoom}
 use Rattle.circuit.specs.Inverse.{inverse, inverseOutcome, inverseBuffer}
 use Rattle.circuit.specs.FileLaws.{FileLaws, FileCascade}
 
@@ -56,21 +57,21 @@ pub record WordsLaws : Type 0 where
   pub words-gates : (ws : List ℕ) → length ws % 3 ≡ 0 → wordsOf (gatesOf ws) ≡ ws
   -- the tests serve exactly the cascades, and refuse exactly by what is wrong
   pub check-served : (n : ℕ) (ws : List ℕ) (limit k : ℕ) → (checkOutcome n ws limit ≡ served k) ↔ Cascade n ws limit k
-  pub check-refused : (n : ℕ) (ws : List ℕ) (limit number place : ℕ) → (checkOutcome n ws limit ≡ refused number place) ↔ WordsFault n ws limit number place
+  pub check-refused : (n : ℕ) (ws : List ℕ) (limit number place : ℕ) → (checkOutcome n ws limit ≡ refused number place) ↔ WordsRefused n ws limit number place
   pub pair-served : (na : ℕ) (a : List ℕ) (nb : ℕ) (b : List ℕ) (c : Counts)
       → (pairOutcome na a nb b ≡ served c) ↔ ((Cascade na a maxGates (c .first)) × (Cascade nb b maxGates (c .second)) × (na ≡ nb))
   pub pair-refused : (na : ℕ) (a : List ℕ) (nb : ℕ) (b : List ℕ) (number place : ℕ)
-      → (pairOutcome na a nb b ≡ refused number place) ↔ PairFault na a nb b number place
+      → (pairOutcome na a nb b ≡ refused number place) ↔ PairRefused na a nb b number place
 
 -- what is wrong with a run: with the words, or 9 for a cascade and a state of 2 ^ n or more
-pub data RunFault (n : ℕ) (ws : List ℕ) (s : ℕ) : ℕ → ℕ → Type 0 where
-  run-words : {number place : ℕ} → WordsFault n ws maxGates number place → RunFault n ws s number place
-  outside : (k : ℕ) → Cascade n ws maxGates k → 2 ^ n ≤ s → RunFault n ws s 9 0
+pub data RunRefused (n : ℕ) (ws : List ℕ) (s : ℕ) : ℕ → ℕ → Type 0 where
+  run-words : {number place : ℕ} → WordsRefused n ws maxGates number place → RunRefused n ws s number place
+  outside : (k : ℕ) → Cascade n ws maxGates k → 2 ^ n ≤ s → RunRefused n ws s badState 0
 
 -- what is wrong with the call of the inverse: with the words, or 10 for a cascade and a buffer of fewer words than it has
-pub data InverseFault (n : ℕ) (ws : List ℕ) (room : ℕ) : ℕ → ℕ → Type 0 where
-  inverse-words : {number place : ℕ} → WordsFault n ws maxGates number place → InverseFault n ws room number place
-  short : (k : ℕ) → Cascade n ws maxGates k → room < length ws → InverseFault n ws room 10 0
+pub data InverseRefused (n : ℕ) (ws : List ℕ) (room : ℕ) : ℕ → ℕ → Type 0 where
+  inverse-words : {number place : ℕ} → WordsRefused n ws maxGates number place → InverseRefused n ws room number place
+  short : (k : ℕ) → Cascade n ws maxGates k → room < length ws → InverseRefused n ws room noRoom 0
 
 -- what stands in the buffer after a served call of the inverse of k gates: the inverse, a cascade whose own inverse is the words given, in any buffer with room; and the rest as it was
 pub record InverseStands (n : ℕ) (ws out : List ℕ) (k : ℕ) : Type 0 where
@@ -89,16 +90,16 @@ pub record CascadeLaws : Type 0 where
   pub run-tested : (gs : List Gate) → allValid maxLines gs ≡ true → (s : ℕ) → runTested gs s ≡ run gs s
   -- a run is served exactly for a cascade and a state, with the output; and refused exactly by what is wrong
   pub run-served : (n : ℕ) (ws : List ℕ) (s t : ℕ) → (runOutcome n ws s ≡ served t) ↔ ((k : ℕ) × (Cascade n ws maxGates k) × (s < 2 ^ n) × (t ≡ run (gatesOf ws) s))
-  pub run-refused : (n : ℕ) (ws : List ℕ) (s number place : ℕ) → (runOutcome n ws s ≡ refused number place) ↔ RunFault n ws s number place
+  pub run-refused : (n : ℕ) (ws : List ℕ) (s number place : ℕ) → (runOutcome n ws s ≡ refused number place) ↔ RunRefused n ws s number place
   -- the same of a run over gate records, which has the outcome of the run on their words
   pub records-served : (n : ℕ) (gs : List Gate) (s t : ℕ) → (recordsOutcome n gs s ≡ served t) ↔ ((FileCascade n gs) × (s < 2 ^ n) × (t ≡ run gs s))
-  pub records-refused : (n : ℕ) (gs : List Gate) (s number place : ℕ) → (recordsOutcome n gs s ≡ refused number place) ↔ RunFault n (wordsOf gs) s number place
+  pub records-refused : (n : ℕ) (gs : List Gate) (s number place : ℕ) → (recordsOutcome n gs s ≡ refused number place) ↔ RunRefused n (wordsOf gs) s number place
   pub records-words : (n : ℕ) (gs : List Gate) (s : ℕ) → recordsOutcome n gs s ≡ runOutcome n (wordsOf gs) s
   -- the call of the inverse is served exactly for a cascade and a buffer with room, refused exactly by what is wrong, and then leaves its buffer as it was
   pub inverse-served : (n : ℕ) (ws : List ℕ) (room k : ℕ) → (inverseOutcome n ws room ≡ served k) ↔ ((Cascade n ws maxGates k) × (length ws ≤ room))
   pub inverse-stands : (n : ℕ) (ws out : List ℕ) (k : ℕ) → inverseOutcome n ws (length out) ≡ served k → InverseStands n ws out k
   pub inverse-untouched : (n : ℕ) (ws out : List ℕ) → Untouched (inverseOutcome n ws (length out)) out (inverseBuffer n ws out)
-  pub inverse-refused : (n : ℕ) (ws : List ℕ) (room number place : ℕ) → (inverseOutcome n ws room ≡ refused number place) ↔ InverseFault n ws room number place
+  pub inverse-refused : (n : ℕ) (ws : List ℕ) (room number place : ℕ) → (inverseOutcome n ws room ≡ refused number place) ↔ InverseRefused n ws room number place
   -- the inverse undoes the run, both ways
   pub run-inverse : (gs : List Gate) (s : ℕ) → run (inverse gs) (run gs s) ≡ s
   pub inverse-run : (gs : List Gate) (s : ℕ) → run gs (run (inverse gs) s) ≡ s

@@ -13,11 +13,11 @@ tab = 9
 abbrev pub lineFeed : ℕ
 lineFeed = 10
 
-abbrev pub plus : ℕ
-plus = 43
+abbrev pub plusSign : ℕ
+plusSign = 43
 
-abbrev pub minus : ℕ
-minus = 45
+abbrev pub minusSign : ℕ
+minusSign = 45
 
 abbrev pub digit : ℕ → ℕ
 digit k = 48 + k
@@ -38,7 +38,7 @@ numberText k = cond (ltb k 10) (digit k ∷ []) (digit (k / 10) ∷ digit (k % 1
 
 -- a control: its sign and its line
 abbrev pub controlText : Control → List ℕ
-controlText c = cond (c .positive) plus minus ∷ numberText (c .line)
+controlText c = cond (c .positive) plusSign minusSign ∷ numberText (c .line)
 
 -- fields, each after a tab
 unfoldable pub controlsText : List Control → List ℕ

@@ -23,8 +23,11 @@ gatesOf (p ∷ q ∷ []) = []
 gatesOf (p ∷ q ∷ t ∷ ws) = record { positive = p; negative = q; target = t } ∷ gatesOf ws
 
 -- gate i; three zero words where there is none
+abbrev pub gateIn : List Gate → ℕ → Gate
+gateIn gs i = getD gs i (notGate 0)
+
 abbrev pub gateAt : List ℕ → ℕ → Gate
-gateAt ws i = getD (gatesOf ws) i (notGate 0)
+gateAt ws i = gateIn (gatesOf ws) i
 
 -- the words of a gate, and of gates
 abbrev pub gateWords : Gate → List ℕ
@@ -75,12 +78,12 @@ pub record Cascade (n : ℕ) (ws : List ℕ) (limit k : ℕ) : Type 0 where
   pub gates : allValid n (gatesOf ws) ≡ true
 
 -- what is wrong with a caller's words, by number and place, where nothing of an earlier number is
-pub data WordsFault (n : ℕ) (ws : List ℕ) (limit : ℕ) : ℕ → ℕ → Type 0 where
-  lines : (1 ≤ n → n ≤ maxLines → ⊥) → WordsFault n ws limit 2 0
-  thirds : 1 ≤ n → n ≤ maxLines → (length ws % 3 ≡ 0 → ⊥) → WordsFault n ws limit 11 0
-  many : 1 ≤ n → n ≤ maxLines → length ws % 3 ≡ 0 → limit < length ws / 3 → WordsFault n ws limit 6 0
+pub data WordsRefused (n : ℕ) (ws : List ℕ) (limit : ℕ) : ℕ → ℕ → Type 0 where
+  lines : (1 ≤ n → n ≤ maxLines → ⊥) → WordsRefused n ws limit badLineCount 0
+  thirds : 1 ≤ n → n ≤ maxLines → (length ws % 3 ≡ 0 → ⊥) → WordsRefused n ws limit badWordCount 0
+  many : 1 ≤ n → n ≤ maxLines → length ws % 3 ≡ 0 → limit < length ws / 3 → WordsRefused n ws limit tooManyGates 0
   gate : 1 ≤ n → n ≤ maxLines → length ws % 3 ≡ 0 → length ws / 3 ≤ limit
-      → (i : ℕ) → i < length ws / 3 → allValid n (take i (gatesOf ws)) ≡ true → valid n (gateAt ws i) ≡ false → WordsFault n ws limit 7 i
+      → (i : ℕ) → i < length ws / 3 → allValid n (take i (gatesOf ws)) ≡ true → valid n (gateAt ws i) ≡ false → WordsRefused n ws limit noGate i
 
 -- the numbers of gates of two cascades
 pub record Counts : Type 0 where
@@ -95,10 +98,10 @@ pairOutcome na a nb b =
     demand (eqb na nb) lineCountsDiffer 0 (served (record { first = k; second = m }))))
 
 -- what is wrong with two cascades: with the first, with the second where the first is good, or 8 where both are
-pub data PairFault (na : ℕ) (a : List ℕ) (nb : ℕ) (b : List ℕ) : ℕ → ℕ → Type 0 where
-  first-fault : {number place : ℕ} → WordsFault na a maxGates number place → PairFault na a nb b number place
-  second-fault : {number place : ℕ} (k : ℕ) → Cascade na a maxGates k → WordsFault nb b maxGates number place → PairFault na a nb b number place
-  differ : (k m : ℕ) → Cascade na a maxGates k → Cascade nb b maxGates m → (na ≡ nb → ⊥) → PairFault na a nb b 8 0
+pub data PairRefused (na : ℕ) (a : List ℕ) (nb : ℕ) (b : List ℕ) : ℕ → ℕ → Type 0 where
+  first-refused : {number place : ℕ} → WordsRefused na a maxGates number place → PairRefused na a nb b number place
+  second-refused : {number place : ℕ} (k : ℕ) → Cascade na a maxGates k → WordsRefused nb b maxGates number place → PairRefused na a nb b number place
+  differ : (k m : ℕ) → Cascade na a maxGates k → Cascade nb b maxGates m → (na ≡ nb → ⊥) → PairRefused na a nb b lineCountsDiffer 0
 
 -- the answers in document 01's numbers and values
 abbrev pub ofCount : CountAnswer → Outcome ℕ

@@ -19,7 +19,7 @@ use Rattle.checking.specs.Miter.{miterGates}
 use Rattle.checking.specs.Clauses.{clausesOf}
 use Rattle.checking.specs.Stored.{stored}
 use Rattle.text.specs.Tomiter.{maxInput, maxWords, refusedAt, listVerdict, pairVerdict, secondVerdict, verdict}
-use Rattle.text.specs.TextLaws.{InputFault, too-long, first-file, second-file, after-end, lines-differ, list-long}
+use Rattle.text.specs.TextLaws.{ProgramRefused, too-long, first-file, second-file, after-end, lines-differ, list-long}
 use Rattle.text.proofs.Telling.{after-first, after-second, not-refused}
 use Rattle.text.proofs.list.Laws.{input-long, first-bad, first-good, second-bad, second-more, second-pair}
 
@@ -29,7 +29,7 @@ nothing-left : (xs ys : List ℕ) → length xs ≡ length (xs ++ ys) → ys ≡
 nothing-left xs [] e = refl
 nothing-left xs (y ∷ ys) e = absurd (omega (arith, length-append xs (y ∷ ys)))
 
-told : (input : List ℕ) (number file place : ℕ) → InputFault input number file place → verdict input ≡ refusedAt number file place
+told : (input : List ℕ) (number file place : ℕ) → ProgramRefused input number file place → verdict input ≡ refusedAt number file place
 unfolding pairVerdict listVerdict
 told input _ _ _ (too-long h) = input-long input h
 told input _ _ _ (first-file number place h f) = first-bad input h number place (reader .read-refused input number place .1 f)
@@ -49,12 +49,12 @@ told input _ _ _ (list-long n a b h good-a good-b e l) =
 -- ---- and only that
 
 -- the same refusal
-as-told : (input : List ℕ) (a b c number file place : ℕ) → InputFault input a b c → refusedAt a b c ≡ refusedAt number file place → InputFault input number file place
+as-told : (input : List ℕ) (a b c number file place : ℕ) → ProgramRefused input a b c → refusedAt a b c ≡ refusedAt number file place → ProgramRefused input number file place
 as-told input a b c number file place f e =
     let x : a ≡ number = cc in
     let y : b ≡ file = cc in
     let z : c ≡ place = cc in
-    subst (λ (k : ℕ). InputFault input number file k) z (subst (λ (k : ℕ). InputFault input number k c) y (subst (λ (k : ℕ). InputFault input k b c) x f))
+    subst (λ (k : ℕ). ProgramRefused input number file k) z (subst (λ (k : ℕ). ProgramRefused input number k c) y (subst (λ (k : ℕ). ProgramRefused input k b c) x f))
 
 -- a text that was read is the cascade's text and what is left
 module _ (rest : List ℕ) (d : Reading) (r : reading rest ≡ served d) where
@@ -74,7 +74,7 @@ module _ (rest : List ℕ) (d : Reading) (r : reading rest ≡ served d) where
 module _ (input : List ℕ) (number file place : ℕ) (short : length input ≤ maxInput) where
   module _ (n : ℕ) (a : List Gate) (good-a : FileCascade n a) where
     list-found : (b : List Gate) → FileCascade n b → input ≡ textOf n a ++ textOf n b → listVerdict n (miterGates a b) ≡ refusedAt number file place
-        → InputFault input number file place
+        → ProgramRefused input number file place
     unfolding listVerdict
     list-found b good-b e v =
         either (leb (length (stored (clausesOf n (miterGates a b)))) maxWords)
@@ -84,7 +84,7 @@ module _ (input : List ℕ) (number file place : ℕ) (short : length input ≤ 
         (sym (cond-false (leb (length (stored (clausesOf n (miterGates a b)))) maxWords) _ _ t) ∙ v))
 
     pair-found : (m : ℕ) (b : List Gate) → FileCascade m b → input ≡ textOf n a ++ textOf m b → pairVerdict n a m b ≡ refusedAt number file place
-        → InputFault input number file place
+        → ProgramRefused input number file place
     unfolding pairVerdict
     pair-found m b good-b e v =
         either (eqb n m)
@@ -95,7 +95,7 @@ module _ (input : List ℕ) (number file place : ℕ) (short : length input ≤ 
         as-told input 8 0 0 number file place (lines-differ n a m b short good-a good-b e (eqb-false n m t)) (sym (cond-false (eqb n m) _ _ t) ∙ v))
 
     second-found : (rest : List ℕ) → input ≡ textOf n a ++ rest → (o : Outcome Reading) → reading rest ≡ o → secondVerdict n a rest ≡ refusedAt number file place
-        → InputFault input number file place
+        → ProgramRefused input number file place
     second-found rest e (refused k p) r v =
         as-told input k 2 p number file place (second-file n a rest k p short good-a e (reader .read-refused rest k p .0 r)) (sym (second-bad n a rest k p r) ∙ v)
     second-found rest e (served d) r v =
@@ -111,7 +111,7 @@ module _ (input : List ℕ) (number file place : ℕ) (short : length input ≤ 
         (after-end n a (d .lines) (d .gates) (drop (d .taken) rest) short good-a good-b (e ∙ ap (λ (l : List ℕ). textOf n a ++ l) (cut rest d r)) (λ z. ne (taken-all rest d r z)))
         (sym (second-more n a rest (d .lines) (d .taken) (d .gates) r ne) ∙ v))
 
-  first-found : (o : Outcome Reading) → reading input ≡ o → verdict input ≡ refusedAt number file place → InputFault input number file place
+  first-found : (o : Outcome Reading) → reading input ≡ o → verdict input ≡ refusedAt number file place → ProgramRefused input number file place
   first-found (refused k p) r v =
       as-told input k 1 p number file place (first-file k p short (reader .read-refused input k p .0 r)) (sym (first-bad input short k p r) ∙ v)
   first-found (served c) r v =
@@ -120,11 +120,11 @@ module _ (input : List ℕ) (number file place : ℕ) (short : length input ≤ 
       second-found (c .lines) (c .gates) good rest (sym (take-append-drop (c .taken) input) ∙ ap (λ (l : List ℕ). l ++ rest) text) (reading rest) refl
       (sym (first-good input short c r) ∙ v)
 
-found : (input : List ℕ) (number file place : ℕ) → verdict input ≡ refusedAt number file place → InputFault input number file place
+found : (input : List ℕ) (number file place : ℕ) → verdict input ≡ refusedAt number file place → ProgramRefused input number file place
 found input number file place v =
     either (leb (length input) maxInput)
     (λ t. first-found input number file place (leb-true _ _ t) (reading input) refl v)
     (λ t. let h : maxInput < length input = leb-false _ _ t in as-told input 10 0 0 number file place (too-long h) (sym (input-long input h) ∙ v))
 
-pub refused-exactly : (input : List ℕ) (number file place : ℕ) → (verdict input ≡ refusedAt number file place) ↔ InputFault input number file place
+pub refused-exactly : (input : List ℕ) (number file place : ℕ) → (verdict input ≡ refusedAt number file place) ↔ ProgramRefused input number file place
 refused-exactly input number file place = (found input number file place, told input number file place)

@@ -16,7 +16,7 @@ use Rattle.circuit.proofs.file.Lines.{free, free-append}
 use Rattle.text.specs.Dimacs.{decimal, partedBy, numberRead}
 use Rattle.text.specs.Tomiter.{Verdict, listed, refusedAt, verdict, refusedWord, refusalText, verdictText, tomiterText, tomiterOutcome, tomiterBuffer, WritesText}
 use Rattle.text.specs.BytesTell.{StartsProblem, TextTells, BytesTell}
-use Rattle.text.specs.TextLaws.{InputFault, Written, clauses, refusal, ProgramLaws}
+use Rattle.text.specs.TextLaws.{ProgramRefused, Written, clauses, refusal, ProgramLaws}
 use Rattle.text.proofs.Reading.{parts-cut, parts-one, decimal-free, number-back}
 use Rattle.text.proofs.Telling.{refusal-starts, listed-fits, text-starts, text-fitting, text-told, dimacs-starts}
 use Rattle.text.proofs.Faults.{refused-exactly}
@@ -66,7 +66,7 @@ refusal-apart number file place number′ file′ place′ e =
 
 -- ---- the program
 
-text-refused : (input : List ℕ) (number file place : ℕ) → tomiterText input ≡ refusalText number file place → InputFault input number file place
+text-refused : (input : List ℕ) (number file place : ℕ) → tomiterText input ≡ refusalText number file place → ProgramRefused input number file place
 unfolding tomiterText
 text-refused input number file place e = refused-exactly input number file place .0 (go (verdict input) refl)
   where
@@ -76,7 +76,7 @@ text-refused input number file place e = refused-exactly input number file place
         let (a, b, c) = refusal-apart k f p number file place (sym (ap verdictText q) ∙ e) in
         q ∙ ap (λ (x : ℕ). refusedAt x f p) a ∙ ap (λ (x : ℕ). refusedAt number x p) b ∙ ap (refusedAt number file) c
 
-refused-text : (input : List ℕ) (number file place : ℕ) → InputFault input number file place → tomiterText input ≡ refusalText number file place
+refused-text : (input : List ℕ) (number file place : ℕ) → ProgramRefused input number file place → tomiterText input ≡ refusalText number file place
 unfolding tomiterText
 refused-text input number file place f = ap verdictText (refused-exactly input number file place .1 f)
 

@@ -10,12 +10,12 @@ use lib.IntN.{ℤ, pos, negsuc}
 use lib.ListN.{length}
 use borrow.Author.Tests.{ne-eqb, not-true, ltb-true, ltb-false}
 use Rattle.bits.proofs.Bools.{either, and-parts, both, cond-true, cond-false, refuted}
-use Rattle.circuit.specs.Text.{lineFeed, minus, digit}
+use Rattle.circuit.specs.Text.{lineFeed, minusSign, digit}
 use Rattle.circuit.specs.File.{longer, isDigit, same}
 use Rattle.circuit.proofs.file.Lines.{free, free-append, longer-some}
 use Rattle.circuit.proofs.file.Numbers.{is-digit}
 use Rattle.checking.specs.Clauses.{Clause, OR, XOR}
-use Rattle.checking.specs.Satisfaction.{size, LiteralsWithin, ClausesWithin}
+use Rattle.checking.specs.Satisfaction.{variableOf, LiteralsWithin, ClausesWithin}
 use Rattle.text.specs.Dimacs.{blank, xorSign, problemWord, cnfWord, decimalWithin, decimal, literalText, literalsText, clauseText, clausesText, headerText, dimacsOf, partedBy, bothRead, thenRead, digitsRead, numberRead, signedRead, literalRead, literalsRead, clauseRead, linesRead, header, headerRead, headed, readLines, dimacsRead}
 use Rattle.text.proofs.Decimal.{within-short, within-long}
 
@@ -177,15 +177,15 @@ unfolding literalRead
 lead-literal [] l = absurd (mathlib.Core.List.cons≢nil (sym (l .is)))
 lead-literal (b ∷ bs) l =
     let e : b ≡ l .first = let i = l .is in cc in
-    cond-false (eqb b minus) _ _ (ne-eqb b minus (λ f. omega (arith, l .above)))
+    cond-false (eqb b minusSign) _ _ (ne-eqb b minusSign (λ f. omega (arith, l .above)))
 
-literal-back : (l : ℤ) → 1 ≤ size l → literalRead (literalText l) ≡ some l
+literal-back : (l : ℤ) → 1 ≤ variableOf l → literalRead (literalText l) ≡ some l
 unfolding literalRead
 literal-back (pos zero) h = absurd (omega arith)
 literal-back (pos (suc i)) h = lead-literal (decimal (suc i)) (decimal-lead (suc i) h) ∙ ap (signedRead false) (number-back (suc i))
 literal-back (negsuc i) h = ap (signedRead true) (number-back (suc i))
 
-literal-free : (s : ℕ) (l : ℤ) → isDigit s ≡ false → eqb minus s ≡ false → free s (literalText l) ≡ true
+literal-free : (s : ℕ) (l : ℤ) → isDigit s ≡ false → eqb minusSign s ≡ false → free s (literalText l) ≡ true
 unfolding free
 literal-free s (pos v) n m = decimal-free s v n
 literal-free s (negsuc i) n m = both (ap not m) (decimal-free s (suc i) n)
@@ -215,7 +215,7 @@ literals-back v (l ∷ ls) w =
     ∙ literals-more (literalText l) (partedBy blank (bodyText ls)) (parts-some blank (bodyText ls))
     ∙ ap₂ (bothRead _∷_) (literal-back l (w .0)) (literals-back v ls (w .1 .1))
 
-body-free : (s : ℕ) (ls : List ℤ) → isDigit s ≡ false → eqb minus s ≡ false → eqb blank s ≡ false → free s (bodyText ls) ≡ true
+body-free : (s : ℕ) (ls : List ℤ) → isDigit s ≡ false → eqb minusSign s ≡ false → eqb blank s ≡ false → free s (bodyText ls) ≡ true
 unfolding literalsText free
 body-free s [] n m b = digits-free s (48 ∷ []) n (one-digit 0 (omega arith))
 body-free s (l ∷ ls) n m b =

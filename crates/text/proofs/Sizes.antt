@@ -13,12 +13,12 @@ use Rattle.circuit.specs.declared.gate.Gate.{Gate}
 use Rattle.circuit.specs.Outcome.{Outcome, served, refused}
 use Rattle.circuit.specs.Text.{tab, lineFeed, digit}
 use Rattle.circuit.specs.File.{Line, Reading, reading}
-use Rattle.circuit.specs.FileLaws.{FileCascade, HeaderOffence, no-lines, no-number, outside, ControlsOffence, form, value, later, LineOffence, no-gate, many, target-form, target-value, controls, controlled, not-rising, FileFault, header-line, later-line}
+use Rattle.circuit.specs.FileLaws.{FileCascade, HeaderOffence, no-lines, no-number, outside, ControlsOffence, form, value, later, LineOffence, no-gate, many, target-form, target-value, controls, controlled, not-rising, FileRefused, header-line, later-line}
 use Rattle.circuit.specs.FileLaws as laws
 use Rattle.circuit.proofs.file.Laws.{reader}
 use Rattle.checking.specs.Miter.{miterGates}
 use Rattle.checking.specs.Clauses.{Clause, OR, XOR, clausesOf}
-use Rattle.checking.specs.Satisfaction.{size, LiteralsWithin, clauseLiterals, ClausesWithin}
+use Rattle.checking.specs.Satisfaction.{variableOf, LiteralsWithin, clauseLiterals, ClausesWithin}
 use Rattle.checking.specs.Stored.{storedClause, stored}
 use Rattle.checking.proofs.clauses.Laws.{clause-laws}
 use Rattle.text.specs.Dimacs.{blank, decimal, literalText, literalsText, closing, clauseText, clausesText, headerText, dimacsOf}
@@ -40,7 +40,7 @@ decimal-few (suc d) k h =
 
 -- ---- the text of a clause list
 
-literal-few : (v : ℕ) (l : ℤ) → v ≤ 4224 → size l ≤ v → length (literalText l) ≤ 5
+literal-few : (v : ℕ) (l : ℤ) → v ≤ 4224 → variableOf l ≤ v → length (literalText l) ≤ 5
 literal-few v (pos i) h s = omega (arith, decimal-few 3 i (omega arith))
 literal-few v (negsuc i) h s = omega (arith, decimal-few 3 (suc i) (omega arith))
 
@@ -108,7 +108,7 @@ line-number n i count l _ (laws.LineOffence.no-end _ _ _ _ _) = omega arith
 line-number n i count l _ (controlled _ _ _ _ _ _) = omega arith
 line-number n i count l _ (not-rising _ _ _ _ _ _ _) = omega arith
 
-fault-small : (text : List ℕ) (number place : ℕ) → FileFault text number place → (number < 100) × (place < 10000)
+fault-small : (text : List ℕ) (number place : ℕ) → FileRefused text number place → (number < 100) × (place < 10000)
 fault-small text _ _ (header-line number o) = (header-number _ number o, omega arith)
 fault-small text _ _ (later-line n gs rest good starts number o) = (line-number n _ _ _ number o, omega (arith, good .few))
 

@@ -9,7 +9,7 @@ use lib.Dec.{eqb}
 use lib.IntN.{ℤ, pos, negsuc}
 use borrow.Author.Tests.{eqb-true, eqb-false}
 use Rattle.bits.proofs.Bools.{either, cond-true, cond-false}
-use Rattle.circuit.specs.Text.{lineFeed, minus, digit}
+use Rattle.circuit.specs.Text.{lineFeed, minusSign, digit}
 use Rattle.circuit.specs.File.{longer, isDigit, same}
 use Rattle.circuit.proofs.file.Lines.{same-true}
 use Rattle.circuit.proofs.file.Numbers.{digit-bounds}
@@ -125,12 +125,12 @@ literal-was : (f : List ℕ) (l : ℤ) → literalRead f ≡ some l → f ≡ li
 unfolding literalRead
 literal-was [] l e = absurd (nothing e)
 literal-was (b ∷ bs) l e =
-    either (eqb b minus)
+    either (eqb b minusSign)
     (λ t.
-    let (i, r, is) = minus-was (numberRead bs) l (sym (cond-true (eqb b minus) _ _ t) ∙ e) in
-    ap₂ (λ (x : ℕ) (y : List ℕ). x ∷ y) (eqb-true b minus t) (number-was bs (suc i) r) ∙ ap literalText (sym is))
+    let (i, r, is) = minus-was (numberRead bs) l (sym (cond-true (eqb b minusSign) _ _ t) ∙ e) in
+    ap₂ (λ (x : ℕ) (y : List ℕ). x ∷ y) (eqb-true b minusSign t) (number-was bs (suc i) r) ∙ ap literalText (sym is))
     (λ t.
-    let (i, r, is) = plus-was (numberRead (b ∷ bs)) l (sym (cond-false (eqb b minus) _ _ t) ∙ e) in
+    let (i, r, is) = plus-was (numberRead (b ∷ bs)) l (sym (cond-false (eqb b minusSign) _ _ t) ∙ e) in
     number-was (b ∷ bs) (suc i) r ∙ ap literalText (sym is))
 
 -- ---- a clause

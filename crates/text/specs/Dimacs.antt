@@ -6,7 +6,7 @@ use Prim.Native.Nat.{ℕ, zero, suc, _+_, _*_, _-_, _/_, _%_}
 use lib.Dec.{eqb, ltb}
 use lib.IntN.{ℤ, pos, negsuc}
 use lib.ListN.{length}
-use Rattle.circuit.specs.Text.{lineFeed, minus, digit}
+use Rattle.circuit.specs.Text.{lineFeed, minusSign, digit}
 use Rattle.circuit.specs.File.{longer, same, isDigit}
 use Rattle.checking.specs.Clauses.{Clause, OR, XOR}
 
@@ -37,7 +37,7 @@ decimal k = decimalWithin k k
 -- a literal: `-` for a negative one, and its variable
 abbrev pub literalText : ℤ → List ℕ
 literalText (pos v) = decimal v
-literalText (negsuc i) = minus ∷ decimal (suc i)
+literalText (negsuc i) = minusSign ∷ decimal (suc i)
 
 -- literals, each followed by a blank
 unfoldable pub literalsText : List ℤ → List ℕ
@@ -104,7 +104,7 @@ signedRead false (some (suc i)) = some (pos (suc i))
 
 unfoldable pub literalRead : List ℕ → Option ℤ
 literalRead [] = none
-literalRead (b ∷ bs) = cond (eqb b minus) (signedRead true (numberRead bs)) (signedRead false (numberRead (b ∷ bs)))
+literalRead (b ∷ bs) = cond (eqb b minusSign) (signedRead true (numberRead bs)) (signedRead false (numberRead (b ∷ bs)))
 
 -- fields: literals, and `0` as the last
 unfoldable pub literalsRead : List (List ℕ) → Option (List ℤ)

@@ -8,8 +8,9 @@ use lib.ListN.{length, drop}
 use Rattle.bits.specs.Lists.{over}
 use Rattle.circuit.specs.declared.gate.Gate.{Gate}
 use Rattle.circuit.specs.Outcome.{served, Untouched}
+use Rattle.circuit.specs.Refusal.{wrongForm, lineCountsDiffer, noRoom}
 use Rattle.circuit.specs.Text.{textOf}
-use Rattle.circuit.specs.FileLaws.{FileCascade, FileFault}
+use Rattle.circuit.specs.FileLaws.{FileCascade, FileRefused}
 use Rattle.checking.specs.Miter.{miterGates}
 use Rattle.checking.specs.Clauses.{Clause, OR, clausesOf}
 use Rattle.checking.specs.Stored.{stored}
@@ -28,27 +29,27 @@ pub record Fitting (input : List ℕ) (n : ℕ) (a b : List Gate) : Type 0 where
   pub words : length (stored (clausesOf n (miterGates a b))) ≤ maxWords
 
 -- what is wrong with an input, by number, file and place, where nothing of an earlier kind is
-pub data InputFault (input : List ℕ) : ℕ → ℕ → ℕ → Type 0 where
+pub data ProgramRefused (input : List ℕ) : ℕ → ℕ → ℕ → Type 0 where
   -- more than 65,536 bytes
-  too-long : maxInput < length input → InputFault input 10 0 0
+  too-long : maxInput < length input → ProgramRefused input noRoom 0 0
   -- the first file; the second one, after a first that is good
-  first-file : (number place : ℕ) → length input ≤ maxInput → FileFault input number place → InputFault input number 1 place
+  first-file : (number place : ℕ) → length input ≤ maxInput → FileRefused input number place → ProgramRefused input number 1 place
   second-file : (n : ℕ) (a : List Gate) (rest : List ℕ) (number place : ℕ) → length input ≤ maxInput → FileCascade n a → input ≡ textOf n a ++ rest
-      → FileFault rest number place → InputFault input number 2 place
+      → FileRefused rest number place → ProgramRefused input number 2 place
   -- bytes after the second `end`: the lines of the second file are its header, its gates and `end`
   after-end : (n : ℕ) (a : List Gate) (m : ℕ) (b : List Gate) (rest : List ℕ) → length input ≤ maxInput → FileCascade n a → FileCascade m b
-      → input ≡ textOf n a ++ (textOf m b ++ rest) → (rest ≡ [] → ⊥) → InputFault input 1 2 (length b + 2)
+      → input ≡ textOf n a ++ (textOf m b ++ rest) → (rest ≡ [] → ⊥) → ProgramRefused input wrongForm 2 (length b + 2)
   -- line counts that differ
   lines-differ : (n : ℕ) (a : List Gate) (m : ℕ) (b : List Gate) → length input ≤ maxInput → FileCascade n a → FileCascade m b
-      → input ≡ textOf n a ++ textOf m b → (n ≡ m → ⊥) → InputFault input 8 0 0
+      → input ≡ textOf n a ++ textOf m b → (n ≡ m → ⊥) → ProgramRefused input lineCountsDiffer 0 0
   -- a clause list of more than 16,384 words
   list-long : (n : ℕ) (a b : List Gate) → length input ≤ maxInput → FileCascade n a → FileCascade n b
-      → input ≡ textOf n a ++ textOf n b → maxWords < length (stored (clausesOf n (miterGates a b))) → InputFault input 10 0 0
+      → input ≡ textOf n a ++ textOf n b → maxWords < length (stored (clausesOf n (miterGates a b))) → ProgramRefused input noRoom 0 0
 
 -- what a text is to an input: clauses that tell on which states the cascades of its two files differ, or the refusal of what is wrong with it
 pub data Written (input text : List ℕ) : Type 0 where
   clauses : (n : ℕ) (a b : List Gate) → Fitting input n a b → StartsProblem text → TextTells text n a b → Written input text
-  refusal : (number file place : ℕ) → InputFault input number file place → text ≡ refusalText number file place → Written input text
+  refusal : (number file place : ℕ) → ProgramRefused input number file place → text ≡ refusalText number file place → Written input text
 
 -- of a program, by what it writes for an input
 pub record ProgramLaws (program : List ℕ → List ℕ) : Type 0 where
@@ -59,7 +60,7 @@ pub record ProgramLaws (program : List ℕ → List ℕ) : Type 0 where
   pub fitting : (input : List ℕ) → StartsProblem (program input) → (n : ℕ) × (a : List Gate) × (b : List Gate) × Fitting input n a b
   pub told : (input : List ℕ) (n : ℕ) (a b : List Gate) → Fitting input n a b → TextTells (program input) n a b
   -- it is the text of a refusal exactly for what is wrong first
-  pub refused : (input : List ℕ) (number file place : ℕ) → (program input ≡ refusalText number file place) ↔ InputFault input number file place
+  pub refused : (input : List ℕ) (number file place : ℕ) → (program input ≡ refusalText number file place) ↔ ProgramRefused input number file place
 
 -- stand-ins, as programs: one fixed contradiction in place of every clause list, and the first clause left out
 abbrev pub contradictionText : Verdict → List ℕ

@@ -5,13 +5,13 @@ ghost use mathlib.Core.List.{[], _∷_, _++_};
 ghost use Prim.Native.Nat.{_+_, _≤_};
 ghost use lib.ListN.{length};
 ghost use Rattle.circuit.specs.private.Put.{Put};
-ghost use Rattle.checking.specs.Satisfaction.{size};
+ghost use Rattle.checking.specs.Satisfaction.{variableOf};
 ghost use Rattle.text.specs.Dimacs.{blank, literalText, literalsText, closing, headerText};
 ghost use Rattle.text.specs.private.Words.{signText, kindText, recordText, wordsText, Stores};
 
 // The variable of a literal, and the number that a word holds.
 fn magnitude(word: i16) -> u64
-    ensures { λ r. ⌜ r ≡ size word ⌝ }
+    ensures { λ r. ⌜ r ≡ variableOf word ⌝ }
 {
     if word < 0 {
         return (0 - (word as i64)) as u64;

@@ -10,7 +10,7 @@ ghost use mathlib.Core.Path.{_≡_};
 ghost use lib.ListN.{length};
 ghost use Rattle.circuit.specs.Words.{gatesOf};
 ghost use Rattle.text.specs.Tomiter.{maxWords, pairVerdict, secondVerdict, verdict};
-ghost use Rattle.text.specs.private.Lists.{FileWords, Says};
+ghost use Rattle.text.specs.private.Lists.{FileWords, Delivers};
 
 // The totals of a clause list that stands in the clause buffer; or a refusal with its file, 1, 2, or 0 for both.
 pub enum ListAnswer {
@@ -28,7 +28,7 @@ fn list_pair(na: u64, a: &[u64], nb: u64, b: &[u64], clauses: &mut [i16]) -> Lis
     requires { ⌜ FileWords na (now a) ⌝ }
     requires { ⌜ FileWords nb (now b) ⌝ }
     requires { ⌜ length (now clauses) ≡ maxWords ⌝ }
-    ensures { λ r. ⌜ Says r (now (clauses .exit)) (pairVerdict na (gatesOf (now (a .entry))) nb (gatesOf (now (b .entry)))) ⌝ }
+    ensures { λ r. ⌜ Delivers r (now (clauses .exit)) (pairVerdict na (gatesOf (now (a .entry))) nb (gatesOf (now (b .entry)))) ⌝ }
 {
     let mut room = [0u64; MITER_WORDS];
     match checking::miter::miter(na, a, nb, b, &mut room) {
@@ -47,7 +47,7 @@ fn list_pair(na: u64, a: &[u64], nb: u64, b: &[u64], clauses: &mut [i16]) -> Lis
 fn list_second(n: u64, a: &[u64], text: &[u8], clauses: &mut [i16]) -> ListAnswer
     requires { ⌜ FileWords n (now a) ⌝ }
     requires { ⌜ length (now clauses) ≡ maxWords ⌝ }
-    ensures { λ r. ⌜ Says r (now (clauses .exit)) (secondVerdict n (gatesOf (now (a .entry))) (now (text .entry))) ⌝ }
+    ensures { λ r. ⌜ Delivers r (now (clauses .exit)) (secondVerdict n (gatesOf (now (a .entry))) (now (text .entry))) ⌝ }
 {
     let mut b = [0u64; FILE_WORDS];
     match circuit::file::read(text, &mut b) {
@@ -70,7 +70,7 @@ fn list_second(n: u64, a: &[u64], text: &[u8], clauses: &mut [i16]) -> ListAnswe
 // The clause list of the two files of an input; else what is wrong with it.
 pub(crate) fn list(input: &[u8], clauses: &mut [i16]) -> ListAnswer
     requires { ⌜ length (now clauses) ≡ maxWords ⌝ }
-    ensures { λ r. ⌜ Says r (now (clauses .exit)) (verdict (now (input .entry))) ⌝ }
+    ensures { λ r. ⌜ Delivers r (now (clauses .exit)) (verdict (now (input .entry))) ⌝ }
 {
     if crate::MAX_INPUT < input.len() {
         return ListAnswer::Refused {

@@ -16,7 +16,7 @@ use Rattle.checking.specs.Stored.{stored}
 use Rattle.checking.specs.Told.{Told, ServedTells}
 use Rattle.checking.specs.Emit.{emitOutcome, emitBuffer}
 use Rattle.checking.specs.Equality.{Call, afterAll, miterLeaves, leftAfter, Emitted, Claim}
-use Rattle.checking.specs.Check.{standing, held, checkedOutcome, roomLeft, clausesLeft, Checks}
+use Rattle.checking.specs.Check.{heldWords, held, checkedOutcome, workLeft, clausesLeft, Checks}
 use Rattle.checking.proofs.miter.Laws.{miter-laws}
 use Rattle.checking.proofs.clauses.Answers.{emit-laws}
 use Rattle.checking.proofs.Equality.{served-same, equality}
@@ -24,7 +24,7 @@ use Rattle.checking.proofs.check.Laws.{calls-leave}
 
 module _ (na : ℕ) (a b : List ℕ) (calls : List Call) (room : List ℕ) (k : ℕ) (made : miterOutcome na a na b (length room) ≡ served k) where
   -- what is held is what stands after the calls
-  held-stands : standing (held na a na b calls room k) ≡ leftAfter na a b room calls
+  held-stands : heldWords (held na a na b calls room k) ≡ leftAfter na a b room calls
   held-stands =
       let m = miter-laws .miter-stands na a na b room k made in
       calls-leave calls (record { gates = k; words = miterBuffer na a na b room })
@@ -117,7 +117,7 @@ module _ (na : ℕ) (a : List ℕ) (nb : ℕ) (b : List ℕ) (calls : List Call)
         omega (arith, y .answer, ap length (y .buffer), l .few, l .long, miter-room)
 
   module _ (out : List ℤ) (told : Outcome Totals) (words : List ℕ) (last : List ℤ) where
-    owed : told ≡ checkedOutcome na a nb b calls room (length out) → words ≡ roomLeft (miterOutcome na a nb b (length room)) na a nb b calls room
+    owed : told ≡ checkedOutcome na a nb b calls room (length out) → words ≡ workLeft (miterOutcome na a nb b (length room)) na a nb b calls room
         → last ≡ clausesLeft (miterOutcome na a nb b (length room)) na a nb b calls room out → Checks na a nb b calls room out told words last
     owed e f g = record { answer = e; words = f; clauses = g; tells = check-tells na a b calls room out told last nb e g; claim = check-claim na a b calls room out told last nb e g }
 
@@ -126,7 +126,7 @@ module _ (na : ℕ) (a : List ℕ) (nb : ℕ) (b : List ℕ) (calls : List Call)
     unfolding checkedOutcome miterBuffer
     check-refused number place m e f g =
         owed (e ∙ sym (then-refused _ _ number place m))
-        (f ∙ ap (λ (o : Outcome ℕ). written o (wordsOf (miterGates (gatesOf a) (gatesOf b))) room) m ∙ sym (ap (λ (o : Outcome ℕ). roomLeft o na a nb b calls room) m))
+        (f ∙ ap (λ (o : Outcome ℕ). written o (wordsOf (miterGates (gatesOf a) (gatesOf b))) room) m ∙ sym (ap (λ (o : Outcome ℕ). workLeft o na a nb b calls room) m))
         (g ∙ sym (ap (λ (o : Outcome ℕ). clausesLeft o na a nb b calls room out) m))
 
     pub check-served : (k r : ℕ) → miterOutcome na a nb b (length room) ≡ served k
@@ -135,7 +135,7 @@ module _ (na : ℕ) (a : List ℕ) (nb : ℕ) (b : List ℕ) (calls : List Call)
         → Checks na a nb b calls room out told words last
     unfolding checkedOutcome
     check-served k r m y z =
-        let s : take (3 * r) words ≡ standing (held na a nb b calls room k) = ap₂ (λ (x : ℕ) (l : List ℕ). take (3 * x) l) (y .answer) (y .buffer) in
+        let s : take (3 * r) words ≡ heldWords (held na a nb b calls room k) = ap₂ (λ (x : ℕ) (l : List ℕ). take (3 * x) l) (y .answer) (y .buffer) in
         owed (z .answer ∙ ap (λ (l : List ℕ). emitOutcome na l (length out)) s ∙ sym (then-served _ _ k m))
-        (y .buffer ∙ sym (ap (λ (o : Outcome ℕ). roomLeft o na a nb b calls room) m))
+        (y .buffer ∙ sym (ap (λ (o : Outcome ℕ). workLeft o na a nb b calls room) m))
         (z .buffer ∙ ap (λ (l : List ℕ). emitBuffer na l out) s ∙ sym (ap (λ (o : Outcome ℕ). clausesLeft o na a nb b calls room out) m))

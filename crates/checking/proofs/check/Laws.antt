@@ -13,11 +13,11 @@ use Rattle.circuit.specs.Gate.{maxLines, maxMiterGates}
 use Rattle.circuit.specs.Outcome.{Outcome, served, refused, Yields}
 use Rattle.circuit.specs.Words.{gatesOf, checkOutcome, Cascade}
 use Rattle.circuit.proofs.words.Laws.{check-served, valid-all-more, gates-length}
-use Rattle.checking.specs.Step.{Step, found, none, stepGates, counted, stepOutcome, stepBuffer}
+use Rattle.checking.specs.Step.{Step, found, none, stepGates, withCount, stepOutcome, stepBuffer}
 use Rattle.checking.specs.StepLaws.{Stands}
 use Rattle.checking.specs.Reduce.{Reduced, reduceGates, reduceOutcome, reduceBuffer}
 use Rattle.checking.specs.Equality.{Call, stepOn, reduceOn, stepLeaves, reduceLeaves, after, afterAll}
-use Rattle.checking.specs.Check.{callOf, callsOf, Held, standing, stepGatesLeft, reduceGatesLeft, called, calledAll}
+use Rattle.checking.specs.Check.{callOf, callsOf, Held, heldWords, stepGatesLeft, reduceGatesLeft, called, calledAll}
 use Rattle.checking.proofs.step.Calls.{step-refused}
 use Rattle.checking.proofs.step.Laws.{none-kept, step-laws}
 use Rattle.checking.proofs.reduce.Laws.{step-shrinks, reduce-refused}
@@ -64,7 +64,7 @@ module _ (kind n gates : ℕ) (ws last : List ℕ) (room : 3 * gates ≤ length 
 pub record Leaves (c : Call) (h : Held) : Type 0 where
   pub few : called c h .gates ≤ h .gates
   pub long : length (called c h .words) ≡ length (h .words)
-  pub stands : standing (called c h) ≡ after c (standing h)
+  pub stands : heldWords (called c h) ≡ after c (heldWords h)
 
 module _ (gates : ℕ) (ws : List ℕ) (room : 3 * gates ≤ length ws) where
   abbrev st : List ℕ
@@ -90,7 +90,7 @@ module _ (gates : ℕ) (ws : List ℕ) (room : 3 * gates ≤ length ws) where
         × (length (stepBuffer n st) ≡ length st)
         × (take (3 * stepGatesLeft o gates) (over (stepBuffer n st) ws) ≡ stepLeaves o (stepBuffer n st))
 
-    step-served : (k : ℕ) → Cascade n st maxMiterGates k → (t : Step (List Gate)) → stepGates (gatesOf st) ≡ t → StepLeft (served (counted t))
+    step-served : (k : ℕ) → Cascade n st maxMiterGates k → (t : Step (List Gate)) → stepGates (gatesOf st) ≡ t → StepLeft (served (withCount t))
     step-served k c (found i j kind hs) e =
         let s : Stands n st (stepBuffer n st) hs = step-laws .call-stands n st k c i j kind hs e in
         let f : length hs ≤ gates = omega (arith, step-shrinks (gatesOf st) i j kind hs e, gates-length st, st-long) in
@@ -144,7 +144,7 @@ call-leaves c h room = leaves (h .gates) (h .words) room c
 pub record LeavesAll (cs : List Call) (h : Held) : Type 0 where
   pub few : calledAll cs h .gates ≤ h .gates
   pub long : length (calledAll cs h .words) ≡ length (h .words)
-  pub stands : standing (calledAll cs h) ≡ afterAll cs (standing h)
+  pub stands : heldWords (calledAll cs h) ≡ afterAll cs (heldWords h)
 
 pub calls-leave : (cs : List Call) (h : Held) → 3 * h .gates ≤ length (h .words) → LeavesAll cs h
 unfolding calledAll afterAll

@@ -11,7 +11,7 @@ use Rattle.bits.specs.Lists.{over}
 use Rattle.circuit.specs.Gate.{maxMiterGates}
 use Rattle.circuit.specs.Outcome.{Outcome, served, refused, Untouched, Yields}
 use Rattle.circuit.specs.Refusal.{noRoom}
-use Rattle.circuit.specs.Words.{gatesOf, checkOutcome, WordsFault}
+use Rattle.circuit.specs.Words.{gatesOf, checkOutcome, WordsRefused}
 use Rattle.circuit.proofs.Outcome.{told, written-served, written-refused, then-served, then-refused, then-both, then-fails, demand-met, demand-failed, demanded, then-either, last-failed}
 use Rattle.circuit.proofs.words.Laws.{check-served, served-check, check-refused, refused-check}
 use Rattle.checking.specs.declared.clauses.Totals.{Totals}
@@ -20,7 +20,7 @@ use Rattle.checking.specs.Stored.{stored}
 use Rattle.checking.specs.Sizes.{sizesOf, sizesOutcome}
 use Rattle.checking.specs.Emit.{emitOutcome, emitBuffer}
 use Rattle.checking.specs.private.Emission.{ListReady}
-use Rattle.checking.specs.EmitLaws.{Counted, EmitFault, words-fault, short, EmitLaws}
+use Rattle.checking.specs.EmitLaws.{Counted, EmitRefused, emit-words, short, EmitLaws}
 use Rattle.checking.proofs.clauses.Sums.{sizes-list}
 
 -- ---- served exactly for a cascade, and refused exactly by what is wrong
@@ -40,11 +40,11 @@ module _ (n : ℕ) (ws : List ℕ) where
       then-served _ _ (c .gates) (served-check n ws maxMiterGates (c .gates) (c .good))
       ∙ ap served (sizes-list n (gatesOf ws) (c .good .lines-high) (c .good .gates) ∙ sym (c .sizes))
 
-  sizes-fault : (x y : ℕ) → sizesOutcome n ws ≡ refused x y → WordsFault n ws maxMiterGates x y
+  sizes-fault : (x y : ℕ) → sizesOutcome n ws ≡ refused x y → WordsRefused n ws maxMiterGates x y
   unfolding sizesOutcome
   sizes-fault x y e = check-refused n ws maxMiterGates x y (then-fails (checkOutcome n ws maxMiterGates) _ x y e)
 
-  fault-sizes : (x y : ℕ) → WordsFault n ws maxMiterGates x y → sizesOutcome n ws ≡ refused x y
+  fault-sizes : (x y : ℕ) → WordsRefused n ws maxMiterGates x y → sizesOutcome n ws ≡ refused x y
   unfolding sizesOutcome
   fault-sizes x y w = then-refused _ _ x y (refused-check n ws maxMiterGates x y w)
 
@@ -61,20 +61,20 @@ module _ (n : ℕ) (ws : List ℕ) where
     unfolding emitOutcome
     counted-emit t c h = then-served _ _ t (counted-sizes t c) ∙ demand-met _ _ _ _ (le-leb _ _ h)
 
-    fault-emit : (x y : ℕ) → EmitFault n ws room x y → emitOutcome n ws room ≡ refused x y
+    fault-emit : (x y : ℕ) → EmitRefused n ws room x y → emitOutcome n ws room ≡ refused x y
     unfolding emitOutcome
-    fault-emit x y (words-fault w) = then-refused _ _ x y (fault-sizes x y w)
+    fault-emit x y (emit-words w) = then-refused _ _ x y (fault-sizes x y w)
     fault-emit x y (short k c h) =
         then-served _ _ _ (counted-sizes _ (record { gates = k; good = c; sizes = refl })) ∙ demand-failed _ _ _ _ (lt-leb _ _ h)
 
-    emit-fault : (x y : ℕ) → emitOutcome n ws room ≡ refused x y → EmitFault n ws room x y
+    emit-fault : (x y : ℕ) → emitOutcome n ws room ≡ refused x y → EmitRefused n ws room x y
     unfolding emitOutcome
     emit-fault =
-        then-either (EmitFault n ws room) (sizesOutcome n ws) _
-        (λ x y p. words-fault (sizes-fault x y p))
+        then-either (EmitRefused n ws room) (sizesOutcome n ws) _
+        (λ x y p. emit-words (sizes-fault x y p))
         (λ t p.
         let c = sizes-counted t p in
-        last-failed (EmitFault n ws room) (leb (t .words) room) noRoom 0 t
+        last-failed (EmitRefused n ws room) (leb (t .words) room) noRoom 0 t
         (λ h. short (c .gates) (c .good) (omega (arith, leb-false (t .words) room h, ap (λ (x : Totals). x .words) (c .sizes)))))
 
 module _ (n : ℕ) (ws : List ℕ) (out : List ℤ) where

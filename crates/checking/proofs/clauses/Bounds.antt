@@ -15,7 +15,7 @@ use Rattle.circuit.specs.Gate.{maxLines, maxMiterGates, valid, Control, control
 use Rattle.circuit.specs.Words.{allValid}
 use Rattle.circuit.proofs.gate.Laws.{valid-facts}
 use Rattle.checking.specs.Clauses.{Clause, OR, XOR, plus, minus, inputOf, literalOf, implied, manyClauses, gateClauses, newVariable, usedBy, moved, clausesOfGate, gatesClauses, usedAfter, currentAfter, targeted, upFrom, differenceClause, differenceClauses, clausesOf, variablesOf, countP}
-use Rattle.checking.specs.Satisfaction.{size, LiteralsWithin, clauseLiterals, ClausesWithin}
+use Rattle.checking.specs.Satisfaction.{variableOf, LiteralsWithin, clauseLiterals, ClausesWithin}
 use Rattle.checking.specs.Stored.{stored, FitsWord, AllFit, wordLimit}
 use Rattle.checking.proofs.clauses.Gates.{Within, controls-within, new-named}
 use Rattle.checking.proofs.clauses.Forced.{Inside, inside-upFrom, used-more, length-upFrom}
@@ -24,11 +24,11 @@ within-append : (m : ℕ) (xs ys : List Clause) → ClausesWithin m xs → Claus
 within-append m [] ys a b = b
 within-append m (x ∷ xs) ys a b = (a .0, within-append m xs ys (a .1) b)
 
-minus-size : (v : ℕ) → size (minus v) ≡ v
+minus-size : (v : ℕ) → variableOf (minus v) ≡ v
 minus-size zero = refl
 minus-size (suc v) = refl
 
-neg-size : (l : ℤ) → size (negℤ l) ≡ size l
+neg-size : (l : ℤ) → variableOf (negℤ l) ≡ variableOf l
 neg-size (pos zero) = refl
 neg-size (pos (suc v)) = refl
 neg-size (negsuc i) = refl
@@ -39,10 +39,10 @@ pub record Named (n m : ℕ) (current : ℕ → ℕ) : Type 0 where
   pub high : (k : ℕ) → k < n → current k ≤ m
 
 module _ (n m : ℕ) (current : ℕ → ℕ) (named : Named n m current) where
-  literal-size : (c : Control) → size (literalOf current c) ≡ current (c .line)
+  literal-size : (c : Control) → variableOf (literalOf current c) ≡ current (c .line)
   literal-size c = by (c .positive) (current (c .line))
     where
-      by : (p : Bool) (v : ℕ) → size (cond p (plus v) (minus v)) ≡ v
+      by : (p : Bool) (v : ℕ) → variableOf (cond p (plus v) (minus v)) ≡ v
       by true v = refl
       by false v = minus-size v
 
@@ -235,7 +235,7 @@ counts-small n gs few =
     (short-differences (maxLines + 3) (targeted gs) inputOf (currentAfter n inputOf gs) (usedAfter n gs) (upFrom 0 n) (omega arith))
     (omega (arith, length-map (upFrom (suc (usedAfter n gs)) n) plus, length-upFrom (suc (usedAfter n gs)) n), tt))
 
-size-fits : (l : ℤ) → size l < wordLimit → FitsWord l
+size-fits : (l : ℤ) → variableOf l < wordLimit → FitsWord l
 size-fits (pos v) h = h
 size-fits (negsuc i) h = omega arith
 

@@ -18,7 +18,7 @@ use Rattle.circuit.specs.Run.{run}
 use Rattle.circuit.proofs.gate.Laws.{valid-facts, valid-more, apply-bit}
 use Rattle.circuit.proofs.gate.Controls.{controls-fire, controls-below}
 use Rattle.checking.specs.Clauses.{XOR, plus, minus, literalOf, implied, manyClauses, gateClauses, newVariable, usedBy, moved, clausesOfGate, gatesClauses, currentAfter, targeted}
-use Rattle.checking.specs.Satisfaction.{variable, value, satisfies, size}
+use Rattle.checking.specs.Satisfaction.{variable, value, satisfies, variableOf}
 use Rattle.checking.specs.Forced.{gateValues, gatesValues}
 use Rattle.checking.proofs.clauses.Tests.{same, same-true, and-cong, xor-none, not-and, or-and, shape-0, shape-1, shape-2, someTrue, holds-or, holds-xor, value-neg, satisfies-append}
 
@@ -73,7 +73,7 @@ module _ (n : ℕ) (σ : List Bool) (current : ℕ → ℕ) (s : ℕ) (reads : R
   control-value : (c : Control) → c .line < n → value σ (literalOf current c) ≡ met s c
   control-value c h = literal-value (c .positive) (current (c .line)) (bit s (c .line)) (reads .named (c .line) h) (reads .read (c .line) h)
 
-  literal-size : (p : Bool) (v : ℕ) → 1 ≤ v → 1 ≤ size (cond p (plus v) (minus v))
+  literal-size : (p : Bool) (v : ℕ) → 1 ≤ v → 1 ≤ variableOf (cond p (plus v) (minus v))
   literal-size true v h = h
   literal-size false zero h = h
   literal-size false (suc v) h = h

@@ -12,7 +12,7 @@ use lib.Seq.{take-append-seam, drop-append-seam, length-take-le}
 use borrow.Author.Tests.{le-leb, leb-true, leb-false}
 use Rattle.bits.proofs.Bools.{either, cond-true, cond-false}
 use Rattle.checking.specs.Clauses.{Clause, OR, XOR}
-use Rattle.checking.specs.Stored.{storedClause, stored, Reading, clausesRead, badRecord, clauseOf, joined, readRecord, readFrom, clausesIn, BadAt}
+use Rattle.checking.specs.Stored.{storedClause, stored, ReadBack, clausesRead, badRecord, clauseOf, joined, readRecord, readFrom, clausesIn, BadAt}
 
 pub stored-append : (xs ys : List Clause) → stored (xs ++ ys) ≡ stored xs ++ stored ys
 unfolding stored
@@ -20,7 +20,7 @@ stored-append [] ys = refl
 stored-append (x ∷ xs) ys = ap (λ (r : List ℤ). storedClause x ++ r) (stored-append xs ys) ∙ sym (append-assoc (storedClause x) (stored xs) (stored ys))
 
 -- one whole record, where its literals are followed by more words
-record-read : (i : ℕ) (kind : ℤ) (ls more : List ℤ) (later : List ℤ → Reading)
+record-read : (i : ℕ) (kind : ℤ) (ls more : List ℤ) (later : List ℤ → ReadBack)
     → readRecord i kind (some (length ls)) (ls ++ more) later ≡ joined i (clauseOf kind ls) (later more)
 record-read i kind ls more later =
     cond-true (leb (length ls) (length (ls ++ more))) _ _ (le-leb (length ls) (length (ls ++ more)) (omega (arith, length-append ls more)))
@@ -49,7 +49,7 @@ bad : {i : ℕ} {cs : List Clause} → badRecord i ≡ clausesRead cs → ⊥
 bad e = let z : _≡_ {A = ℕ} 0 1 = cc in omega arith
 
 -- a record joined with what is read after it
-joined-read : (i : ℕ) (c : Option Clause) (later : Reading) (cs : List Clause) → joined i c later ≡ clausesRead cs
+joined-read : (i : ℕ) (c : Option Clause) (later : ReadBack) (cs : List Clause) → joined i c later ≡ clausesRead cs
     → (d : Clause) × (ds : List Clause) × (c ≡ some d) × (later ≡ clausesRead ds) × (cs ≡ d ∷ ds)
 joined-read i none later cs e = absurd (bad e)
 joined-read i (some d) (clausesRead ds) cs e = let f : cs ≡ d ∷ ds = cc in (d, ds, refl, refl, f)
@@ -140,7 +140,7 @@ after c ws rest i j e found =
       },
     )
 
-bad-joined : (i j : ℕ) (o : Option Clause) (later : Reading) → joined i o later ≡ badRecord j
+bad-joined : (i j : ℕ) (o : Option Clause) (later : ReadBack) → joined i o later ≡ badRecord j
     → ((o ≡ none) × (badRecord i ≡ badRecord j)) ⊎ ((c : Clause) × (o ≡ some c) × (later ≡ badRecord j))
 bad-joined i j none later e = inl (refl, e)
 bad-joined i j (some c) (clausesRead ds) e = absurd (unread e)

@@ -8,7 +8,7 @@ use lib.Dec.{eqb, leb}
 use lib.IntN.{ℤ, pos, negsuc, negℤ}
 use borrow.Author.Tests.{le-leb}
 use Rattle.checking.specs.Clauses.{Clause, OR, XOR}
-use Rattle.checking.specs.Satisfaction.{variable, value, trueCount, holds, satisfies, size}
+use Rattle.checking.specs.Satisfaction.{variable, value, trueCount, holds, satisfies, variableOf}
 
 -- two truth values are the same
 abbrev pub same : Bool → Bool → Bool
@@ -137,7 +137,7 @@ holds-xor σ [] = refl
 holds-xor σ (l ∷ ls) = odd-step (value σ l) (trueCount σ ls) ∙ ap (xor (value σ l)) (holds-xor σ ls)
 
 -- a literal of a variable has the opposite value of its negation
-pub value-neg : (σ : List Bool) (l : ℤ) → 1 ≤ size l → value σ (negℤ l) ≡ not (value σ l)
+pub value-neg : (σ : List Bool) (l : ℤ) → 1 ≤ variableOf l → value σ (negℤ l) ≡ not (value σ l)
 value-neg σ (pos zero) h = absurd (omega arith)
 value-neg σ (pos (suc i)) h = refl
 value-neg σ (negsuc i) h = sym (Bool·not-not (variable σ (suc i)))

@@ -19,7 +19,7 @@ use Rattle.bits.proofs.Lists.{over-length}
 use Rattle.circuit.specs.declared.gate.Gate.{Gate}
 use Rattle.circuit.specs.Gate.{maxLines, maxGates, notGate, valid, fires}
 use Rattle.circuit.specs.Outcome.{served, Untouched}
-use Rattle.circuit.specs.Words.{gatesOf, allValid}
+use Rattle.circuit.specs.Words.{gatesOf, allValid, gateIn}
 use Rattle.circuit.specs.Run.{run, Differs}
 use Rattle.circuit.proofs.Outcome.{written-served, written-refused}
 use Rattle.circuit.proofs.words.Laws.{cascade-count}
@@ -27,7 +27,7 @@ use Rattle.circuit.proofs.gate.Laws.{fires-lines, lines-fires, valid-by-lines, 
 use Rattle.circuit.proofs.run.Laws.{run-append}
 use Rattle.checking.specs.Faults.{isFree, missing, everywhere, stands, maskWhere, masksFrom, faultMasks, faultOutcome, faultBuffer}
 use Rattle.checking.specs.RefusalLaws.{Every, MasksServed}
-use Rattle.checking.specs.FaultLaws.{gateOf, stateAt, Candidate, Masking, maskPlace, MasksStand, repairedAt, Repairs, withControl}
+use Rattle.checking.specs.FaultLaws.{stateAt, Candidate, Masking, maskPlace, MasksStand, repairedAt, Repairs, withControl}
 use Rattle.checking.proofs.faults.Masks.{mask-bit}
 use Rattle.checking.proofs.faults.Loops.{masks-length}
 use Rattle.checking.proofs.faults.Refusals.{masks-made}
@@ -38,8 +38,8 @@ at-start : (before : List Gate) (g : Gate) (gs : List Gate) (i : ℕ) → (befor
 at-start before g gs i = append-assoc before (g ∷ []) (take i gs)
 
 first-mask : (n : ℕ) (before gs : List Gate) (xs : List ℕ) (i : ℕ) → i < length gs
-    → (getD (masksFrom n before gs xs) (2 * i) 0 ≡ maskWhere n (stands true (before ++ take i gs) (gateOf gs i) xs))
-    × (getD (masksFrom n before gs xs) (2 * i + 1) 0 ≡ maskWhere n (stands false (before ++ take i gs) (gateOf gs i) xs))
+    → (getD (masksFrom n before gs xs) (2 * i) 0 ≡ maskWhere n (stands true (before ++ take i gs) (gateIn gs i) xs))
+    × (getD (masksFrom n before gs xs) (2 * i + 1) 0 ≡ maskWhere n (stands false (before ++ take i gs) (gateIn gs i) xs))
 unfolding masksFrom
 first-mask n before [] xs i h = absurd (omega arith)
 first-mask n before (g ∷ gs) xs zero h =
@@ -50,8 +50,8 @@ first-mask n before (g ∷ gs) xs (suc i) h =
     let p : 2 * suc i ≡ suc (suc (2 * i)) = omega arith in
     let q : 2 * suc i + 1 ≡ suc (suc (2 * i + 1)) = omega arith in
     let e = at-start before g gs i in (
-      ap (λ (k : ℕ). getD (masksFrom n before (g ∷ gs) xs) k 0) p ∙ a ∙ ap (λ (l : List Gate). maskWhere n (stands true l (gateOf gs i) xs)) e,
-      ap (λ (k : ℕ). getD (masksFrom n before (g ∷ gs) xs) k 0) q ∙ b ∙ ap (λ (l : List Gate). maskWhere n (stands false l (gateOf gs i) xs)) e,
+      ap (λ (k : ℕ). getD (masksFrom n before (g ∷ gs) xs) k 0) p ∙ a ∙ ap (λ (l : List Gate). maskWhere n (stands true l (gateIn gs i) xs)) e,
+      ap (λ (k : ℕ). getD (masksFrom n before (g ∷ gs) xs) k 0) q ∙ b ∙ ap (λ (l : List Gate). maskWhere n (stands false l (gateIn gs i) xs)) e,
     )
 
 -- ---- every state
@@ -103,7 +103,7 @@ sign-xor false false e = e
 
 module _ (n : ℕ) (gs : List Gate) (xs : List ℕ) (i : ℕ) (positive : Bool) (k : ℕ) where
   abbrev g : Gate
-  g = gateOf gs i
+  g = gateIn gs i
 
   abbrev before : List Gate
   before = take i gs
@@ -145,11 +145,11 @@ masks-masking =
 
 -- ---- repairs
 
-pub repair-leaves : (pattern : Gate → ℕ → Bool) (repair : Gate → Gate) (gs : List Gate) (i : ℕ) → i < length gs → Repairs pattern repair (gateOf gs i)
-    → (x : ℕ) → pattern (gateOf gs i) (run (take i gs) x) ≡ false → run (repairedAt i repair gs) x ≡ run gs x
+pub repair-leaves : (pattern : Gate → ℕ → Bool) (repair : Gate → Gate) (gs : List Gate) (i : ℕ) → i < length gs → Repairs pattern repair (gateIn gs i)
+    → (x : ℕ) → pattern (gateIn gs i) (run (take i gs) x) ≡ false → run (repairedAt i repair gs) x ≡ run gs x
 unfolding fold
 repair-leaves pattern repair gs i h r x e =
-    let g : Gate = gateOf gs i in
+    let g : Gate = gateIn gs i in
     let front : List Gate = take i gs in
     let back : List Gate = drop (i + 1) gs in
     let parts : gs ≡ front ++ (g ∷ back) = split-at gs i (notGate 0) h ∙ ap (λ (k : ℕ). front ++ (g ∷ drop k gs)) (sym (add-one i)) in
@@ -278,18 +278,18 @@ control-repairs positive k g v h f s e =
 
 -- ---- excluded lines
 
-gate-valid : (n : ℕ) (gs : List Gate) (i : ℕ) → i < length gs → allValid n gs ≡ true → valid n (gateOf gs i) ≡ true
+gate-valid : (n : ℕ) (gs : List Gate) (i : ℕ) → i < length gs → allValid n gs ≡ true → valid n (gateIn gs i) ≡ true
 unfolding allValid
 gate-valid n [] i h v = absurd (omega arith)
 gate-valid n (g ∷ gs) zero h v = and-parts (valid n g) (allValid n gs) v .0
 gate-valid n (g ∷ gs) (suc i) h v = gate-valid n gs i (omega arith) (and-parts (valid n g) (allValid n gs) v .1)
 
 pub excluded : (n : ℕ) (suspect reference : List Gate) (xs : List ℕ) (i k : ℕ) (positive : Bool) → n ≤ maxLines → allValid n suspect ≡ true
-    → ((j : ℕ) → j < length xs → Differs n suspect reference (getD xs j 0)) → i < length suspect → k < n → isFree (gateOf suspect i) k ≡ true
+    → ((j : ℕ) → j < length xs → Differs n suspect reference (getD xs j 0)) → i < length suspect → k < n → isFree (gateIn suspect i) k ≡ true
     → (Candidate n suspect xs i positive k → ⊥)
     → (j : ℕ) × (j < length xs) × Differs n (repairedAt i (withControl positive k) suspect) reference (getD xs j 0)
 excluded n suspect reference xs i k positive few v differ h below free out =
-    let g : Gate = gateOf suspect i in
+    let g : Gate = gateIn suspect i in
     let w : valid maxLines g ≡ true = valid-more n maxLines g few (gate-valid n suspect i h v) in
     let fails : everywhere (missing positive k g) (take i suspect) xs ≡ false =
     not-held _ (λ e. out (stands-candidate n suspect xs i positive k below (both free e))) in
@@ -342,7 +342,7 @@ module _ (na : ℕ) (a : List ℕ) (nb : ℕ) (b states out : List ℕ) (k : ℕ
         rest = ap (drop (2 * k)) left ∙ drop-at masks (drop (length masks) out) (2 * k) two-each ∙ ap (λ (n : ℕ). drop n out) two-each;
       }
 
-  pub guilty-stands : (i line : ℕ) (positive : Bool) → i < k → line < na → isFree (gateOf (gatesOf a) i) line ≡ true
+  pub guilty-stands : (i line : ℕ) (positive : Bool) → i < k → line < na → isFree (gateIn (gatesOf a) i) line ≡ true
       → Every (λ x. run (repairedAt i (withControl positive line) (gatesOf a)) x ≡ run (gatesOf b) x) states
       → bit (getD last (maskPlace positive i) 0) line ≡ true
   guilty-stands i line positive h below free agree =

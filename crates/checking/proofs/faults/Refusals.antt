@@ -10,13 +10,13 @@ use borrow.Author.Tests.{leb-true, leb-false, lt-ltb, le-ltb, ltb-true, ltb-fals
 use Rattle.bits.proofs.Bools.{either}
 use Rattle.circuit.specs.Outcome.{served, refused}
 use Rattle.circuit.specs.Refusal.{badState, agreeingState, noRoom, tooWide}
-use Rattle.circuit.specs.Words.{gatesOf, Counts, pairOutcome, PairFault}
+use Rattle.circuit.specs.Words.{gatesOf, Counts, pairOutcome, PairRefused}
 use Rattle.circuit.specs.Run.{run}
 use Rattle.circuit.proofs.Outcome.{never, demand-met, demand-failed, demanded, then-both, then-fails, then-either, last-failed, same-refusal}
 use Rattle.circuit.proofs.words.Laws.{pair-served, served-pair, pair-refused, refused-pair}
 use Rattle.checking.specs.Compare.{outputsDiffer, maxSweepLines, differenceOutcome, differsOutcome, pickOutcome}
 use Rattle.checking.specs.Faults.{eachFrom, faultCheck, faultOutcome}
-use Rattle.checking.specs.RefusalLaws.{GoodPair, SweepFault, sweep-pair, wide, InputFault, input-pair, outside, Every, First, MasksServed, MasksFault, masks-pair, outside-at, agreeing-at, short, RefusalLaws}
+use Rattle.checking.specs.RefusalLaws.{GoodPair, SweepRefused, sweep-pair, wide, DiffersRefused, input-pair, outside, Every, First, MasksServed, MasksRefused, masks-pair, outside-at, agreeing-at, short, RefusalLaws}
 use Rattle.checking.proofs.compare.Laws.{differ-no, no-differ, differ-yes, yes-differ, difference-refused, difference-wide, differs-refused, differs-outside, pick-refused}
 use Rattle.checking.proofs.faults.Loops.{fault-pair, fault-state, fault-agree, fault-good, fault-refused, fault-short, fault-made}
 
@@ -88,32 +88,32 @@ module _ (na : ℕ) (a : List ℕ) (nb : ℕ) (b : List ℕ) where
   pair-good : (k m : ℕ) → GoodPair na a nb b k m → pairOutcome na a nb b ≡ served (counts k m)
   pair-good k m g = served-pair na a nb b k m (g .first) (g .second) (g .lines)
 
-  fault-sweep : (x y : ℕ) → SweepFault na a nb b x y → differenceOutcome na a nb b ≡ refused x y
+  fault-sweep : (x y : ℕ) → SweepRefused na a nb b x y → differenceOutcome na a nb b ≡ refused x y
   fault-sweep x y (sweep-pair w) = difference-refused na a nb b x y (refused-pair na a nb b x y w)
   fault-sweep x y (wide k m g h) = difference-wide na a nb b (counts k m) (pair-good k m g) h
 
-  sweep-fault : (x y : ℕ) → differenceOutcome na a nb b ≡ refused x y → SweepFault na a nb b x y
+  sweep-fault : (x y : ℕ) → differenceOutcome na a nb b ≡ refused x y → SweepRefused na a nb b x y
   unfolding differenceOutcome
   sweep-fault =
-      then-either (SweepFault na a nb b) (pairOutcome na a nb b) _
+      then-either (SweepRefused na a nb b) (pairOutcome na a nb b) _
       (λ x y p. sweep-pair (pair-refused na a nb b x y p))
-      (λ c p. last-failed (SweepFault na a nb b) (leb na maxSweepLines) tooWide 0 _ (λ t. wide (c .first) (c .second) (good-pair c p) (leb-false _ _ t)))
+      (λ c p. last-failed (SweepRefused na a nb b) (leb na maxSweepLines) tooWide 0 _ (λ t. wide (c .first) (c .second) (good-pair c p) (leb-false _ _ t)))
 
-  pick-fault : (x y : ℕ) → pickOutcome na a nb b ≡ refused x y → PairFault na a nb b x y
+  pick-fault : (x y : ℕ) → pickOutcome na a nb b ≡ refused x y → PairRefused na a nb b x y
   unfolding pickOutcome
   pick-fault x y e = pair-refused na a nb b x y (then-fails (pairOutcome na a nb b) _ x y e)
 
   module _ (s : ℕ) where
-    fault-input : (x y : ℕ) → InputFault na a nb b s x y → differsOutcome na a nb b s ≡ refused x y
+    fault-input : (x y : ℕ) → DiffersRefused na a nb b s x y → differsOutcome na a nb b s ≡ refused x y
     fault-input x y (input-pair w) = differs-refused na a nb b s x y (refused-pair na a nb b x y w)
     fault-input x y (outside k m g h) = differs-outside na a nb b (counts k m) (pair-good k m g) s (le-ltb _ _ h)
 
-    input-fault : (x y : ℕ) → differsOutcome na a nb b s ≡ refused x y → InputFault na a nb b s x y
+    input-fault : (x y : ℕ) → differsOutcome na a nb b s ≡ refused x y → DiffersRefused na a nb b s x y
     unfolding differsOutcome
     input-fault =
-        then-either (InputFault na a nb b s) (pairOutcome na a nb b) _
+        then-either (DiffersRefused na a nb b s) (pairOutcome na a nb b) _
         (λ x y p. input-pair (pair-refused na a nb b x y p))
-        (λ c p. last-failed (InputFault na a nb b s) (ltb s (2 ^ na)) badState 0 _ (λ t. outside (c .first) (c .second) (good-pair c p) (ltb-false _ _ t)))
+        (λ c p. last-failed (DiffersRefused na a nb b s) (ltb s (2 ^ na)) badState 0 _ (λ t. outside (c .first) (c .second) (good-pair c p) (ltb-false _ _ t)))
 
   module _ (xs : List ℕ) (room : ℕ) where
     abbrev inside : ℕ → Bool
@@ -123,7 +123,7 @@ module _ (na : ℕ) (a : List ℕ) (nb : ℕ) (b : List ℕ) where
     differing = outputsDiffer (gatesOf a) (gatesOf b)
 
     abbrev Fault : ℕ → ℕ → Type 0
-    Fault = MasksFault na a nb b xs room
+    Fault = MasksRefused na a nb b xs room
 
     all-inside : (k : ℕ) → eachFrom inside badState 0 xs ≡ served k → Every (λ x. x < 2 ^ na) xs
     all-inside k e = λ j h. ltb-true _ _ (each-served inside badState 0 xs k e j h)

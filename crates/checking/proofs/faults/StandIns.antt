@@ -7,11 +7,12 @@ use native.Mathlib.Omega.{arith}
 use Rattle.bits.specs.Digits.{bit}
 use Rattle.bits.specs.Lists.{fold}
 use Rattle.circuit.specs.declared.gate.Gate.{Gate}
+use Rattle.circuit.specs.Words.{gateIn}
 use Rattle.circuit.specs.Gate.{notGate, valid, fires, inverted, apply}
 use Rattle.circuit.specs.Run.{run}
 use Rattle.checking.specs.Compare.{none, lowestFrom}
 use Rattle.checking.specs.Faults.{maskWhere}
-use Rattle.checking.specs.FaultLaws.{Sweeping, Candidate, Masking, strikesNothing, strikesAll, stateAt, gateOf, FaultLaws}
+use Rattle.checking.specs.FaultLaws.{Sweeping, Candidate, Masking, strikesNothing, strikesAll, stateAt, FaultLaws}
 use Rattle.checking.proofs.compare.Laws.{sweep-says}
 use Rattle.checking.proofs.faults.Laws.{masks-masking, repair-leaves, control-repairs, control-valid, excluded, masks-stand, masks-untouched, guilty-stands}
 
@@ -49,7 +50,7 @@ standing =
       line = low-first;
     }
   where
-    at-first : (j : ℕ) → j < 1 → fires (gateOf one 0) (stateAt one 0 (0 ∷ []) j) ≡ true
+    at-first : (j : ℕ) → j < 1 → fires (gateIn one 0) (stateAt one 0 (0 ∷ []) j) ≡ true
     at-first zero h = refl
     at-first (suc j) h = absurd (omega arith)
 

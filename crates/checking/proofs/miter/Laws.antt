@@ -24,7 +24,7 @@ use Rattle.circuit.proofs.words.Laws.{gates-length, gates-words, words-gates, w
 use Rattle.circuit.proofs.run.Laws.{run-append}
 use Rattle.circuit.proofs.inverse.Laws.{run-inverse, inverse-run, inverse-valid, put-fits}
 use Rattle.checking.specs.Miter.{miterGates, miterOutcome, miterBuffer}
-use Rattle.checking.specs.MiterLaws.{MiterServed, MiterFault, pair-fault, short, MiterStands, MiterLaws}
+use Rattle.checking.specs.MiterLaws.{MiterServed, MiterRefused, miter-pair, short, MiterStands, MiterLaws}
 
 -- ---- the identity exactly where the two agree
 
@@ -93,18 +93,18 @@ module _ (na : ℕ) (a : List ℕ) (nb : ℕ) (b : List ℕ) where
       record { first = c .first; second = c .second; first-good = p; second-good = q; lines = l; fits = leb-true _ _ t; count = sym n }
 
   -- refused exactly by what is wrong
-  pub fault-miter : (room number place : ℕ) → MiterFault na a nb b room number place → miterOutcome na a nb b room ≡ refused number place
-  fault-miter room number place (pair-fault w) = miter-refused room number place (refused-pair na a nb b number place w)
+  pub fault-miter : (room number place : ℕ) → MiterRefused na a nb b room number place → miterOutcome na a nb b room ≡ refused number place
+  fault-miter room number place (miter-pair w) = miter-refused room number place (refused-pair na a nb b number place w)
   fault-miter room number place (short k m c d l h) = miter-short room (record { first = k; second = m }) (served-pair na a nb b k m c d l) h
 
-  pub miter-fault : (room number place : ℕ) → miterOutcome na a nb b room ≡ refused number place → MiterFault na a nb b room number place
+  pub miter-fault : (room number place : ℕ) → miterOutcome na a nb b room ≡ refused number place → MiterRefused na a nb b room number place
   miter-fault room number place e = go (pairOutcome na a nb b) refl
     where
-      is : (x y : ℕ) → _≡_ {A = Outcome ℕ} (refused x y) (refused number place) → MiterFault na a nb b room x y → MiterFault na a nb b room number place
-      is x y f w = let p : x ≡ number = cc in let q : y ≡ place = cc in subst₂ (MiterFault na a nb b room) p q w
+      is : (x y : ℕ) → _≡_ {A = Outcome ℕ} (refused x y) (refused number place) → MiterRefused na a nb b room x y → MiterRefused na a nb b room number place
+      is x y f w = let p : x ≡ number = cc in let q : y ≡ place = cc in subst₂ (MiterRefused na a nb b room) p q w
 
-      go : (o : Outcome Counts) → pairOutcome na a nb b ≡ o → MiterFault na a nb b room number place
-      go (refused x y) p = is x y (sym (miter-refused room x y p) ∙ e) (pair-fault (pair-refused na a nb b x y p))
+      go : (o : Outcome Counts) → pairOutcome na a nb b ≡ o → MiterRefused na a nb b room number place
+      go (refused x y) p = is x y (sym (miter-refused room x y p) ∙ e) (miter-pair (pair-refused na a nb b x y p))
       go (served c) p =
           let (k, m, l) = pair-served na a nb b c p in
           either (leb (length a + length b) room)

@@ -9,7 +9,7 @@ use lib.ListN.{length}
 use Rattle.circuit.specs.declared.gate.Gate.{Gate}
 use Rattle.circuit.specs.Gate.{maxLines, maxMiterGates}
 use Rattle.circuit.specs.Outcome.{Outcome, served, refused, Untouched}
-use Rattle.circuit.specs.Words.{gatesOf, allValid, checkOutcome, Cascade, WordsFault}
+use Rattle.circuit.specs.Words.{gatesOf, allValid, checkOutcome, Cascade, WordsRefused}
 use Rattle.circuit.proofs.Outcome.{then-served, then-refused}
 use Rattle.circuit.proofs.words.Laws.{gates-length, valid-all-more, served-check, check-refused, refused-check}
 use Rattle.checking.specs.Match.{Kind}
@@ -109,7 +109,7 @@ module _ (n : ℕ) (ws : List ℕ) where
   unfolding reduceBuffer
   call-untouched number place e = ap (λ (o : Outcome (Reduced ℕ)). servedWords o (filled (reduceGates (gatesOf ws) .left) (length ws)) ws) e
 
-  call-refused : (x y : ℕ) → (reduceOutcome n ws ≡ refused x y) ↔ WordsFault n ws maxMiterGates x y
+  call-refused : (x y : ℕ) → (reduceOutcome n ws ≡ refused x y) ↔ WordsRefused n ws maxMiterGates x y
   unfolding reduceOutcome
   call-refused x y = (
     (λ e. check-refused n ws maxMiterGates x y (refused-first n ws (checkOutcome n ws maxMiterGates) (numbered (reduceGates (gatesOf ws))) x y e)),

@@ -13,7 +13,7 @@ use Rattle.circuit.specs.Gate.{maxLines}
 use Rattle.circuit.specs.Words.{gatesOf, wordsOf, allValid}
 use Rattle.circuit.proofs.words.Laws.{gates-length, gates-words, words-gates, words-length}
 use Rattle.checking.specs.Match.{Kind}
-use Rattle.checking.specs.Step.{Step, found, none, stepGates, counted, stepWords, filled}
+use Rattle.checking.specs.Step.{Step, found, none, stepGates, withCount, stepWords, filled}
 use Rattle.checking.specs.Reduce.{Reduced, tallied, reduceGates, numbered}
 use Rattle.checking.specs.StepLaws.{taken}
 use Rattle.checking.proofs.step.Moving.{filled-length}
@@ -114,9 +114,9 @@ module _ (first words : List ℕ) (gates pairs merges : ℕ) (s : Standing first
   pub lent-whole : length lent % 3 ≡ 0
   lent-whole = let e : length lent ≡ 3 * gates = ap length lent-words ∙ words-length (s .now) ∙ ap (λ (k : ℕ). 3 * k) (s .size) in omega arith
 
-  module _ (r : Step ℕ) (last : List ℕ) (y : Yields r last (counted (stepGates (gatesOf lent))) (stepWords (stepGates (gatesOf lent)) lent)) where
-    told : counted (stepGates (s .now)) ≡ r
-    told = sym (y .answer ∙ ap (λ (g : List Gate). counted (stepGates g)) lent-gates)
+  module _ (r : Step ℕ) (last : List ℕ) (y : Yields r last (withCount (stepGates (gatesOf lent))) (stepWords (stepGates (gatesOf lent)) lent)) where
+    told : withCount (stepGates (s .now)) ≡ r
+    told = sym (y .answer ∙ ap (λ (g : List Gate). withCount (stepGates g)) lent-gates)
 
     left : last ≡ stepWords (stepGates (s .now)) lent
     left = y .buffer ∙ ap (λ (g : List Gate). stepWords (stepGates g) lent) lent-gates
@@ -126,7 +126,7 @@ module _ (first words : List ℕ) (gates pairs merges : ℕ) (s : Standing first
     ends e = go (stepGates (s .now)) refl
       where
         go : (t : Step (List Gate)) → stepGates (s .now) ≡ t → t ≡ none
-        go (found i j k hs) q = let c : counted (found i j k hs) ≡ none = sym (ap counted q) ∙ told ∙ e in let z : _≡_ {A = ℕ} 0 1 = cc in absurd (omega arith)
+        go (found i j k hs) q = let c : withCount (found i j k hs) ≡ none = sym (ap withCount q) ∙ told ∙ e in let z : _≡_ {A = ℕ} 0 1 = cc in absurd (omega arith)
         go none q = refl
 
     pub ended : r ≡ none
@@ -151,13 +151,13 @@ module _ (first words : List ℕ) (gates pairs merges : ℕ) (s : Standing first
       where
         go : (t : Step (List Gate)) → stepGates (s .now) ≡ t → (hs : List Gate) × (stepGates (s .now) ≡ found i j k hs) × (length hs ≡ n)
         go (found a b l hs) q =
-            let c : found a b l (length hs) ≡ found i j k n = sym (ap counted q) ∙ told ∙ e in
+            let c : found a b l (length hs) ≡ found i j k n = sym (ap withCount q) ∙ told ∙ e in
             let x : a ≡ i = cc in
             let y : b ≡ j = cc in
             let z : l ≡ k = cc in
             let w : length hs ≡ n = cc in
             (hs, q ∙ ap₂ (λ (u v : ℕ). found u v l hs) x y ∙ ap (λ (u : Kind). found i j u hs) z, w)
-        go none q = let c : none ≡ found i j k n = sym (ap counted q) ∙ told ∙ e in let z : _≡_ {A = ℕ} 0 1 = cc in absurd (omega arith)
+        go none q = let c : none ≡ found i j k n = sym (ap withCount q) ∙ told ∙ e in let z : _≡_ {A = ℕ} 0 1 = cc in absurd (omega arith)
 
     pub left-less : (i j : ℕ) (k : Kind) (n : ℕ) → r ≡ found i j k n → n + taken k ≡ gates
     left-less i j k n e =

@@ -11,13 +11,13 @@ use Rattle.bits.specs.Lists.{fold}
 use Rattle.bits.proofs.Bools.{and-parts, both}
 use Rattle.circuit.specs.declared.gate.Gate.{Gate}
 use Rattle.circuit.specs.Gate.{maxLines, notGate, valid, apply}
-use Rattle.circuit.specs.Words.{allValid}
+use Rattle.circuit.specs.Words.{allValid, gateIn}
 use Rattle.circuit.specs.Run.{run}
 use Rattle.circuit.proofs.words.Laws.{valid-append}
 use Rattle.circuit.proofs.run.Laws.{run-append}
 use Rattle.checking.specs.Match.{mayPass, Match, kindOf, remaining}
 use Rattle.checking.specs.Step.{between, replaced}
-use Rattle.checking.specs.StepLaws.{gateIn, Candidate, taken}
+use Rattle.checking.specs.StepLaws.{Meets, taken}
 use Rattle.checking.proofs.step.Lines.{passing, match-run, match-valid}
 
 -- the parts of a list of valid gates
@@ -82,7 +82,7 @@ module _ (gs : List Gate) (i j : ℕ) (order : i < j) (inside : j < length gs) w
       let (p, q) = and-parts (valid n h) (allValid n (drop (j + 1) gs)) f in
       record { first = a; gate = c; middle = e; other = p; last = q }
 
-  module _ (m : Match) (c : Candidate gs i j m) where
+  module _ (m : Match) (c : Meets gs i j m) where
     pub candidate-valid : (n : ℕ) → allValid n gs ≡ true → allValid n (replaced i j (remaining m) gs) ≡ true
     unfolding replaced
     candidate-valid n v =

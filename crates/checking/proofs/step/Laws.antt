@@ -11,12 +11,12 @@ use Rattle.bits.specs.Lists.{fold}
 use Rattle.circuit.specs.declared.gate.Gate.{Gate}
 use Rattle.circuit.specs.Gate.{maxLines, maxMiterGates, valid}
 use Rattle.circuit.specs.Outcome.{Outcome, served, refused, andThen, Untouched}
-use Rattle.circuit.specs.Words.{gatesOf, wordsOf, allValid, checkOutcome, Cascade, WordsFault}
+use Rattle.circuit.specs.Words.{gatesOf, wordsOf, allValid, checkOutcome, Cascade, WordsRefused}
 use Rattle.circuit.proofs.Outcome.{never, then-served, then-refused, then-both}
 use Rattle.circuit.proofs.gate.Laws.{valid-more}
 use Rattle.circuit.proofs.words.Laws.{gates-length, gates-words, words-length, valid-all-more, served-check, check-refused, refused-check}
 use Rattle.checking.specs.Match.{Kind, Match, remaining}
-use Rattle.checking.specs.Step.{filled, Step, found, none, stepGates, counted, stepWords, servedWords, stepOutcome, stepBuffer}
+use Rattle.checking.specs.Step.{filled, Step, found, none, stepGates, withCount, stepWords, servedWords, stepOutcome, stepBuffer}
 use Rattle.checking.specs.StepLaws.{Matches, Steps, finds, taken, Keeps, Stands, StepLaws}
 use Rattle.checking.proofs.step.Lines.{pass-clear, clear-pass, passing, match-run, match-valid}
 use Rattle.checking.proofs.step.Verdicts.{match-found, found-match, match-unique}
@@ -82,7 +82,7 @@ filled-stands n ws k hs c l v =
 -- ---- the call
 
 module _ (n : ℕ) (ws : List ℕ) where
-  pub step-served : (k : ℕ) → Cascade n ws maxMiterGates k → stepOutcome n ws ≡ served (counted (stepGates (gatesOf ws)))
+  pub step-served : (k : ℕ) → Cascade n ws maxMiterGates k → stepOutcome n ws ≡ served (withCount (stepGates (gatesOf ws)))
   unfolding stepOutcome
   step-served k c = then-served _ _ k (served-check n ws maxMiterGates k c)
 
@@ -114,10 +114,10 @@ module _ (n : ℕ) (ws : List ℕ) where
   unfolding stepOutcome
   call-none e =
       let (k, p, f) = then-both (checkOutcome n ws maxMiterGates) _ none e in
-      let c : counted (stepGates (gatesOf ws)) ≡ none = cc in
+      let c : withCount (stepGates (gatesOf ws)) ≡ none = cc in
       none-kept (counted-none (stepGates (gatesOf ws)) c)
     where
-      counted-none : (t : Step (List Gate)) → counted t ≡ none → t ≡ none
+      counted-none : (t : Step (List Gate)) → withCount t ≡ none → t ≡ none
       counted-none (found i j k hs) q = let z : _≡_ {A = ℕ} 0 1 = cc in absurd (omega arith)
       counted-none none q = refl
 
@@ -130,10 +130,10 @@ module _ (n : ℕ) (ws : List ℕ) where
   refused-first (served k) r x y e = absurd (never refl e)
   refused-first (refused a b) r x y e = let p : a ≡ x = cc in let q : b ≡ y = cc in ap₂ (λ (u v : ℕ). refused u v) p q
 
-  call-refused : (x y : ℕ) → (stepOutcome n ws ≡ refused x y) ↔ WordsFault n ws maxMiterGates x y
+  call-refused : (x y : ℕ) → (stepOutcome n ws ≡ refused x y) ↔ WordsRefused n ws maxMiterGates x y
   unfolding stepOutcome
   call-refused x y = (
-    (λ e. check-refused n ws maxMiterGates x y (refused-first (checkOutcome n ws maxMiterGates) (counted (stepGates (gatesOf ws))) x y e)),
+    (λ e. check-refused n ws maxMiterGates x y (refused-first (checkOutcome n ws maxMiterGates) (withCount (stepGates (gatesOf ws))) x y e)),
     (λ w. then-refused _ _ x y (refused-check n ws maxMiterGates x y w)),
   )
 

@@ -10,12 +10,12 @@ use borrow.Author.Tests.{leb-true, leb-false}
 use Rattle.bits.proofs.Bools.{and-parts, either, refuted}
 use Rattle.circuit.specs.declared.gate.Gate.{Gate}
 use Rattle.circuit.specs.Gate.{maxLines, valid}
-use Rattle.circuit.specs.Words.{gatesOf, gateAt, allValid}
+use Rattle.circuit.specs.Words.{gatesOf, gateAt, allValid, gateIn}
 use Rattle.circuit.proofs.gate.Laws.{valid-by-lines}
 use Rattle.circuit.proofs.words.Laws.{gates-length}
 use Rattle.checking.specs.Match.{mayPass, Match, Compared, apart, matched, matchOf, kindOf, remaining}
 use Rattle.checking.specs.Step.{Scan, Search, judged, scanFrom, scanned, searchFrom, replaced, Step, found, searched, stepGates}
-use Rattle.checking.specs.StepLaws.{Matches, gateIn, Candidate, Steps, finds, idles}
+use Rattle.checking.specs.StepLaws.{Matches, Meets, Steps, finds, idles}
 use Rattle.checking.proofs.step.Verdicts.{match-found, found-match, match-unique}
 
 -- gate i may pass every gate strictly between i and j
@@ -177,7 +177,7 @@ never-matched : (v : Compared) (m : Match) → v ≡ apart → v ≡ matched m �
 never-matched v m e f = let z : _≡_ {A = ℕ} 0 1 = cc in omega arith
 
 -- two gates that the search passed over are no candidate
-missed : (gs : List Gate) (a b : ℕ) (o : Match) → matchOf (gateIn gs a) (gateIn gs b) ≡ apart → Candidate gs a b o → ⊥
+missed : (gs : List Gate) (a b : ℕ) (o : Match) → matchOf (gateIn gs a) (gateIn gs b) ≡ apart → Meets gs a b o → ⊥
 missed gs a b o e c = never-matched _ o e (match-found _ _ o (c .matches))
 
 module _ (gs : List Gate) (v : allValid maxLines gs ≡ true) where
@@ -211,8 +211,8 @@ module _ (gs : List Gate) (v : allValid maxLines gs ≡ true) where
 pub steps-unique : (gs : List Gate) (r t : Step (List Gate)) → Steps gs r → Steps gs t → r ≡ t
 steps-unique gs _ _ (finds i j m c low next) (finds a b o d low′ next′) =
     let p : i ≡ a = omega (arith, low a b o d, low′ i j m c) in
-    let d′ : Candidate gs i b o = subst (λ (x : ℕ). Candidate gs x b o) (sym p) d in
-    let c′ : Candidate gs a j m = subst (λ (x : ℕ). Candidate gs x j m) p c in
+    let d′ : Meets gs i b o = subst (λ (x : ℕ). Meets gs x b o) (sym p) d in
+    let c′ : Meets gs a j m = subst (λ (x : ℕ). Meets gs x j m) p c in
     let q : j ≡ b = omega (arith, next b o d′, next′ j m c′) in
     let e : m ≡ o = match-unique _ _ m o (c .matches) (subst (λ (x : ℕ). Matches (gateIn gs i) (gateIn gs x) o) (sym q) (d′ .matches)) in
     ap₂ (λ (x y : ℕ). found x y (kindOf m) (replaced x y (remaining m) gs)) p q

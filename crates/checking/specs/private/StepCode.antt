@@ -1,26 +1,13 @@
 -- For the contracts of the private functions of a step: their answers in the words of `Match` and `Step`.
 use Prim.Native.Nat.{ℕ}
-use Rattle.checking.specs.declared.step.Match as code-match
-use Rattle.checking.specs.declared.step.Match.the-variants as match
-use Rattle.checking.specs.declared.step.Verdict.{Verdict}
-use Rattle.checking.specs.declared.step.Verdict.the-variants.{Apart, Matched}
 use Rattle.checking.specs.declared.step.Scan as code-scan
 use Rattle.checking.specs.declared.step.Scan.the-variants as scan
 use Rattle.checking.specs.declared.step.Search as code-search
 use Rattle.checking.specs.declared.step.Search.the-variants as search
 use Rattle.checking.specs.declared.step.Stepped.{Stepped}
 use Rattle.checking.specs.declared.step.Stepped.the-variants as stepped
-use Rattle.checking.specs.Match.{Match, Compared, apart, matched}
-use Rattle.checking.specs.Step.{Scan, Search, Step, found, none, ofKind}
-
-abbrev pub ofMatch : code-match.Match → Match
-ofMatch match.Cancel = Match.pair
-ofMatch (match.RemoveControl r) = Match.drop r
-ofMatch (match.InvertControl r) = Match.turn r
-
-abbrev pub ofVerdict : Verdict → Compared
-ofVerdict Apart = apart
-ofVerdict (Matched m) = matched (ofMatch m)
+use Rattle.checking.specs.Match.{ofKind, ofMatch}
+use Rattle.checking.specs.Step.{Scan, Search, Step, found, none}
 
 abbrev pub ofScan : code-scan.Scan → Scan
 ofScan (scan.At j m) = Scan.at j (ofMatch m)

@@ -13,9 +13,9 @@ use Rattle.circuit.specs.Gate.{maxLines, maxGates}
 use Rattle.circuit.specs.Outcome.{Outcome, served, refused, andThen}
 use Rattle.circuit.specs.Refusal.{wrongForm, noRoom}
 use Rattle.circuit.specs.Text.{tab, lineFeed, linesWord, numberText, headerLine, endLine, gateLines, textOf}
-use Rattle.circuit.specs.File.{Line, noLine, firstLine, laterLines, linesOf, size, gateOn, gateFields, fieldsOf, headerOn, isEnd, Reading, readFrom, reading, ReadCounts, countsOf, readOutcome, writeOutcome}
+use Rattle.circuit.specs.File.{Line, noLine, firstLine, laterLines, linesOf, lineSize, gateOn, gateFields, fieldsOf, headerOn, isEnd, Reading, readFrom, reading, ReadCounts, countsOf, readOutcome, writeOutcome}
 use Rattle.circuit.specs.FileLaws as laws
-use Rattle.circuit.specs.FileLaws.{FileCascade, LineOffence, FileFault, ReaderLaws, Readable, ReadFault, Writable, WriteFault}
+use Rattle.circuit.specs.FileLaws.{FileCascade, LineOffence, FileRefused, ReaderLaws, Readable, ReadRefused, Writable, WriteRefused}
 use Rattle.circuit.specs.Words.{gatesOf, checkOutcome}
 use Rattle.circuit.proofs.words.Laws.{check-served, served-check, check-refused, refused-check}
 use Rattle.circuit.proofs.Outcome.{never, demand-met, demand-failed, then-served, then-refused, then-both, demanded, then-either, last-failed, same-refusal}
@@ -27,17 +27,17 @@ use Rattle.circuit.proofs.file.Offences.{HeaderFound, header-found, hea
 pub data TextFound (text : List ℕ) : Outcome Reading → Type 0 where
   cascade : (n : ℕ) (gs : List Gate) (rest : List ℕ) → FileCascade n gs → text ≡ textOf n gs ++ rest
       → TextFound text (served (record { lines = n; gates = gs; taken = length (textOf n gs) }))
-  fault : (number place : ℕ) → FileFault text number place → TextFound text (refused number place)
+  fault : (number place : ℕ) → FileRefused text number place → TextFound text (refused number place)
 
 module _ (text : List ℕ) where
   after-header : (n : ℕ) → 1 ≤ n → n ≤ maxLines → firstLine (linesOf text) .bytes ≡ headerText n → Cut text (firstLine (linesOf text)) (laterLines (linesOf text))
-      → (o : Outcome Reading) → Walked n 1 [] (size (firstLine (linesOf text))) (drop (size (firstLine (linesOf text))) text) o → TextFound text o
+      → (o : Outcome Reading) → Walked n 1 [] (lineSize (firstLine (linesOf text))) (drop (lineSize (firstLine (linesOf text))) text) o → TextFound text o
   after-header n low high b c o (whole-text hs rest q w m) =
       let l = firstLine (linesOf text) in
       let z : length (numberText n ++ (lineFeed ∷ [])) ≡ length (numberText n) + 1 = length-append (numberText n) (lineFeed ∷ []) in
-      let s : size l ≡ length (headerText n) + 1 = ap (λ (x : List ℕ). length x + 1) b in
+      let s : lineSize l ≡ length (headerText n) + 1 = ap (λ (x : List ℕ). length x + 1) b in
       let y = length-append (headerLine n) (gateLines hs ++ endLine) in
-      let t : length (textOf n hs) ≡ size l + length (gateLines hs ++ endLine) = omega arith in
+      let t : length (textOf n hs) ≡ lineSize l + length (gateLines hs ++ endLine) = omega arith in
       let e : text ≡ textOf n hs ++ rest =
       c .text
       ∙ ap₂ (λ (x y : List ℕ). x ++ (lineFeed ∷ y)) b q
@@ -62,13 +62,13 @@ module _ (text : List ℕ) where
   text-found = go (headerOn (firstLine (linesOf text))) (header-found (firstLine (linesOf text)))
     where
       go : (o : Outcome ℕ) → HeaderFound (firstLine (linesOf text)) o
-          → TextFound text (andThen o (λ n. readFrom n 1 [] (size (firstLine (linesOf text))) (laterLines (linesOf text))))
+          → TextFound text (andThen o (λ n. readFrom n 1 [] (lineSize (firstLine (linesOf text))) (laterLines (linesOf text))))
       go o (HeaderFound.bad number x) = fault number 0 (laws.header-line number x)
       go o (HeaderFound.good n low high b d) =
           let l = firstLine (linesOf text) in
           let c = cut-first text d in
-          after-header n low high b c (readFrom n 1 [] (size l) (laterLines (linesOf text)))
-          (walked n 1 high (laterLines (linesOf text)) [] (size l) (drop (size l) text) (c .later) (omega arith))
+          after-header n low high b c (readFrom n 1 [] (lineSize l) (laterLines (linesOf text)))
+          (walked n 1 high (laterLines (linesOf text)) [] (lineSize l) (drop (lineSize l) text) (c .later) (omega arith))
 
   served-found : (c : Reading) (o : Outcome Reading) → TextFound text o → o ≡ served c
       → (rest : List ℕ) × (FileCascade (c .lines) (c .gates)) × (text ≡ textOf (c .lines) (c .gates) ++ rest) × (c .taken ≡ length (textOf (c .lines) (c .gates)))
@@ -78,12 +78,12 @@ module _ (text : List ℕ) where
       x (rest, g, e, refl)
   served-found c o (fault number place x) q = absurd (never q refl)
 
-  refused-found : (number place : ℕ) (o : Outcome Reading) → TextFound text o → o ≡ refused number place → FileFault text number place
+  refused-found : (number place : ℕ) (o : Outcome Reading) → TextFound text o → o ≡ refused number place → FileRefused text number place
   refused-found number place o (cascade n gs rest g e) q = absurd (never refl q)
   refused-found number place o (fault m p x) q =
       let a : m ≡ number = cc in
       let b : p ≡ place = cc in
-      subst₂ (FileFault text) a b x
+      subst₂ (FileRefused text) a b x
 
   -- the whole text of what was read
   pub read-cascade : (c : Reading) → reading text ≡ served c
@@ -95,7 +95,7 @@ module _ (text : List ℕ) where
       let (rest, g, t, k) = read-cascade c e in
       (g, ap (take (c .taken)) t ∙ take-at (textOf (c .lines) (c .gates)) rest (c .taken) (sym k))
 
-  pub read-fault : (number place : ℕ) → reading text ≡ refused number place → FileFault text number place
+  pub read-fault : (number place : ℕ) → reading text ≡ refused number place → FileRefused text number place
   read-fault number place e = refused-found number place (reading text) text-found e
 
 -- a line that is wrong, or missing, ends the reading
@@ -114,7 +114,7 @@ line-refused n high gs at (l ∷ ls) number x =
     cond-false (isEnd l) _ _ (offence-open n (length gs + 1) (length gs) high l number x)
     ∙ then-refused _ _ number (length gs + 1) (offence-refused n (length gs + 1) (length gs) high l number x)
 
-pub fault-read : (text : List ℕ) (number place : ℕ) → FileFault text number place → reading text ≡ refused number place
+pub fault-read : (text : List ℕ) (number place : ℕ) → FileRefused text number place → reading text ≡ refused number place
 unfolding reading
 fault-read text number place (laws.header-line m x) = then-refused _ _ m 0 (header-refused (firstLine (linesOf text)) m x)
 fault-read text number place (laws.later-line n gs rest c t m x) =
@@ -162,22 +162,22 @@ module _ (text : List ℕ) (room : ℕ) where
       (ap reading (r .starts) ∙ text-read (c .lines) (r .cascade) (r .rest) (r .good)) (r .fits)
       ∙ ap₂ (λ (x y : ℕ). served (record { lines = c .lines; gates = x; taken = y })) (sym (r .gates)) (sym (r .taken))
 
-  pub read-refused : (number place : ℕ) → readOutcome text room ≡ refused number place → ReadFault text room number place
+  pub read-refused : (number place : ℕ) → readOutcome text room ≡ refused number place → ReadRefused text room number place
   read-refused number place e = go (reading text) refl
     where
-      go : (o : Outcome Reading) → reading text ≡ o → ReadFault text room number place
-      go (refused x y) q = same-refusal (ReadFault text room) (sym (read-bad x y q) ∙ e) (ReadFault.wrong x y (read-fault text x y q))
+      go : (o : Outcome Reading) → reading text ≡ o → ReadRefused text room number place
+      go (refused x y) q = same-refusal (ReadRefused text room) (sym (read-bad x y q) ∙ e) (ReadRefused.wrong x y (read-fault text x y q))
       go (served d) q =
           let (rest, g, t, k) = read-cascade text d q in
           either (leb (3 * length (d .gates)) room)
           (λ h. absurd (never (read-fits d q (leb-true _ _ h)) e))
           (λ h.
           let l : room < 3 * length (d .gates) = leb-false _ _ h in
-          same-refusal (ReadFault text room) (sym (read-short d q l) ∙ e) (ReadFault.short (d .lines) (d .gates) rest g t l))
+          same-refusal (ReadRefused text room) (sym (read-short d q l) ∙ e) (ReadRefused.short (d .lines) (d .gates) rest g t l))
 
-  pub refused-read : (number place : ℕ) → ReadFault text room number place → readOutcome text room ≡ refused number place
-  refused-read number place (ReadFault.wrong x y f) = read-bad x y (fault-read text x y f)
-  refused-read number place (ReadFault.short n gs rest g t l) =
+  pub refused-read : (number place : ℕ) → ReadRefused text room number place → readOutcome text room ≡ refused number place
+  refused-read number place (ReadRefused.wrong x y f) = read-bad x y (fault-read text x y f)
+  refused-read number place (ReadRefused.short n gs rest g t l) =
       read-short (record { lines = n; gates = gs; taken = length (textOf n gs) }) (ap reading t ∙ text-read n gs rest g) l
 
 -- the text of the cascade without gates on one line
@@ -205,14 +205,14 @@ module _ (n : ℕ) (ws : List ℕ) (room : ℕ) where
       let x : length (textOf n (gatesOf ws)) ≡ k = cc in
       record { gates = g; good = check-served n ws maxGates g a; bytes = sym x; fits = omega (arith, leb-true (length (textOf n (gatesOf ws))) room t) }
 
-  pub fault-write : (number place : ℕ) → WriteFault n ws room number place → writeOutcome n ws room ≡ refused number place
+  pub fault-write : (number place : ℕ) → WriteRefused n ws room number place → writeOutcome n ws room ≡ refused number place
   unfolding writeOutcome
-  fault-write number place (WriteFault.words w) = then-refused _ _ number place (refused-check n ws maxGates number place w)
-  fault-write number place (WriteFault.no-room k c h) = then-served _ _ k (served-check n ws maxGates k c) ∙ demand-failed _ _ _ _ (lt-leb _ room h)
+  fault-write number place (WriteRefused.words w) = then-refused _ _ number place (refused-check n ws maxGates number place w)
+  fault-write number place (WriteRefused.no-room k c h) = then-served _ _ k (served-check n ws maxGates k c) ∙ demand-failed _ _ _ _ (lt-leb _ room h)
 
-  pub write-fault : (number place : ℕ) → writeOutcome n ws room ≡ refused number place → WriteFault n ws room number place
+  pub write-fault : (number place : ℕ) → writeOutcome n ws room ≡ refused number place → WriteRefused n ws room number place
   unfolding writeOutcome
   write-fault =
-      then-either (WriteFault n ws room) (checkOutcome n ws maxGates) _
-      (λ x y p. WriteFault.words (check-refused n ws maxGates x y p))
-      (λ k p. last-failed (WriteFault n ws room) (leb (length (textOf n (gatesOf ws))) room) noRoom 0 _ (λ t. WriteFault.no-room k (check-served n ws maxGates k p) (leb-false _ _ t)))
+      then-either (WriteRefused n ws room) (checkOutcome n ws maxGates) _
+      (λ x y p. WriteRefused.words (check-refused n ws maxGates x y p))
+      (λ k p. last-failed (WriteRefused n ws room) (leb (length (textOf n (gatesOf ws))) room) noRoom 0 _ (λ t. WriteRefused.no-room k (check-served n ws maxGates k p) (leb-false _ _ t)))

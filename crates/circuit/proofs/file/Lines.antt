@@ -9,7 +9,7 @@ use lib.ListN.{length, drop}
 use borrow.Author.Tests.{eqb-true, not-true}
 use Rattle.bits.proofs.Bools.{either, and-parts, both, cond-true, cond-false}
 use Rattle.circuit.specs.Text.{tab, lineFeed}
-use Rattle.circuit.specs.File.{Line, firstLine, laterLines, linesOf, size, longer, fieldsOf, same}
+use Rattle.circuit.specs.File.{Line, firstLine, laterLines, linesOf, lineSize, longer, fieldsOf, same}
 
 -- the byte s does not stand in the list
 unfoldable pub free : ℕ → List ℕ → Bool
@@ -49,8 +49,8 @@ lines-cut (b ∷ f) r p =
 
 -- a text whose first line is ended: that line, its LF, and the later lines
 pub record Cut (r : List ℕ) (l : Line) (ls : List Line) : Type 0 where
-  pub text : r ≡ l .bytes ++ (lineFeed ∷ drop (size l) r)
-  pub later : linesOf (drop (size l) r) ≡ ls
+  pub text : r ≡ l .bytes ++ (lineFeed ∷ drop (lineSize l) r)
+  pub later : linesOf (drop (lineSize l) r) ≡ ls
 
 pub cut-first : (r : List ℕ) → firstLine (linesOf r) .ended ≡ true → Cut r (firstLine (linesOf r)) (laterLines (linesOf r))
 cut-first [] e = absurd (false≢true (sym (ap (λ (ls : List Line). firstLine ls .ended) lines-none) ∙ e))

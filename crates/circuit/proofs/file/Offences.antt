@@ -13,8 +13,8 @@ use Rattle.circuit.specs.Gate.{maxLines, maxGates, valid, Control}
 use Rattle.circuit.specs.Outcome.{Outcome, served, refused, demand, andThen}
 use Rattle.circuit.specs.Refusal.{wrongForm, badLineCount, lineOutside}
 use Rattle.circuit.specs.Words.{allValid, lineCountGood}
-use Rattle.circuit.specs.Text.{tab, lineFeed, plus, minus, linesWord, gateWord, endWord, numberText, controlText, controlsText, gateText, gateLine, endLine, gateLines}
-use Rattle.circuit.specs.File.{Line, noLine, firstLine, laterLines, linesOf, size, fieldsOf, same, numberOf, lineOf, controlOf, controlsFrom, among, risingFrom, gateOf, closedGate, gateFields, gateOn, headerFields, headerOn, isEnd, Reading, readFrom}
+use Rattle.circuit.specs.Text.{tab, lineFeed, plusSign, minusSign, linesWord, gateWord, endWord, numberText, controlText, controlsText, gateText, gateLine, endLine, gateLines}
+use Rattle.circuit.specs.File.{Line, noLine, firstLine, laterLines, linesOf, lineSize, fieldsOf, same, numberOf, lineOf, controlOf, controlsFrom, among, risingFrom, gateOf, closedGate, gateFields, gateOn, headerFields, headerOn, isEnd, Reading, readFrom}
 use Rattle.circuit.specs.FileLaws as laws
 use Rattle.circuit.specs.FileLaws.{NumberField, ControlField, HeaderOffence, ControlsOffence, Among, NotRising, GoodFields, LineOffence}
 use Rattle.circuit.specs.File.{Inside}
@@ -68,13 +68,13 @@ same-number f k m a b =
 
 -- ---- control fields
 
-sign-of : (s : ℕ) → (eqb s plus || eqb s minus) ≡ true → s ≡ cond (eqb s plus) plus minus
+sign-of : (s : ℕ) → (eqb s plusSign || eqb s minusSign) ≡ true → s ≡ cond (eqb s plusSign) plusSign minusSign
 sign-of s e =
-    either (eqb s plus)
-    (λ t. eqb-true s plus t ∙ sym (cond-true (eqb s plus) plus minus t))
-    (λ t. eqb-true s minus (sym (ap (λ (b : Bool). b || eqb s minus) t) ∙ e) ∙ sym (cond-false (eqb s plus) plus minus t))
+    either (eqb s plusSign)
+    (λ t. eqb-true s plusSign t ∙ sym (cond-true (eqb s plusSign) plusSign minusSign t))
+    (λ t. eqb-true s minusSign (sym (ap (λ (b : Bool). b || eqb s minusSign) t) ∙ e) ∙ sym (cond-false (eqb s plusSign) plusSign minusSign t))
 
-sign-true : (p : Bool) → (eqb (cond p plus minus) plus || eqb (cond p plus minus) minus) ≡ true
+sign-true : (p : Bool) → (eqb (cond p plusSign minusSign) plusSign || eqb (cond p plusSign minusSign) minusSign) ≡ true
 sign-true true = refl
 sign-true false = refl
 
@@ -83,26 +83,26 @@ pub data ControlFound (n i : ℕ) (f : List ℕ) : Outcome Control → Type 0 wh
   beyond : (c : Control) → ControlField f c → n ≤ c .line → ControlFound n i f (refused lineOutside i)
   wrong : ((c : Control) → ControlField f c → ⊥) → ControlFound n i f (refused wrongForm i)
 
-no-sign : (s : ℕ) (f : List ℕ) → (eqb s plus || eqb s minus) ≡ false → (c : Control) → ControlField (s ∷ f) c → ⊥
+no-sign : (s : ℕ) (f : List ℕ) → (eqb s plusSign || eqb s minusSign) ≡ false → (c : Control) → ControlField (s ∷ f) c → ⊥
 no-sign s f t c h =
-    let e : s ≡ cond (c .positive) plus minus = head-eq-of-cons-eq (h .text) in
-    refuted t (ap (λ (x : ℕ). eqb x plus || eqb x minus) e ∙ sign-true (c .positive))
+    let e : s ≡ cond (c .positive) plusSign minusSign = head-eq-of-cons-eq (h .text) in
+    refuted t (ap (λ (x : ℕ). eqb x plusSign || eqb x minusSign) e ∙ sign-true (c .positive))
 
 pub control-found : (n i : ℕ) (f : List ℕ) → ControlFound n i f (controlOf n i f)
 unfolding controlOf
 control-found n i [] = wrong (λ c h. nil≢cons (h .text))
 control-found n i (s ∷ f) =
-    either (eqb s plus || eqb s minus)
+    either (eqb s plusSign || eqb s minusSign)
     (λ t. subst (ControlFound n i (s ∷ f)) (sym (demand-met {A = Control} _ _ _ _ t)) (go t (lineOf n i f) (line-field n i f)))
     (λ t. subst (ControlFound n i (s ∷ f)) (sym (demand-failed {A = Control} _ _ _ _ t)) (wrong (no-sign s f t)))
   where
-    is : (eqb s plus || eqb s minus) ≡ true → (k : ℕ) → NumberField f k → ControlField (s ∷ f) (record { line = k; positive = eqb s plus })
+    is : (eqb s plusSign || eqb s minusSign) ≡ true → (k : ℕ) → NumberField f k → ControlField (s ∷ f) (record { line = k; positive = eqb s plusSign })
     is t k h = record { small = h .small; text = ap₂ (λ (x : ℕ) (l : List ℕ). x ∷ l) (sign-of s t) (h .text) }
 
-    go : (eqb s plus || eqb s minus) ≡ true → (o : Outcome ℕ) → LineField n i f o
-        → ControlFound n i (s ∷ f) (andThen o (λ k. served (record { line = k; positive = eqb s plus })))
-    go t o (good k h l) = good (record { line = k; positive = eqb s plus }) (is t k h) l
-    go t o (beyond k h l) = beyond (record { line = k; positive = eqb s plus }) (is t k h) l
+    go : (eqb s plusSign || eqb s minusSign) ≡ true → (o : Outcome ℕ) → LineField n i f o
+        → ControlFound n i (s ∷ f) (andThen o (λ k. served (record { line = k; positive = eqb s plusSign })))
+    go t o (good k h l) = good (record { line = k; positive = eqb s plusSign }) (is t k h) l
+    go t o (beyond k h l) = beyond (record { line = k; positive = eqb s plusSign }) (is t k h) l
     go t o (wrong h) = wrong (λ c x. h (c .line) (record { small = x .small; text = tail-eq-of-cons-eq (x .text) }))
 
 -- a field that is no control, one that is outside the cascade
@@ -458,7 +458,7 @@ unfolding fieldsOf
 no-line n i count = laws.no-gate (λ t fs q. nil≢cons (tail-eq-of-cons-eq q)) (λ b d. false≢true d)
 
 -- a line that was cut off, and the text after it
-joined : (r : List ℕ) (l : Line) (ls : List Line) (g : Gate) → l .bytes ≡ gateText g → Cut r l ls → (x : List ℕ) (hs : List Gate) → drop (size l) r ≡ gateLines hs ++ x
+joined : (r : List ℕ) (l : Line) (ls : List Line) (g : Gate) → l .bytes ≡ gateText g → Cut r l ls → (x : List ℕ) (hs : List Gate) → drop (lineSize l) r ≡ gateLines hs ++ x
     → r ≡ (gateLine g ++ gateLines hs) ++ x
 joined r l ls g b c x hs q =
     c .text
@@ -482,26 +482,26 @@ module _ (n first : ℕ) (lines-high : n ≤ maxLines) where
       (subst (λ (k : ℕ). Walked n first gs at r (served (record { lines = n; gates = gs; taken = at + k })))
       (sym (ap (λ (x : List ℕ). length x + 1) (same-true (l .bytes) endWord b)))
       (subst (λ (x : List Gate). Walked n first gs at r (served (record { lines = n; gates = x; taken = at + 4 }))) (append-nil gs)
-      (whole-text [] (drop (size l) r)
-      (c .text ∙ ap (λ (x : List ℕ). x ++ (lineFeed ∷ drop (size l) r)) (same-true (l .bytes) endWord b)) refl (omega arith)))))
+      (whole-text [] (drop (lineSize l) r)
+      (c .text ∙ ap (λ (x : List ℕ). x ++ (lineFeed ∷ drop (lineSize l) r)) (same-true (l .bytes) endWord b)) refl (omega arith)))))
       (λ z.
       subst (Walked n first gs at r) (sym (cond-false (isEnd l) _ _ z))
       (go (gateOn n (length gs + first) (length gs) l) (gate-found n (length gs + first) (length gs) lines-high l z)
-      (λ g m c. walked ls (gs ++ (g ∷ [])) (at + size l) (drop (size l) r) (c .later) (omega (arith, length-append gs (g ∷ []))))))
+      (λ g m c. walked ls (gs ++ (g ∷ [])) (at + lineSize l) (drop (lineSize l) r) (c .later) (omega (arith, length-append gs (g ∷ []))))))
     where
       cut : Cut r (firstLine (linesOf r)) (laterLines (linesOf r)) → Cut r l ls
       cut c = subst (λ (x : List Line). Cut r (firstLine x) (laterLines x)) e c
 
-      onward : (g : Gate) → valid n g ≡ true → l .bytes ≡ gateText g → Cut r l ls → (o : Outcome Reading) → Walked n first (gs ++ (g ∷ [])) (at + size l) (drop (size l) r) o → Walked n first gs at r o
+      onward : (g : Gate) → valid n g ≡ true → l .bytes ≡ gateText g → Cut r l ls → (o : Outcome Reading) → Walked n first (gs ++ (g ∷ [])) (at + lineSize l) (drop (lineSize l) r) o → Walked n first gs at r o
       onward g v b c o (whole-text hs rest q w m) =
           let k : length (gs ++ (g ∷ [])) ≡ length gs + 1 = length-append gs (g ∷ []) in
-          let s : size l ≡ length (gateText g) + 1 = ap (λ (x : List ℕ). length x + 1) b in
+          let s : lineSize l ≡ length (gateText g) + 1 = ap (λ (x : List ℕ). length x + 1) b in
           let z : length (gateLine g) ≡ length (gateText g) + 1 = length-append (gateText g) (lineFeed ∷ []) in
           let a1 = length-append (gateLines hs) endLine in
           let a2 = length-append (gateLine g ++ gateLines hs) endLine in
           let a3 = length-append (gateLine g) (gateLines hs) in
-          let t : at + length (gateLines (g ∷ hs) ++ endLine) ≡ at + size l + length (gateLines hs ++ endLine) = omega arith in
-          subst (λ (x : List Gate). Walked n first gs at r (served (record { lines = n; gates = x; taken = at + size l + length (gateLines hs ++ endLine) })))
+          let t : at + length (gateLines (g ∷ hs) ++ endLine) ≡ at + lineSize l + length (gateLines hs ++ endLine) = omega arith in
+          subst (λ (x : List Gate). Walked n first gs at r (served (record { lines = n; gates = x; taken = at + lineSize l + length (gateLines hs ++ endLine) })))
           (sym (append-assoc gs (g ∷ []) hs))
           (subst (λ (x : ℕ). Walked n first gs at r (served (record { lines = n; gates = gs ++ (g ∷ hs); taken = x }))) t
           (whole-text (g ∷ hs) rest (joined r l ls g b c (endLine ++ rest) hs q) (both v w) (omega arith)))
@@ -513,11 +513,11 @@ module _ (n first : ℕ) (lines-high : n ≤ maxLines) where
           (subst (λ (y : ℕ). LineOffence n (y + first) y (firstLine (linesOf rest)) number) (sym p) x))
 
       go : (o : Outcome Gate) → GateFound n (length gs + first) (length gs) l o
-          → ((g : Gate) → length gs < maxGates → Cut r l ls → Walked n first (gs ++ (g ∷ [])) (at + size l) (drop (size l) r) (readFrom n first (gs ++ (g ∷ [])) (at + size l) ls))
-          → Walked n first gs at r (andThen o (λ g. readFrom n first (gs ++ (g ∷ [])) (at + size l) ls))
+          → ((g : Gate) → length gs < maxGates → Cut r l ls → Walked n first (gs ++ (g ∷ [])) (at + lineSize l) (drop (lineSize l) r) (readFrom n first (gs ++ (g ∷ [])) (at + lineSize l) ls))
+          → Walked n first gs at r (andThen o (λ g. readFrom n first (gs ++ (g ∷ [])) (at + lineSize l) ls))
       go o (good g v b d m) more =
           let c = cut (cut-first r (ap (λ (x : List Line). firstLine x .ended) e ∙ d)) in
-          onward g v b c (readFrom n first (gs ++ (g ∷ [])) (at + size l) ls) (more g m c)
+          onward g v b c (readFrom n first (gs ++ (g ∷ [])) (at + lineSize l) ls) (more g m c)
       go o (bad number x) more =
           let p : length gs + 0 ≡ length gs = omega arith in
           subst (λ (k : ℕ). Walked n first gs at r (refused number (k + first))) p

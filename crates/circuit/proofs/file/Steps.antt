@@ -12,7 +12,7 @@ use Rattle.circuit.specs.Gate.{maxLines, maxGates}
 use Rattle.circuit.specs.Outcome.{Outcome, served, refused, written, Yields}
 use Rattle.circuit.specs.Refusal.{wrongForm}
 use Rattle.circuit.specs.Text.{lineFeed, endWord, endLine}
-use Rattle.circuit.specs.File.{Line, noLine, firstLine, laterLines, linesOf, size, fieldsOf, same, gateFields, gateOn, headerOn, isEnd, Reading, readFrom, reading, ReadCounts, countsOf, gatesRead, readOutcome, readBuffer}
+use Rattle.circuit.specs.File.{Line, noLine, firstLine, laterLines, linesOf, lineSize, fieldsOf, same, gateFields, gateOn, headerOn, isEnd, Reading, readFrom, reading, ReadCounts, countsOf, gatesRead, readOutcome, readBuffer}
 use Rattle.circuit.specs.Words.{wordsOf}
 use Rattle.circuit.specs.private.Scan.{lineAt, gateNext, HeaderNext, headerNext, countsFrom}
 use Rattle.circuit.specs.private.Fill.{GatesAt}
@@ -42,7 +42,7 @@ module _ (n first : ℕ) (lines-high : n ≤ maxLines) (text : List ℕ) (gs : L
       go o (GateFound.bad number x) q = absurd (never q refl)
 
   from-line : (g : Gate) → gateOn n (length gs + first) (length gs) (lineAt (drop at text)) ≡ served g → isEnd (lineAt (drop at text)) ≡ false → lineAt (drop at text) .ended ≡ true
-      → (ls : List Line) → linesOf (drop at text) ≡ ls → readFrom n first gs at ls ≡ readFrom n first (gs ++ (g ∷ [])) (at + size (firstLine ls)) (laterLines ls)
+      → (ls : List Line) → linesOf (drop at text) ≡ ls → readFrom n first gs at ls ≡ readFrom n first (gs ++ (g ∷ [])) (at + lineSize (firstLine ls)) (laterLines ls)
   unfolding readFrom
   from-line g e z d [] q = absurd (false≢true (sym (ap (λ (ls : List Line). firstLine ls .ended) q) ∙ d))
   from-line g e z d (l ∷ ls) q =
@@ -53,10 +53,10 @@ module _ (n first : ℕ) (lines-high : n ≤ maxLines) (text : List ℕ) (gs : L
   stepped z next e =
       let (g, good, b) = then-both (gateOn n (length gs + first) (length gs) (lineAt (drop at text))) _ next e in
       let l = lineAt (drop at text) in
-      let q : at + size l ≡ next = unserved b in
+      let q : at + lineSize l ≡ next = unserved b in
       let (d, m) = gate-facts g good z in
       let c = cut-first (drop at text) d in
-      let s : length (drop at text) ≡ length (l .bytes) + length (lineFeed ∷ drop (size l) (drop at text)) = ap length (c .text) ∙ length-append (l .bytes) _ in
+      let s : length (drop at text) ≡ length (l .bytes) + length (lineFeed ∷ drop (lineSize l) (drop at text)) = ap length (c .text) ∙ length-append (l .bytes) _ in
       let t = length-drop at text in
       record {
         gate = g;
@@ -66,7 +66,7 @@ module _ (n first : ℕ) (lines-high : n ≤ maxLines) (text : List ℕ) (gs : L
         left =
             from-line g good z d (linesOf (drop at text)) refl
             ∙ ap₂ (λ (k : ℕ) (ls : List Line). readFrom n first (gs ++ (g ∷ [])) k ls) q
-            (sym (c .later) ∙ ap linesOf (drop-drop (size l) at text ∙ ap (λ (k : ℕ). drop k text) q));
+            (sym (c .later) ∙ ap linesOf (drop-drop (lineSize l) at text ∙ ap (λ (k : ℕ). drop k text) q));
       }
 
   pub step-refused : isEnd (lineAt (drop at text)) ≡ false → (number place : ℕ) → gateNext n (length gs + first) (length gs) at (drop at text) ≡ refused number place
@@ -103,19 +103,19 @@ module _ (n first : ℕ) (lines-high : n ≤ maxLines) (text : List ℕ) (gs : L
       let l = lineAt (drop at text) in
       let (d, b) = and-parts (l .ended) (same (l .bytes) endWord) z in
       let w : l .bytes ≡ endWord = same-true (l .bytes) endWord b in
-      let k : size l ≡ 4 = ap (λ (x : List ℕ). length x + 1) w in
+      let k : lineSize l ≡ 4 = ap (λ (x : List ℕ). length x + 1) w in
       let c = cut-first (drop at text) d in
-      let s : length (drop at text) ≡ length (l .bytes) + length (lineFeed ∷ drop (size l) (drop at text)) = ap length (c .text) ∙ length-append (l .bytes) _ in
+      let s : length (drop at text) ≡ length (l .bytes) + length (lineFeed ∷ drop (lineSize l) (drop at text)) = ap length (c .text) ∙ length-append (l .bytes) _ in
       let t = length-drop at text in
       (go (linesOf (drop at text)) refl z d ∙ ap (λ (x : ℕ). served (record { lines = n; gates = gs; taken = at + x })) k, omega arith)
     where
       go : (ls : List Line) → linesOf (drop at text) ≡ ls → isEnd (lineAt (drop at text)) ≡ true → lineAt (drop at text) .ended ≡ true
-          → readFrom n first gs at ls ≡ served (record { lines = n; gates = gs; taken = at + size (lineAt (drop at text)) })
+          → readFrom n first gs at ls ≡ served (record { lines = n; gates = gs; taken = at + lineSize (lineAt (drop at text)) })
       go [] q z d = absurd (false≢true (sym (ap (λ (ls : List Line). firstLine ls .ended) q) ∙ d))
       go (l ∷ ls) q z d =
           unfold readFrom in
           cond-true (isEnd l) _ _ (sym (ap (λ (x : List Line). isEnd (firstLine x)) q) ∙ z)
-          ∙ ap (λ (x : List Line). served (record { lines = n; gates = gs; taken = at + size (firstLine x) })) (sym q)
+          ∙ ap (λ (x : List Line). served (record { lines = n; gates = gs; taken = at + lineSize (firstLine x) })) (sym q)
 
 -- ---- what the loop that judges keeps: the gates up to `at`, and that what is left from there decides
 
@@ -180,13 +180,13 @@ module _ (text : List ℕ) where
   header-start n next e =
       let (m, a, b) = then-both (headerOn (lineAt text)) _ (record { lines = n; next = next }) e in
       let l = lineAt text in
-      let x : _≡_ {A = HeaderNext} (record { lines = m; next = size l }) (record { lines = n; next = next }) = unserved b in
+      let x : _≡_ {A = HeaderNext} (record { lines = m; next = lineSize l }) (record { lines = n; next = next }) = unserved b in
       let p : m ≡ n = ap (λ (y : HeaderNext). y .lines) x in
-      let q : size l ≡ next = ap (λ (y : HeaderNext). y .next) x in
+      let q : lineSize l ≡ next = ap (λ (y : HeaderNext). y .next) x in
       let good : headerOn l ≡ served n = a ∙ ap served p in
       let (h, d) = facts (headerOn l) (header-found l) good in
       let c = cut-first text d in
-      let s : length text ≡ length (l .bytes) + length (lineFeed ∷ drop (size l) text) = ap length (c .text) ∙ length-append (l .bytes) _ in
+      let s : length text ≡ length (l .bytes) + length (lineFeed ∷ drop (lineSize l) text) = ap length (c .text) ∙ length-append (l .bytes) _ in
       record {
         some = omega arith;
         high = h;

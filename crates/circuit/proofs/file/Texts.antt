@@ -12,8 +12,8 @@ use Rattle.circuit.specs.declared.gate.Gate.{Gate}
 use Rattle.circuit.specs.Gate.{maxLines, maxGates, valid, Control, controlsOf}
 use Rattle.circuit.specs.Outcome.{served, andThen}
 use Rattle.circuit.specs.Words.{allValid}
-use Rattle.circuit.specs.Text.{tab, lineFeed, plus, minus, linesWord, gateWord, endWord, numberText, controlText, controlsText, gateText, headerLine, gateLine, endLine, gateLines, textOf}
-use Rattle.circuit.specs.File.{Line, firstLine, laterLines, linesOf, size, fieldsOf, same, lineOf, controlOf, controlsFrom, among, risingFrom, gateOf, closedGate, gateFields, gateOn, headerFields, headerOn, readFrom, reading}
+use Rattle.circuit.specs.Text.{tab, lineFeed, plusSign, minusSign, linesWord, gateWord, endWord, numberText, controlText, controlsText, gateText, headerLine, gateLine, endLine, gateLines, textOf}
+use Rattle.circuit.specs.File.{Line, firstLine, laterLines, linesOf, lineSize, fieldsOf, same, lineOf, controlOf, controlsFrom, among, risingFrom, gateOf, closedGate, gateFields, gateOn, headerFields, headerOn, readFrom, reading}
 use Rattle.circuit.specs.FileLaws.{FileCascade}
 use Rattle.circuit.proofs.Outcome.{demand-met, then-served}
 use Rattle.circuit.proofs.gate.Laws.{valid-facts, valid-more}
@@ -31,7 +31,7 @@ line-text n i k h l = then-served _ _ k (number-text i k (omega arith)) ∙ dema
 pub control-text : (n i : ℕ) (c : Control) → c .line < n → n ≤ 100 → controlOf n i (controlText c) ≡ served c
 control-text n i c h l = signed (c .positive) (c .line) h
   where
-    signed : (p : Bool) (k : ℕ) → k < n → controlOf n i (cond p plus minus ∷ numberText k) ≡ served (record { line = k; positive = p })
+    signed : (p : Bool) (k : ℕ) → k < n → controlOf n i (cond p plusSign minusSign ∷ numberText k) ≡ served (record { line = k; positive = p })
     signed true k h = unfold controlOf in then-served _ _ k (line-text n i k h l)
     signed false k h = unfold controlOf in then-served _ _ k (line-text n i k h l)
 
@@ -54,9 +54,9 @@ control-free : (s : ℕ) (c : Control) → s < 43 → c .line < 100 → free s (
 unfolding free
 control-free s c h l = both (sign (c .positive)) (number-free s (c .line) (omega arith) l)
   where
-    sign : (p : Bool) → not (eqb (cond p plus minus) s) ≡ true
-    sign true = ap not (borrow.Author.Tests.ne-eqb plus s (λ e. omega arith))
-    sign false = ap not (borrow.Author.Tests.ne-eqb minus s (λ e. omega arith))
+    sign : (p : Bool) → not (eqb (cond p plusSign minusSign) s) ≡ true
+    sign true = ap not (borrow.Author.Tests.ne-eqb plusSign s (λ e. omega arith))
+    sign false = ap not (borrow.Author.Tests.ne-eqb minusSign s (λ e. omega arith))
 
 pub controls-free : (s n : ℕ) (cs : List Control) → s < 43 → n ≤ 100 → within n cs ≡ true → allFree s (map controlText cs) ≡ true
 unfolding allFree within
@@ -166,8 +166,8 @@ unfolding reading
 start-read n gs r c =
     let x : List ℕ = gateLines gs ++ r in
     let z : length (numberText n ++ (lineFeed ∷ [])) ≡ length (numberText n) + 1 = length-append (numberText n) (lineFeed ∷ []) in
-    let e : size (record { bytes = headerText n; ended = true }) ≡ length (headerLine n) = omega arith in
-    ap (λ (ls : List Line). andThen (headerOn (firstLine ls)) (λ n. readFrom n 1 [] (size (firstLine ls)) (laterLines ls))) (header-line n x (c .lines-high))
+    let e : lineSize (record { bytes = headerText n; ended = true }) ≡ length (headerLine n) = omega arith in
+    ap (λ (ls : List Line). andThen (headerOn (firstLine ls)) (λ n. readFrom n 1 [] (lineSize (firstLine ls)) (laterLines ls))) (header-line n x (c .lines-high))
     ∙ then-served _ _ n (header-read n (c .lines-low) (c .lines-high))
     ∙ ap (λ (k : ℕ). readFrom n 1 [] k (linesOf x)) e
     ∙ gates-read n (c .lines-high) 1 gs [] (length (headerLine n)) r (c .gates) (omega arith)

@@ -19,7 +19,7 @@ use Rattle.circuit.specs.Refusal.{noRoom}
 use Rattle.circuit.specs.Words.{gateAt, gateWords, gatesOf, wordsOf, allValid, checkOutcome, Cascade}
 use Rattle.circuit.specs.Inverse.{inverse, putInverse, inverseOutcome, inverseBuffer}
 use Rattle.circuit.specs.Run.{run}
-use Rattle.circuit.specs.Laws.{InverseFault, inverse-words, short, InverseStands}
+use Rattle.circuit.specs.Laws.{InverseRefused, inverse-words, short, InverseStands}
 use Rattle.circuit.proofs.gate.Laws.{apply-twice}
 use Rattle.circuit.proofs.Outcome.{demand-met, demand-failed, then-served, then-refused, then-both, demanded, written-refused, told, then-either, last-failed}
 use Rattle.circuit.proofs.words.Laws.{gates-next, gates-end, gates-length, words-length, gates-words, words-reverse, valid-append, words-cascade, cascade-count, cascade-words, check-served, served-check, check-refused, refused-check}
@@ -116,17 +116,17 @@ inverse-written n ws out k good room =
 -- ---- refused exactly by what is wrong
 
 module _ (n : ℕ) (ws : List ℕ) (room : ℕ) where
-  pub fault-inverse : (number place : ℕ) → InverseFault n ws room number place → inverseOutcome n ws room ≡ refused number place
+  pub fault-inverse : (number place : ℕ) → InverseRefused n ws room number place → inverseOutcome n ws room ≡ refused number place
   unfolding inverseOutcome
   fault-inverse number place (inverse-words w) = then-refused _ _ number place (refused-check n ws maxGates number place w)
   fault-inverse number place (short k c h) = then-served _ _ k (served-check n ws maxGates k c) ∙ demand-failed _ _ _ _ (lt-leb (length ws) room h)
 
-  pub inverse-fault : (number place : ℕ) → inverseOutcome n ws room ≡ refused number place → InverseFault n ws room number place
+  pub inverse-fault : (number place : ℕ) → inverseOutcome n ws room ≡ refused number place → InverseRefused n ws room number place
   unfolding inverseOutcome
   inverse-fault =
-      then-either (InverseFault n ws room) (checkOutcome n ws maxGates) _
+      then-either (InverseRefused n ws room) (checkOutcome n ws maxGates) _
       (λ x y p. inverse-words (check-refused n ws maxGates x y p))
-      (λ k p. last-failed (InverseFault n ws room) (leb (length ws) room) noRoom 0 k (λ t. short k (check-served n ws maxGates k p) (leb-false _ _ t)))
+      (λ k p. last-failed (InverseRefused n ws room) (leb (length ws) room) noRoom 0 k (λ t. short k (check-served n ws maxGates k p) (leb-false _ _ t)))
 
 -- ---- served exactly for a cascade and a buffer with room
 

@@ -16,7 +16,7 @@ use Rattle.circuit.specs.Outcome.{Outcome, served, refused, andThen}
 use Rattle.circuit.specs.Refusal.{badState, badLineCount}
 use Rattle.circuit.specs.Words.{gateAt, gatesOf, allValid, lineCountGood, validFrom, sizeOutcome, checkOutcome, Cascade}
 use Rattle.circuit.specs.Run.{run, runTested, Equal, Differs, runOutcome}
-use Rattle.circuit.specs.Laws.{RunFault, run-words, outside}
+use Rattle.circuit.specs.Laws.{run-words, outside, RunRefused}
 use Rattle.circuit.proofs.Outcome.{demand-met, demand-failed, then-served, then-refused, then-both, then-fails, then-either, last-failed, demanded}
 use Rattle.circuit.proofs.gate.Laws.{apply-below, toggled-apply}
 use Rattle.circuit.proofs.words.Laws.{gates-next, gates-end, check-lines, check-gates, gates-refused, gates-sized, check-served, served-check, check-refused, refused-check}
@@ -96,17 +96,17 @@ module _ (n : ℕ) (ws : List ℕ) (s : ℕ) where
 -- ---- refused exactly by what is wrong
 
 module _ (n : ℕ) (ws : List ℕ) (s : ℕ) where
-  pub fault-run : (number place : ℕ) → RunFault n ws s number place → runOutcome n ws s ≡ refused number place
+  pub fault-run : (number place : ℕ) → RunRefused n ws s number place → runOutcome n ws s ≡ refused number place
   unfolding runOutcome
   fault-run number place (run-words w) = then-refused _ _ number place (refused-check n ws maxGates number place w)
   fault-run number place (outside k c h) = then-served _ _ k (served-check n ws maxGates k c) ∙ demand-failed _ _ _ _ (le-ltb s (2 ^ n) h)
 
-  pub run-fault : (number place : ℕ) → runOutcome n ws s ≡ refused number place → RunFault n ws s number place
+  pub run-fault : (number place : ℕ) → runOutcome n ws s ≡ refused number place → RunRefused n ws s number place
   unfolding runOutcome
   run-fault =
-      then-either (RunFault n ws s) (checkOutcome n ws maxGates) _
+      then-either (RunRefused n ws s) (checkOutcome n ws maxGates) _
       (λ x y p. run-words (check-refused n ws maxGates x y p))
-      (λ k p. last-failed (RunFault n ws s) (ltb s (2 ^ n)) badState 0 _ (λ t. outside k (check-served n ws maxGates k p) (ltb-false _ _ t)))
+      (λ k p. last-failed (RunRefused n ws s) (ltb s (2 ^ n)) badState 0 _ (λ t. outside k (check-served n ws maxGates k p) (ltb-false _ _ t)))
 
 -- ---- served exactly for a cascade and a state
 

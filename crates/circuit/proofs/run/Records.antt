@@ -19,7 +19,7 @@ use Rattle.circuit.specs.Words.{gatesOf, wordsOf, allValid, lineCountGoo
 use Rattle.circuit.specs.Run.{run, runOutcome, recordsOutcome}
 use Rattle.circuit.specs.private.Records.{begun, goesOn, advanced, ended}
 use Rattle.circuit.specs.FileLaws.{FileCascade}
-use Rattle.circuit.specs.Laws.{RunFault}
+use Rattle.circuit.specs.Laws.{RunRefused}
 use Rattle.circuit.proofs.Outcome.{demand-met, demand-failed, then-refused}
 use Rattle.circuit.proofs.words.Laws.{words-length, gates-words, from-good, from-bad, lines-good, size-good, size-many, gates-sized, check-gates, words-cascade, cascade-count}
 use Rattle.circuit.proofs.run.Laws.{run-lines, run-size, run-served, served-run, run-fault, fault-run}
@@ -155,8 +155,8 @@ module _ (n : ℕ) (gs : List Gate) (s : ℕ) where
       ∙ served-run n (wordsOf gs) s t (length gs) (words-cascade n gs maxGates (c .lines-low) (c .lines-high) (c .few) (c .gates)) h
       (e ∙ ap (λ (l : List Gate). run l s) (sym (gates-words gs)))
 
-  pub records-fault : (number place : ℕ) → recordsOutcome n gs s ≡ refused number place → RunFault n (wordsOf gs) s number place
+  pub records-fault : (number place : ℕ) → recordsOutcome n gs s ≡ refused number place → RunRefused n (wordsOf gs) s number place
   records-fault number place e = run-fault n (wordsOf gs) s number place (sym (records-words n gs s) ∙ e)
 
-  pub fault-records : (number place : ℕ) → RunFault n (wordsOf gs) s number place → recordsOutcome n gs s ≡ refused number place
+  pub fault-records : (number place : ℕ) → RunRefused n (wordsOf gs) s number place → recordsOutcome n gs s ≡ refused number place
   fault-records number place f = records-words n gs s ∙ fault-run n (wordsOf gs) s number place f

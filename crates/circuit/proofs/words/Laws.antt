@@ -14,7 +14,7 @@ use Rattle.circuit.specs.declared.gate.Gate.{Gate}
 use Rattle.circuit.specs.Gate.{maxLines, maxGates, notGate, valid}
 use Rattle.circuit.specs.Outcome.{Outcome, served, refused}
 use Rattle.circuit.specs.Refusal.{badLineCount, tooManyGates, noGate, lineCountsDiffer, badWordCount}
-use Rattle.circuit.specs.Words.{gatesOf, gateAt, gateWords, wordsOf, putGate, allValid, lineCountGood, validFrom, sizeOutcome, gatesOutcome, checkOutcome, Counts, pairOutcome, Cascade, WordsFault, lines, thirds, many, gate, PairFault, first-fault, second-fault, differ}
+use Rattle.circuit.specs.Words.{gatesOf, gateAt, gateWords, wordsOf, putGate, allValid, lineCountGood, validFrom, sizeOutcome, gatesOutcome, checkOutcome, Counts, pairOutcome, Cascade, WordsRefused, lines, thirds, many, gate, PairRefused, first-refused, second-refused, differ}
 use Rattle.circuit.proofs.gate.Laws.{valid-more}
 use Rattle.circuit.proofs.Outcome.{never, demand-met, demand-failed, demanded, then-served, then-refused, then-both}
 
@@ -265,7 +265,7 @@ module _ (n : ℕ) (ws : List ℕ) (limit : ℕ) where
       ∙ ap served e
 
   -- refused exactly for what is wrong
-  pub check-refused : (number place : ℕ) → checkOutcome n ws limit ≡ refused number place → WordsFault n ws limit number place
+  pub check-refused : (number place : ℕ) → checkOutcome n ws limit ≡ refused number place → WordsRefused n ws limit number place
   check-refused number place e =
       either (lineCountGood n)
       (λ a. let (low, high) = lines-good n a in
@@ -277,17 +277,17 @@ module _ (n : ℕ) (ws : List ℕ) (limit : ℕ) where
       (λ b. is badWordCount 0 (sym (check-gates a ∙ gates-refused badWordCount 0 (size-uneven (eqb-false _ _ b))) ∙ e) (thirds low high (eqb-false _ _ b))))
       (λ a. is badLineCount 0 (sym (check-lines a) ∙ e) (lines (λ low high. refuted a (good-lines n low high))))
     where
-      is : (x y : ℕ) → _≡_ {A = Outcome ℕ} (refused x y) (refused number place) → WordsFault n ws limit x y → WordsFault n ws limit number place
-      is x y f w = let p : x ≡ number = cc in let q : y ≡ place = cc in subst₂ (WordsFault n ws limit) p q w
+      is : (x y : ℕ) → _≡_ {A = Outcome ℕ} (refused x y) (refused number place) → WordsRefused n ws limit x y → WordsRefused n ws limit number place
+      is x y f w = let p : x ≡ number = cc in let q : y ≡ place = cc in subst₂ (WordsRefused n ws limit) p q w
 
       first : 1 ≤ n → n ≤ maxLines → length ws % 3 ≡ 0 → length ws / 3 ≤ limit
           → (number ≡ noGate) × (j : ℕ) × (place ≡ 0 + j) × (j < length (gatesOf ws)) × (allValid n (take j (gatesOf ws)) ≡ true) × (valid n (getD (gatesOf ws) j (notGate 0)) ≡ false)
-          → WordsFault n ws limit number place
+          → WordsRefused n ws limit number place
       first low high t l (a, j, b, h, w, f) =
           let p : j ≡ place = omega arith in
-          subst₂ (WordsFault n ws limit) (sym a) p (gate low high t l j (omega (arith, gates-length ws)) w f)
+          subst₂ (WordsRefused n ws limit) (sym a) p (gate low high t l j (omega (arith, gates-length ws)) w f)
 
-  pub refused-check : (number place : ℕ) → WordsFault n ws limit number place → checkOutcome n ws limit ≡ refused number place
+  pub refused-check : (number place : ℕ) → WordsRefused n ws limit number place → checkOutcome n ws limit ≡ refused number place
   refused-check number place (lines h) = check-lines (not-held _ (λ e. let (a, b) = lines-good n e in h a b))
   refused-check number place (thirds low high h) = check-gates (good-lines n low high) ∙ gates-refused badWordCount 0 (size-uneven h)
   refused-check number place (many low high t l) = check-gates (good-lines n low high) ∙ gates-refused tooManyGates 0 (size-many t l)
@@ -353,10 +353,10 @@ pub served-pair : (na : ℕ) (a : List ℕ) (nb : ℕ) (b : List ℕ) (k m : ℕ
     → pairOutcome na a nb b ≡ served (record { first = k; second = m })
 served-pair na a nb b k m x y e = pair-good na a nb b k (served-check na a maxGates k x) m (served-check nb b maxGates m y) e
 
-pub pair-refused : (na : ℕ) (a : List ℕ) (nb : ℕ) (b : List ℕ) (number place : ℕ) → pairOutcome na a nb b ≡ refused number place → PairFault na a nb b number place
+pub pair-refused : (na : ℕ) (a : List ℕ) (nb : ℕ) (b : List ℕ) (number place : ℕ) → pairOutcome na a nb b ≡ refused number place → PairRefused na a nb b number place
 pair-refused na a nb b number place e = go (checkOutcome na a maxGates) (checkOutcome nb b maxGates) refl refl
   where
-    eight : (k m : ℕ) → checkOutcome na a maxGates ≡ served k → checkOutcome nb b maxGates ≡ served m → PairFault na a nb b number place
+    eight : (k m : ℕ) → checkOutcome na a maxGates ≡ served k → checkOutcome nb b maxGates ≡ served m → PairRefused na a nb b number place
     eight k m p q =
         either (eqb na nb)
         (λ t. absurd (never (pair-good na a nb b k p m q (eqb-true na nb t)) e))
@@ -364,24 +364,24 @@ pair-refused na a nb b number place e = go (checkOutcome na a maxGates) (checkOu
         let f : _≡_ {A = Outcome Counts} (refused lineCountsDiffer 0) (refused number place) = sym (pair-differ na a nb b k p m q (eqb-false na nb t)) ∙ e in
         let x : lineCountsDiffer ≡ number = cc in
         let y : 0 ≡ place = cc in
-        subst₂ (PairFault na a nb b) x y (differ k m (check-served na a maxGates k p) (check-served nb b maxGates m q) (eqb-false na nb t)))
+        subst₂ (PairRefused na a nb b) x y (differ k m (check-served na a maxGates k p) (check-served nb b maxGates m q) (eqb-false na nb t)))
 
-    go : (c d : Outcome ℕ) → checkOutcome na a maxGates ≡ c → checkOutcome nb b maxGates ≡ d → PairFault na a nb b number place
+    go : (c d : Outcome ℕ) → checkOutcome na a maxGates ≡ c → checkOutcome nb b maxGates ≡ d → PairRefused na a nb b number place
     go (refused x y) d p q =
         let f : _≡_ {A = Outcome Counts} (refused x y) (refused number place) = sym (pair-first na a nb b x y p) ∙ e in
         let i : x ≡ number = cc in
         let j : y ≡ place = cc in
-        subst₂ (PairFault na a nb b) i j (first-fault (check-refused na a maxGates x y p))
+        subst₂ (PairRefused na a nb b) i j (first-refused (check-refused na a maxGates x y p))
     go (served k) (refused x y) p q =
         let f : _≡_ {A = Outcome Counts} (refused x y) (refused number place) = sym (pair-second na a nb b k p x y q) ∙ e in
         let i : x ≡ number = cc in
         let j : y ≡ place = cc in
-        subst₂ (PairFault na a nb b) i j (second-fault k (check-served na a maxGates k p) (check-refused nb b maxGates x y q))
+        subst₂ (PairRefused na a nb b) i j (second-refused k (check-served na a maxGates k p) (check-refused nb b maxGates x y q))
     go (served k) (served m) p q = eight k m p q
 
-pub refused-pair : (na : ℕ) (a : List ℕ) (nb : ℕ) (b : List ℕ) (number place : ℕ) → PairFault na a nb b number place → pairOutcome na a nb b ≡ refused number place
-refused-pair na a nb b number place (first-fault w) = pair-first na a nb b number place (refused-check na a maxGates number place w)
-refused-pair na a nb b number place (second-fault k c w) =
+pub refused-pair : (na : ℕ) (a : List ℕ) (nb : ℕ) (b : List ℕ) (number place : ℕ) → PairRefused na a nb b number place → pairOutcome na a nb b ≡ refused number place
+refused-pair na a nb b number place (first-refused w) = pair-first na a nb b number place (refused-check na a maxGates number place w)
+refused-pair na a nb b number place (second-refused k c w) =
     pair-second na a nb b k (served-check na a maxGates k c) number place (refused-check nb b maxGates number place w)
 refused-pair na a nb b number place (differ k m c d h) =
     pair-differ na a nb b k (served-check na a maxGates k c) m (served-check nb b maxGates m d) h

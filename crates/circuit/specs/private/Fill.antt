@@ -11,7 +11,7 @@ use Rattle.circuit.specs.Text.{lineFeed, numberText, controlsText, gateL
 use Rattle.circuit.specs.File.{Inside}
 
 -- these bytes, and then anything
-pub record Stands (text : List ℕ) (at : ℕ) (bytes : List ℕ) : Type 0 where
+pub record StandsAt (text : List ℕ) (at : ℕ) (bytes : List ℕ) : Type 0 where
   pub rest : List ℕ
   pub is : drop at text ≡ bytes ++ rest
 
@@ -20,19 +20,19 @@ pub record NumberAt (text : List ℕ) (at k : ℕ) : Type 0 where
   pub small : k < 100
   pub after : ℕ
   pub low : after < 48
-  pub stands : Stands text at (numberText k ++ (after ∷ []))
+  pub stands : StandsAt text at (numberText k ++ (after ∷ []))
 
 -- controls, each after a tab, and the LF of their line
 pub record ControlsAt (text : List ℕ) (at : ℕ) (cs : List Control) : Type 0 where
   pub lines : Inside maxLines cs
-  pub stands : Stands text at (controlsText cs ++ (lineFeed ∷ []))
+  pub stands : StandsAt text at (controlsText cs ++ (lineFeed ∷ []))
 
 -- the line of a gate
 pub record GateAt (text : List ℕ) (at : ℕ) (g : Gate) : Type 0 where
   pub good : valid maxLines g ≡ true
-  pub stands : Stands text at (gateLine g)
+  pub stands : StandsAt text at (gateLine g)
 
 -- the lines of gates
 pub record GatesAt (text : List ℕ) (at : ℕ) (gs : List Gate) : Type 0 where
   pub good : allValid maxLines gs ≡ true
-  pub stands : Stands text at (gateLines gs)
+  pub stands : StandsAt text at (gateLines gs)

@@ -17,7 +17,7 @@ use Rattle.circuit.specs.declared.file.scan.HeaderAnswer.the-variants as
 use Rattle.circuit.specs.Gate.{Control}
 use Rattle.circuit.specs.Outcome.{Outcome, served, refused, andThen}
 use Rattle.circuit.specs.Text.{tab, lineFeed}
-use Rattle.circuit.specs.File.{Line, firstLine, linesOf, size, fieldsOf, controlsFrom, closedGate, gateOn, headerOn, readFrom, ReadCounts, countsOf}
+use Rattle.circuit.specs.File.{Line, firstLine, linesOf, lineSize, fieldsOf, controlsFrom, closedGate, gateOn, headerOn, readFrom, ReadCounts, countsOf}
 
 -- a byte that ends a field
 abbrev pub isStop : ℕ → Bool
@@ -63,16 +63,16 @@ laterFields (f ∷ fs) = fs
 
 -- the header of a text
 abbrev pub headerNext : List ℕ → Outcome HeaderNext
-headerNext r = andThen (headerOn (lineAt r)) (λ n. served (record { lines = n; next = size (lineAt r) }))
+headerNext r = andThen (headerOn (lineAt r)) (λ n. served (record { lines = n; next = lineSize (lineAt r) }))
 
 -- the position after the gate line at a position, with index i and after so many gate lines
 abbrev pub gateNext : ℕ → ℕ → ℕ → ℕ → List ℕ → Outcome ℕ
-gateNext n i count at r = andThen (gateOn n i count (lineAt r)) (λ g. served (at + size (lineAt r)))
+gateNext n i count at r = andThen (gateOn n i count (lineAt r)) (λ g. served (at + lineSize (lineAt r)))
 
 -- the same after its target, t
 abbrev pub controlsNext : ℕ → ℕ → ℕ → ℕ → List ℕ → Outcome ℕ
 controlsNext n i t at r =
-    andThen (andThen (controlsFrom n i [] (laterFields (fieldsOf (lineAt r .bytes)))) (closedGate i (lineAt r .ended) t)) (λ g. served (at + size (lineAt r)))
+    andThen (andThen (controlsFrom n i [] (laterFields (fieldsOf (lineAt r .bytes)))) (closedGate i (lineAt r .ended) t)) (λ g. served (at + lineSize (lineAt r)))
 
 abbrev pub ofLine : LineAnswer → Outcome ℕ
 ofLine (line.Line k next) = served k

@@ -9,7 +9,7 @@ ghost use Prim.Native.Nat.{_+_, _<_, _≤_};
 ghost use lib.Dec.{eqb, leb};
 ghost use lib.ListN.{length, drop, getD};
 ghost use Rattle.circuit.specs.Gate.{maxLines};
-ghost use Rattle.circuit.specs.Text.{plus, minus};
+ghost use Rattle.circuit.specs.Text.{plusSign, minusSign};
 ghost use Rattle.circuit.specs.File.{isDigit, numberOf, lineOf, controlOf, isEnd};
 ghost use Rattle.circuit.specs.private.Scan.{isStop, fieldAt, lineAt, startsWith, orHundred, width, added, headerNext, gateNext, controlsNext, ofLine, ofControl, ofGate, ofHeader, LineEnds, ControlEnds};
 
@@ -99,7 +99,7 @@ fn stop(b: u64) -> bool
 
 // Whether the byte is a control's sign.
 fn sign(b: u64) -> bool
-    ensures { λ r. ⌜ r ≡ (eqb b plus || eqb b minus) ⌝ }
+    ensures { λ r. ⌜ r ≡ (eqb b plusSign || eqb b minusSign) ⌝ }
 {
     match b {
         43 | 45 => true,

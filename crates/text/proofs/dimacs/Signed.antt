@@ -11,8 +11,8 @@ use lib.Signed.{nonNeg, ltZ}
 use mir.Syntax.{w16, w64}
 use mir.Val.{Fits, SFits, toZ, ofZ}
 use mir.ValLaws.{toZ-ofZ}
-use Rattle.checking.specs.Satisfaction.{size}
-use Rattle.circuit.specs.Text.{minus}
+use Rattle.checking.specs.Satisfaction.{variableOf}
+use Rattle.circuit.specs.Text.{minusSign}
 use Rattle.text.specs.Dimacs.{xorSign}
 use Rattle.text.specs.private.Words.{signText, kindText}
 
@@ -57,7 +57,7 @@ below : (z : ℤ) → SFits w16 z → ltZ z (pos 0) ≡ true → Casts (negℤ z
 below (pos v) f h = absurd (omega (arith, ltb-true v 0 h))
 below (negsuc i) f h = let b = f .sfits in (tt, record { fits = omega arith })
 
-below-size : (z : ℤ) → ltZ z (pos 0) ≡ true → natAbs (negℤ z) ≡ size z
+below-size : (z : ℤ) → ltZ z (pos 0) ≡ true → natAbs (negℤ z) ≡ variableOf z
 below-size (pos v) h = absurd (omega (arith, ltb-true v 0 h))
 below-size (negsuc i) h = refl
 
@@ -65,7 +65,7 @@ above : (z : ℤ) → SFits w16 z → ltZ z (pos 0) ≡ false → Casts z
 above (pos v) f h = let b = f .sfits in (tt, record { fits = omega arith })
 above (negsuc i) f h = absurd (true≢false h)
 
-above-size : (z : ℤ) → ltZ z (pos 0) ≡ false → natAbs z ≡ size z
+above-size : (z : ℤ) → ltZ z (pos 0) ≡ false → natAbs z ≡ variableOf z
 above-size (pos v) h = refl
 above-size (negsuc i) h = absurd (true≢false h)
 
@@ -77,16 +77,16 @@ module _ (z : ℤ) (f : SFits w16 z) where
   pub minus-casts : ltZ (toZ w16 (ofZ w16 z)) (pos 0) ≡ true → Casts (toZ w64 (ofZ w64 (pos 0 -ℤ widened z)))
   minus-casts h = subst Casts (sym (minus-is z f)) (below z f (sign-is h))
 
-  pub minus-size : ltZ (toZ w16 (ofZ w16 z)) (pos 0) ≡ true → natAbs (toZ w64 (ofZ w64 (pos 0 -ℤ widened z))) ≡ size z
+  pub minus-size : ltZ (toZ w16 (ofZ w16 z)) (pos 0) ≡ true → natAbs (toZ w64 (ofZ w64 (pos 0 -ℤ widened z))) ≡ variableOf z
   minus-size h = ap natAbs (minus-is z f) ∙ below-size z (sign-is h)
 
   pub plus-casts : ltZ (toZ w16 (ofZ w16 z)) (pos 0) ≡ false → Casts (toZ w16 (ofZ w16 z))
   plus-casts h = subst Casts (sym (word-is z f)) (above z f (sign-is h))
 
-  pub plus-size : ltZ (toZ w16 (ofZ w16 z)) (pos 0) ≡ false → natAbs (toZ w16 (ofZ w16 z)) ≡ size z
+  pub plus-size : ltZ (toZ w16 (ofZ w16 z)) (pos 0) ≡ false → natAbs (toZ w16 (ofZ w16 z)) ≡ variableOf z
   plus-size h = ap natAbs (word-is z f) ∙ above-size z (sign-is h)
 
-pub sign-minus : (z : ℤ) → ltZ z (pos 0) ≡ true → signText z ≡ minus ∷ []
+pub sign-minus : (z : ℤ) → ltZ z (pos 0) ≡ true → signText z ≡ minusSign ∷ []
 sign-minus (pos v) h = absurd (omega (arith, ltb-true v 0 h))
 sign-minus (negsuc i) h = refl
 

@@ -22,7 +22,7 @@ use Rattle.circuit.proofs.Outcome.{never, demand-met, demand-failed, then-serve
 use Rattle.circuit.proofs.words.Laws.{gates-words, words-length, served-check, refused-pair}
 use Rattle.circuit.specs.Text.{textOf}
 use Rattle.circuit.specs.File.{Reading, reading, ReadCounts, gatesRead, readOutcome, readBuffer}
-use Rattle.circuit.specs.FileLaws.{ReadFault, wrong, short}
+use Rattle.circuit.specs.FileLaws.{ReadRefused, wrong, short}
 use Rattle.circuit.proofs.file.Laws.{reader, read-served, read-refused}
 use Rattle.checking.specs.declared.clauses.Totals.{Totals}
 use Rattle.checking.specs.Miter.{miterGates, miterOutcome, miterBuffer}
@@ -35,15 +35,15 @@ use Rattle.checking.proofs.clauses.Laws.{clause-laws}
 use Rattle.text.specs.declared.list.ListAnswer.{ListAnswer}
 use Rattle.text.specs.declared.list.ListAnswer.the-variants as list
 use Rattle.text.specs.Tomiter.{maxInput, maxWords, Verdict, listed, refusedAt, ofFile, listVerdict, pairVerdict, secondVerdict, verdict}
-use Rattle.text.specs.private.Lists.{FileWords, Says}
+use Rattle.text.specs.private.Lists.{FileWords, Delivers}
 
 -- the same verdict, said in another way
-pub says-as : (r : ListAnswer) (buffer : List ℤ) (v w : Verdict) → v ≡ w → Says r buffer w → Says r buffer v
-says-as r buffer v w e s = subst (Says r buffer) (sym e) s
+pub says-as : (r : ListAnswer) (buffer : List ℤ) (v w : Verdict) → v ≡ w → Delivers r buffer w → Delivers r buffer v
+says-as r buffer v w e s = subst (Delivers r buffer) (sym e) s
 
 -- a refusal says the verdict that it is
 pub says-refusal : {A : Type 0} (why : Refusal) (file : ℕ) (buffer : List ℤ) (v : Verdict) (number place : ℕ) → v ≡ refusedAt number file place
-    → _≡_ {A = Outcome A} (refused (why .number) (why .place)) (refused number place) → Says (list.Refused why file) buffer v
+    → _≡_ {A = Outcome A} (refused (why .number) (why .place)) (refused number place) → Delivers (list.Refused why file) buffer v
 says-refusal why file buffer v number place e f =
     let n : why .number ≡ number = cc in
     let p : why .place ≡ place = cc in
@@ -75,13 +75,13 @@ module _ (n : ℕ) (ws : List ℕ) (k : ℕ) (c : Cascade n ws maxMiterGates k) 
   unfolding listVerdict
   list-fits t = cond-true (leb (length (stored cs)) maxWords) _ _ t
 
-  pub list-bad : (why : Refusal) (buffer : List ℤ) → emitOutcome n ws room ≡ refused (why .number) (why .place) → Says (list.Refused why 0) buffer (listVerdict n gs)
+  pub list-bad : (why : Refusal) (buffer : List ℤ) → emitOutcome n ws room ≡ refused (why .number) (why .place) → Delivers (list.Refused why 0) buffer (listVerdict n gs)
   list-bad why buffer e =
       either (leb (length (stored cs)) maxWords)
       (λ t. absurd (never (emit-is ∙ demand-met _ _ _ _ t) e))
       (λ t. says-refusal why 0 buffer (listVerdict n gs) noRoom 0 (list-short t) (sym e ∙ emit-is ∙ demand-failed _ _ _ _ t))
 
-  pub list-good : (t : Totals) (buffer out : List ℤ) → length out ≡ room → emitOutcome n ws (length out) ≡ served t → buffer ≡ emitBuffer n ws out → Says (list.Listed t) buffer (listVerdict n gs)
+  pub list-good : (t : Totals) (buffer out : List ℤ) → length out ≡ room → emitOutcome n ws (length out) ≡ served t → buffer ≡ emitBuffer n ws out → Delivers (list.Listed t) buffer (listVerdict n gs)
   unfolding emitBuffer
   list-good t buffer out size o b =
       let e : emitOutcome n ws room ≡ served t = ap (emitOutcome n ws) (sym size) ∙ o in
@@ -130,7 +130,7 @@ module _ (na : ℕ) (a : List ℕ) (nb : ℕ) (b : List ℕ) (wa : FileWords na 
   pair-listed e = cond-true (eqb na nb) _ _ (eq-eqb na nb e)
 
   pub pair-bad : (why : Refusal) (buffer : List ℤ) → miterOutcome na a nb b room ≡ refused (why .number) (why .place)
-      → Says (list.Refused why 0) buffer (pairVerdict na (gatesOf a) nb (gatesOf b))
+      → Delivers (list.Refused why 0) buffer (pairVerdict na (gatesOf a) nb (gatesOf b))
   pair-bad why buffer e =
       either (eqb na nb)
       (λ t. absurd (never (miter-made (eqb-true na nb t)) e))
@@ -171,7 +171,7 @@ module _ (text : List ℕ) (room : ℕ) (long : room ≡ 3072) where
   pub file-bad : (number place : ℕ) → readOutcome text room ≡ refused number place → reading text ≡ refused number place
   file-bad number place e = faulty number place (read-refused text room number place e)
     where
-      faulty : (number place : ℕ) → ReadFault text room number place → reading text ≡ refused number place
+      faulty : (number place : ℕ) → ReadRefused text room number place → reading text ≡ refused number place
       faulty number place (wrong _ _ f) = reader .read-refused text number place .1 f
       faulty number place (short n gs rest good starts less) = absurd (omega (arith, good .few))
 

@@ -16,11 +16,11 @@ use Rattle.text.specs.declared.list.ListAnswer.the-variants as list
 use Rattle.text.specs.Dimacs.{headerText, dimacsOf}
 use Rattle.text.specs.private.Words.{wordsText, Stores}
 use Rattle.text.specs.Tomiter.{Verdict, listed, refusedAt, refusalText, verdictText, tomiterText, tomiterOutcome, tomiterBuffer, WritesText}
-use Rattle.text.specs.private.Lists.{Says}
+use Rattle.text.specs.private.Lists.{Delivers}
 use Rattle.text.proofs.ProgramLaws.{answers}
 use Rattle.text.proofs.dimacs.Loops.{words-text}
 
-pub refusal-text : (why : Refusal) (file : ℕ) (buffer : List ℤ) (v : Verdict) → Says (list.Refused why file) buffer v
+pub refusal-text : (why : Refusal) (file : ℕ) (buffer : List ℤ) (v : Verdict) → Delivers (list.Refused why file) buffer v
     → refusalText (why .number) file (why .place) ≡ verdictText v
 refusal-text why file buffer (listed variables cs) s = absurd s
 refusal-text why file buffer (refusedAt number f place) (a, b, c) =
@@ -32,7 +32,7 @@ pub record Written (t : Totals) (buffer : List ℤ) (bytes : List ℕ) : Type 0 
   pub stores : Stores (take (t .words) buffer)
   pub text : headerText (t .variables) (t .clauses) ++ wordsText (take (t .words) buffer) ≡ bytes
 
-pub list-text : (t : Totals) (buffer : List ℤ) (v : Verdict) → Says (list.Listed t) buffer v → Written t buffer (verdictText v)
+pub list-text : (t : Totals) (buffer : List ℤ) (v : Verdict) → Delivers (list.Listed t) buffer v → Written t buffer (verdictText v)
 unfolding dimacsOf
 list-text t buffer (listed variables cs) s =
     record {

@@ -19,15 +19,15 @@ pub record FileWords (n : ℕ) (ws : List ℕ) : Type 0 where
   pub cascade : Cascade n ws maxGates count
 
 -- the totals are those of clauses over so many variables, which are stored at the start of the buffer
-pub record Stands (t : Totals) (buffer : List ℤ) (variables : ℕ) (cs : List Clause) : Type 0 where
+pub record ListStands (t : Totals) (buffer : List ℤ) (variables : ℕ) (cs : List Clause) : Type 0 where
   pub variables-are : t .variables ≡ variables
   pub count : t .clauses ≡ length cs
   pub inside : t .words ≤ length buffer
   pub words : take (t .words) buffer ≡ stored cs
 
 -- an answer and the clause buffer say a verdict
-abbrev pub Says : ListAnswer → List ℤ → Verdict → Type 0
-Says (list.Listed t) buffer (listed variables cs) = Stands t buffer variables cs
-Says (list.Listed t) buffer (refusedAt number file place) = ⊥
-Says (list.Refused why f) buffer (listed variables cs) = ⊥
-Says (list.Refused why f) buffer (refusedAt number file place) = (why .number ≡ number) × (f ≡ file) × (why .place ≡ place)
+abbrev pub Delivers : ListAnswer → List ℤ → Verdict → Type 0
+Delivers (list.Listed t) buffer (listed variables cs) = ListStands t buffer variables cs
+Delivers (list.Listed t) buffer (refusedAt number file place) = ⊥
+Delivers (list.Refused why f) buffer (listed variables cs) = ⊥
+Delivers (list.Refused why f) buffer (refusedAt number file place) = (why .number ≡ number) × (f ≡ file) × (why .place ≡ place)

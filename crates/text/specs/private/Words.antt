@@ -3,15 +3,15 @@ use mathlib.Core.Path.{_≡_}
 use mathlib.Core.List.{List, [], _∷_, _++_}
 use Prim.Native.Nat.{ℕ, zero, suc}
 use lib.IntN.{ℤ, pos, negsuc}
-use Rattle.circuit.specs.Text.{minus}
+use Rattle.circuit.specs.Text.{minusSign}
 use Rattle.checking.specs.Clauses.{Clause}
-use Rattle.checking.specs.Stored.{stored, Reading, clausesRead, badRecord, clausesIn}
+use Rattle.checking.specs.Stored.{stored, ReadBack, clausesRead, badRecord, clausesIn}
 use Rattle.text.specs.Dimacs.{xorSign, literalsText, closing, clausesText}
 
 -- the sign of a literal
 abbrev pub signText : ℤ → List ℕ
 signText (pos v) = []
-signText (negsuc i) = minus ∷ []
+signText (negsuc i) = minusSign ∷ []
 
 -- the `x` of a kind word: 1 for XOR
 abbrev pub kindText : ℤ → List ℕ
@@ -25,7 +25,7 @@ abbrev pub recordText : ℤ → List ℤ → List ℕ
 recordText kind ls = kindText kind ++ (literalsText ls ++ closing)
 
 -- the clauses that words store
-abbrev pub readText : Reading → List ℕ
+abbrev pub readText : ReadBack → List ℕ
 readText (clausesRead cs) = clausesText cs
 readText (badRecord i) = []
 

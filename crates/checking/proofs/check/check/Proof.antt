@@ -28,14 +28,14 @@ abbrev counted : tie.After-make-calls → tie.After-gates
 counted l = l .before .before .before
 
 made : (g : tie.After-gates)
-    → let a = start (mitered g) .args in miterOutcome (a .na) (a .a .now) (a .nb) (a .b .now) (length (a .room .now)) ≡ served (count g)
+    → let a = start (mitered g) .args in miterOutcome (a .na) (a .a .now) (a .nb) (a .b .now) (length (a .work .now)) ≡ served (count g)
 made g = sym (mitered g .miter .ensures .answer) ∙ ap ofCount (g .gates .given .1)
 
 -- what is held after the calls
 abbrev after : tie.After-make-calls → Held
 after l =
     let a = start (mitered (counted l)) .args in
-    held (a .na) (a .a .now) (a .nb) (a .b .now) (callsOf (a .calls .now)) (a .room .now) (count (counted l))
+    held (a .na) (a .a .now) (a .nb) (a .b .now) (callsOf (a .calls .now)) (a .work .now) (count (counted l))
 
 left : (l : tie.After-make-calls) → Yields (l .make-calls .result) (l .make-calls .last .1 .1 .0) (after l .gates) (after l .words)
 left l =
@@ -48,7 +48,7 @@ left l =
 inside : (l : tie.After-make-calls) → 3 * l .make-calls .result ≤ length (l .make-calls .last .1 .1 .0)
 inside l =
     let a = start (mitered (counted l)) .args in
-    held-room (a .na) (a .a .now) (a .nb) (a .b .now) (callsOf (a .calls .now)) (a .room .now) (count (counted l)) (made (counted l)) _ _ (left l)
+    held-room (a .na) (a .a .now) (a .nb) (a .b .now) (callsOf (a .calls .now)) (a .work .now) (count (counted l)) (made (counted l)) _ _ (left l)
 
 miter-requires : tie.Need-miter-requires
 miter-requires c κs = search needs
@@ -63,13 +63,13 @@ make-calls-requires : tie.Need-make-calls-requires
 make-calls-requires c κs =
     let g = c .before .before in
     let a = start (mitered g) .args in
-    omega (arith, miter-room (a .na) (a .a .now) (a .nb) (a .b .now) (callsOf (a .calls .now)) (a .room .now) (count g) (made g), ap length (mitered g .miter .ensures .buffer))
+    omega (arith, miter-room (a .na) (a .a .now) (a .nb) (a .b .now) (callsOf (a .calls .now)) (a .work .now) (count g) (made g), ap length (mitered g .miter .ensures .buffer))
 
 mul-end : tie.Need-mul-end
 mul-end c =
     let l = c .before .before in
     let a = start (mitered (counted l)) .args in
-    omega (arith, held-few (a .na) (a .a .now) (a .nb) (a .b .now) (callsOf (a .calls .now)) (a .room .now) (count (counted l)) (made (counted l)) _ _ (left l))
+    omega (arith, held-few (a .na) (a .a .now) (a .nb) (a .b .now) (callsOf (a .calls .now)) (a .work .now) (count (counted l)) (made (counted l)) _ _ (left l))
 
 slice-reshare-prefix-emit : tie.Need-slice-reshare-prefix-emit
 slice-reshare-prefix-emit c = inside (c .before .before)
@@ -87,7 +87,7 @@ returns : tie.Need-returns
 returns c =
     let m = c .before .before .before .before .before in
     let a = start m .args in
-    check-refused (a .na) (a .a .now) (a .nb) (a .b .now) (callsOf (a .calls .now)) (a .room .now) (a .out .now) _ _ _ _ _
+    check-refused (a .na) (a .a .now) (a .nb) (a .b .now) (callsOf (a .calls .now)) (a .work .now) (a .out .now) _ _ _ _ _
     (sym (m .miter .ensures .answer) ∙ ap ofCount (c .before .why .given .1)) refl (m .miter .ensures .buffer) refl
 
 same-length-2 : tie.Need-same-length-2
@@ -100,7 +100,7 @@ returns-2 : tie.Need-returns-2
 returns-2 c =
     let l = c .before .before .before .before .before .before in
     let a = start (mitered (counted l)) .args in
-    check-served (a .na) (a .a .now) (a .nb) (a .b .now) (callsOf (a .calls .now)) (a .room .now) (a .out .now) _ (l .make-calls .last .1 .1 .0) _ (count (counted l)) (l .make-calls .result)
+    check-served (a .na) (a .a .now) (a .nb) (a .b .now) (callsOf (a .calls .now)) (a .work .now) (a .out .now) _ (l .make-calls .last .1 .1 .0) _ (count (counted l)) (l .make-calls .result)
     (made (counted l)) (left l) (c .before .emit .ensures)
 
 pub check-spec : {M : Type 1} → statement M

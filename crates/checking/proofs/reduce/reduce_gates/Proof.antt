@@ -5,7 +5,8 @@ use native.Mathlib.Omega.{arith}
 use borrow.Author.Needs.{needs}
 use borrow.Rule.Slice.PartMut.{putMid, same-len-mid}
 use Rattle.checking.specs.Match.{Kind}
-use Rattle.checking.specs.Step.{found, ofKind}
+use Rattle.checking.specs.Step.{found}
+use Rattle.checking.specs.Match.{ofKind}
 use Rattle.checking.specs.private.StepCode.{ofStepped}
 use Rattle.checking.specs.StepLaws.{taken}
 use Rattle.checking.proofs.reduce.Turns.{Standing, standing-first, lent-whole, lent-valid, ended, left-less, onward, pairsOf, mergesOf}

@@ -8,7 +8,7 @@ use borrow.Author.Tests.{not-true, not-false}
 use Rattle.circuit.specs.declared.gate.Gate.{Gate}
 use Rattle.circuit.specs.Words.{gatesOf, gateAt}
 use Rattle.checking.specs.Step.{scanFrom}
-use Rattle.checking.specs.private.StepCode.{ofVerdict}
+use Rattle.checking.specs.Match.{ofVerdict}
 use Rattle.checking.proofs.step.Relation.{target-low}
 use Rattle.checking.proofs.step.Searching.{words-hit, words-stop, words-on, words-end}
 use Rattle.checking.proofs.step.scan_after.Statement.{statement}

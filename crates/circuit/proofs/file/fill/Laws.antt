@@ -18,10 +18,10 @@ use Rattle.circuit.specs.Gate.{maxLines, valid, Control, controlsOf}
 use Rattle.circuit.specs.Words.{gateWords, wordsOf, putGate, allValid}
 use Rattle.circuit.specs.declared.file.scan.Numeral.{Numeral}
 use Rattle.circuit.specs.declared.file.fill.GateRead.{GateRead}
-use Rattle.circuit.specs.Text.{tab, lineFeed, plus, minus, digit, numberText, controlText, controlsText, gateLine, gateLines}
+use Rattle.circuit.specs.Text.{tab, lineFeed, plusSign, minusSign, digit, numberText, controlText, controlsText, gateLine, gateLines}
 use Rattle.circuit.specs.File.{maskOf, gateOf}
 use Rattle.circuit.specs.File.{Inside}
-use Rattle.circuit.specs.private.Fill.{Stands, NumberAt, ControlsAt, GateAt, GatesAt}
+use Rattle.circuit.specs.private.Fill.{StandsAt, NumberAt, ControlsAt, GateAt, GatesAt}
 use Rattle.circuit.proofs.gate.Laws.{valid-facts}
 use Rattle.circuit.proofs.words.Laws.{words-append, words-length, put-fits}
 use Rattle.circuit.proofs.file.Numbers.{text-short, text-long}
@@ -33,23 +33,23 @@ use Rattle.circuit.proofs.file.put.Laws.{rest-length}
 
 module _ (text : List ℕ) (at : ℕ) where
   -- the first one
-  pub byte-there : (b : ℕ) (bytes : List ℕ) → Stands text at (b ∷ bytes) → (getD text at 0 ≡ b) × (at < length text)
+  pub byte-there : (b : ℕ) (bytes : List ℕ) → StandsAt text at (b ∷ bytes) → (getD text at 0 ≡ b) × (at < length text)
   byte-there b bytes s =
       let e : at ≡ at + 0 = omega arith in
       (ap (λ (k : ℕ). getD text k 0) e ∙ sym (getD-drop at text 0 0) ∙ ap (λ (l : List ℕ). getD l 0 0) (s .is), omega (arith, length-drop at text, ap length (s .is)))
 
   -- the first ones alone, and those after them
-  pub front : (xs ys : List ℕ) → Stands text at (xs ++ ys) → Stands text at xs
+  pub front : (xs ys : List ℕ) → StandsAt text at (xs ++ ys) → StandsAt text at xs
   front xs ys s = record { rest = ys ++ s .rest; is = s .is ∙ append-assoc xs ys (s .rest) }
 
-  pub later : (xs ys : List ℕ) → Stands text at (xs ++ ys) → Stands text (at + length xs) ys
+  pub later : (xs ys : List ℕ) → StandsAt text at (xs ++ ys) → StandsAt text (at + length xs) ys
   later xs ys s =
       record {
         rest = s .rest;
         is = sym (drop-drop (length xs) at text) ∙ ap (drop (length xs)) (s .is ∙ append-assoc xs ys (s .rest)) ∙ drop-append-seam xs (ys ++ s .rest);
       }
 
-  pub restated : (xs ys : List ℕ) → xs ≡ ys → Stands text at xs → Stands text at ys
+  pub restated : (xs ys : List ℕ) → xs ≡ ys → StandsAt text at xs → StandsAt text at ys
   restated xs ys e s = record { rest = s .rest; is = s .is ∙ ap (λ (l : List ℕ). l ++ s .rest) e }
 
 -- ---- a number
@@ -61,7 +61,7 @@ pub data Digits (text : List ℕ) (at k : ℕ) : Type 0 where
 
 module _ (text : List ℕ) (at k : ℕ) (n : NumberAt text at k) where
   module _ (a b : ℕ) (more : List ℕ) (is : numberText k ++ (n .after ∷ []) ≡ a ∷ b ∷ more) where
-    stands : Stands text at (a ∷ b ∷ more)
+    stands : StandsAt text at (a ∷ b ∷ more)
     stands = restated text at _ (a ∷ b ∷ more) is (n .stands)
 
     bytes : (getD text at 0 ≡ a) × (getD text (at + 1) 0 ≡ b) × (at + 1 < length text)
@@ -126,7 +126,7 @@ pub record Parted (text : List ℕ) (at k : ℕ) (cs : List Control) : Type 0 wh
   pub number : NumberAt text at k
   pub controls : ControlsAt text (at + length (numberText k)) cs
 
-pub parted : (text : List ℕ) (at k : ℕ) (cs : List Control) → k < 100 → Inside maxLines cs → Stands text at (numberText k ++ (controlsText cs ++ (lineFeed ∷ []))) → Parted text at k cs
+pub parted : (text : List ℕ) (at k : ℕ) (cs : List Control) → k < 100 → Inside maxLines cs → StandsAt text at (numberText k ++ (controlsText cs ++ (lineFeed ∷ []))) → Parted text at k cs
 parted text at k cs h i s =
     let (b, l, low, e) = tail-first cs in
     record {
@@ -145,7 +145,7 @@ parted text at k cs h i s =
 -- the first control: its tab, its sign and its line, and the controls after it
 pub record Control₁ (text : List ℕ) (at : ℕ) (c : Control) (cs : List Control) : Type 0 where
   pub tabbed : getD text at 0 ≡ tab
-  pub signed : getD text (at + 1) 0 ≡ cond (c .positive) plus minus
+  pub signed : getD text (at + 1) 0 ≡ cond (c .positive) plusSign minusSign
   pub inside : at + 1 < length text
   pub below : c .line < maxLines
   pub line : NumberAt text (at + 2) (c .line)
@@ -158,17 +158,17 @@ first-control text at c cs s = go (s .lines)
     go : Inside maxLines (c ∷ cs) → Control₁ text at c cs
     go (Inside.more d ds h i) =
         let (a, x) = byte-there text at tab _ (s .stands) in
-        let (b, y) = byte-there text (at + 1) (cond (c .positive) plus minus) _ (later text at (tab ∷ []) _ (s .stands)) in
+        let (b, y) = byte-there text (at + 1) (cond (c .positive) plusSign minusSign) _ (later text at (tab ∷ []) _ (s .stands)) in
         let p =
         parted text (at + 2) (c .line) cs (omega arith) i
         (restated text (at + 2) _ _ (append-assoc (numberText (c .line)) (controlsText cs) (lineFeed ∷ []))
-        (later text at (tab ∷ cond (c .positive) plus minus ∷ []) _ (s .stands))) in
+        (later text at (tab ∷ cond (c .positive) plusSign minusSign ∷ []) _ (s .stands))) in
         record { tabbed = a; signed = b; inside = y; below = h; line = p .number; more = p .controls }
 
 -- whether it is positive
-pub sign-told : (b : ℕ) (p : Bool) → b ≡ cond p plus minus → eqb b plus ≡ p
-sign-told b true e = ap (λ (x : ℕ). eqb x plus) e
-sign-told b false e = ap (λ (x : ℕ). eqb x plus) e
+pub sign-told : (b : ℕ) (p : Bool) → b ≡ cond p plusSign minusSign → eqb b plusSign ≡ p
+sign-told b true e = ap (λ (x : ℕ). eqb x plusSign) e
+sign-told b false e = ap (λ (x : ℕ). eqb x plusSign) e
 
 -- after the last one
 pub no-control : (text : List ℕ) (at : ℕ) → ControlsAt text at [] → (getD text at 0 ≡ lineFeed) × (at < length text)
@@ -200,7 +200,7 @@ module _ (text : List ℕ) (first : ℕ) (cs : List Control) (at positive negati
   -- a tab: one control more
   pub record Next : Type 0 where
     pub control : Control
-    pub signed : getD text (at + 1) 0 ≡ cond (control .positive) plus minus
+    pub signed : getD text (at + 1) 0 ≡ cond (control .positive) plusSign minusSign
     pub inside : at + 1 < length text
     pub below : control .line < maxLines
     pub line : NumberAt text (at + 2) (control .line)

@@ -11,7 +11,7 @@ use borrow.Author.Tests.{eqb-true, eq-eqb, ne-eqb, le-leb, lt-leb, leb-true, le-
 use Rattle.bits.proofs.Bools.{either, and-parts, both, cond-true, cond-false, and-second}
 use Rattle.circuit.specs.Outcome.{Outcome, served, refused, demand, andThen}
 use Rattle.circuit.specs.Refusal.{wrongForm, lineOutside}
-use Rattle.circuit.specs.Text.{tab, lineFeed, plus, minus}
+use Rattle.circuit.specs.Text.{tab, lineFeed, plusSign, minusSign}
 use Rattle.circuit.specs.File.{isDigit, numberOf, lineOf, controlOf}
 use Rattle.circuit.specs.private.Scan.{isStop, fieldAt, startsWith, orHundred, width}
 use Rattle.circuit.proofs.Outcome.{demand-met, demand-failed, then-served, then-refused}
@@ -195,18 +195,18 @@ line-good n i f k e h l = then-served _ _ k (number-told i f k e h) ∙ demand-m
 
 -- ---- the control there
 
-sign-more : (s : ℕ) → (eqb s plus || eqb s minus) ≡ true → isStop s ≡ false
+sign-more : (s : ℕ) → (eqb s plusSign || eqb s minusSign) ≡ true → isStop s ≡ false
 sign-more s e =
-    either (eqb s plus)
-    (λ t. ap isStop (eqb-true s plus t))
-    (λ t. ap isStop (eqb-true s minus (sym (ap (λ (b : Bool). b || eqb s minus) t) ∙ e)))
+    either (eqb s plusSign)
+    (λ t. ap isStop (eqb-true s plusSign t))
+    (λ t. ap isStop (eqb-true s minusSign (sym (ap (λ (b : Bool). b || eqb s minusSign) t) ∙ e)))
 
 -- LF is no sign, so a sign stands inside the text
-pub sign-inside : (r : List ℕ) → (eqb (getD r 0 10) plus || eqb (getD r 0 10) minus) ≡ true → 0 < length r
+pub sign-inside : (r : List ℕ) → (eqb (getD r 0 10) plusSign || eqb (getD r 0 10) minusSign) ≡ true → 0 < length r
 sign-inside [] e = absurd (false≢true e)
 sign-inside (b ∷ r) e = omega arith
 
-pub control-unsigned : (n i : ℕ) (r : List ℕ) → (eqb (getD r 0 10) plus || eqb (getD r 0 10) minus) ≡ false → controlOf n i (fieldAt r) ≡ refused wrongForm i
+pub control-unsigned : (n i : ℕ) (r : List ℕ) → (eqb (getD r 0 10) plusSign || eqb (getD r 0 10) minusSign) ≡ false → controlOf n i (fieldAt r) ≡ refused wrongForm i
 unfolding controlOf
 control-unsigned n i [] e = ap (controlOf n i) field-none
 control-unsigned n i (s ∷ r) e =
@@ -214,18 +214,18 @@ control-unsigned n i (s ∷ r) e =
     (λ t. ap (controlOf n i) (field-stop s r t))
     (λ t. ap (controlOf n i) (field-more s r t) ∙ demand-failed _ _ _ _ e)
 
-control-signed : (n i : ℕ) (r : List ℕ) → (eqb (getD r 0 10) plus || eqb (getD r 0 10) minus) ≡ true
-    → controlOf n i (fieldAt r) ≡ andThen (lineOf n i (fieldAt (drop 1 r))) (λ k. served (record { line = k; positive = eqb (getD r 0 10) plus }))
+control-signed : (n i : ℕ) (r : List ℕ) → (eqb (getD r 0 10) plusSign || eqb (getD r 0 10) minusSign) ≡ true
+    → controlOf n i (fieldAt r) ≡ andThen (lineOf n i (fieldAt (drop 1 r))) (λ k. served (record { line = k; positive = eqb (getD r 0 10) plusSign }))
 unfolding controlOf
 control-signed n i [] e = absurd (false≢true e)
 control-signed n i (s ∷ r) e = ap (controlOf n i) (field-more s r (sign-more s e)) ∙ demand-met _ _ _ _ e
 
-pub control-refused : (n i : ℕ) (r : List ℕ) (number place : ℕ) → (eqb (getD r 0 10) plus || eqb (getD r 0 10) minus) ≡ true
+pub control-refused : (n i : ℕ) (r : List ℕ) (number place : ℕ) → (eqb (getD r 0 10) plusSign || eqb (getD r 0 10) minusSign) ≡ true
     → lineOf n i (fieldAt (drop 1 r)) ≡ refused number place → controlOf n i (fieldAt r) ≡ refused number place
 control-refused n i r number place e q = control-signed n i r e ∙ then-refused _ _ number place q
 
-pub control-good : (n i : ℕ) (r : List ℕ) (k : ℕ) → (eqb (getD r 0 10) plus || eqb (getD r 0 10) minus) ≡ true
-    → lineOf n i (fieldAt (drop 1 r)) ≡ served k → controlOf n i (fieldAt r) ≡ served (record { line = k; positive = eqb (getD r 0 10) plus })
+pub control-good : (n i : ℕ) (r : List ℕ) (k : ℕ) → (eqb (getD r 0 10) plusSign || eqb (getD r 0 10) minusSign) ≡ true
+    → lineOf n i (fieldAt (drop 1 r)) ≡ served k → controlOf n i (fieldAt r) ≡ served (record { line = k; positive = eqb (getD r 0 10) plusSign })
 control-good n i r k e q = control-signed n i r e ∙ then-served _ _ k q
 
 -- ---- a text that starts with a word

@@ -16,7 +16,7 @@ use Rattle.circuit.specs.Outcome.{Outcome, served, refused, demand, andT
 use Rattle.circuit.specs.Refusal.{wrongForm, badLineCount, lineOutside, targetControlled, notRising, tooManyGates}
 use Rattle.circuit.specs.Words.{lineCountGood}
 use Rattle.circuit.specs.Text.{tab, lineFeed, linesWord, gateWord, endWord, numberText}
-use Rattle.circuit.specs.File.{Line, noLine, firstLine, linesOf, size, longer, fieldsOf, same, numberOf, lineOf, controlOf, controlsFrom, among, risingFrom, gateOf, closedGate, gateFields, gateOn, headerFields, headerOn, isEnd}
+use Rattle.circuit.specs.File.{Line, noLine, firstLine, linesOf, lineSize, longer, fieldsOf, same, numberOf, lineOf, controlOf, controlsFrom, among, risingFrom, gateOf, closedGate, gateFields, gateOn, headerFields, headerOn, isEnd}
 use Rattle.circuit.specs.private.Scan.{isStop, fieldAt, lineAt, startsWith, orHundred, width, added, laterFields, headerNext, gateNext, controlsNext}
 use Rattle.circuit.proofs.Outcome.{never, demand-met, demand-failed, demanded, then-served, then-refused, then-both}
 use Rattle.circuit.proofs.file.Lines.{line-more, line-over, lines-none, field-over, fields-none, fields-some, same-self, same-true, cut-first, tabbed, whole, fields-back}
@@ -45,7 +45,7 @@ stop-parts b e = or-none (eqb b tab) (eqb b lineFeed) e
 pub record Tabbed (r : List ℕ) : Type 0 where
   pub fields : fieldsOf (lineAt r .bytes) ≡ [] ∷ fieldsOf (lineAt (drop 1 r) .bytes)
   pub ended : lineAt r .ended ≡ lineAt (drop 1 r) .ended
-  pub sizes : size (lineAt r) ≡ 1 + size (lineAt (drop 1 r))
+  pub sizes : lineSize (lineAt r) ≡ 1 + lineSize (lineAt (drop 1 r))
   pub inside : 0 < length r
 
 pub tabbed-line : (r : List ℕ) → getD r 0 10 ≡ tab → Tabbed r
@@ -66,7 +66,7 @@ tabbed-line (b ∷ r) e =
 pub record Parted (r : List ℕ) (f rest : List ℕ) : Type 0 where
   pub fields : fieldsOf (lineAt r .bytes) ≡ f ∷ laterFields (fieldsOf (lineAt rest .bytes))
   pub ended : lineAt r .ended ≡ lineAt rest .ended
-  pub sizes : size (lineAt r) ≡ length f + size (lineAt rest)
+  pub sizes : lineSize (lineAt r) ≡ length f + lineSize (lineAt rest)
   pub stop : fieldAt rest ≡ []
   pub inside : length f ≤ length r
 
@@ -128,7 +128,7 @@ pub end-missing : (r : List ℕ) → length r ≡ 0 → lineAt r .ended ≡ fals
 end-missing [] e = ap (λ (l : Line). l .ended) line-none
 end-missing (b ∷ r) e = absurd (omega arith)
 
-pub end-there : (r : List ℕ) → fieldAt r ≡ [] → (getD r 0 10 ≡ tab → ⊥) → 0 < length r → (lineAt r .ended ≡ true) × (size (lineAt r) ≡ 1)
+pub end-there : (r : List ℕ) → fieldAt r ≡ [] → (getD r 0 10 ≡ tab → ⊥) → 0 < length r → (lineAt r .ended ≡ true) × (lineSize (lineAt r) ≡ 1)
 end-there [] e h k = absurd (omega arith)
 end-there (b ∷ r) e h k =
     let d = line-done b r (feed b r e h) in
@@ -182,7 +182,7 @@ pub record Going (n i t : ℕ) (text : List ℕ) (first at : ℕ) (seen : Seen) 
   pub is : seen ≡ seenOf t passed
   pub left : controlsFrom n i [] (laterFields (fieldsOf (lineAt (drop first text) .bytes))) ≡ controlsFrom n i passed (laterFields (fieldsOf (lineAt (drop at text) .bytes)))
   pub ended : lineAt (drop first text) .ended ≡ lineAt (drop at text) .ended
-  pub sizes : first + size (lineAt (drop first text)) ≡ at + size (lineAt (drop at text))
+  pub sizes : first + lineSize (lineAt (drop first text)) ≡ at + lineSize (lineAt (drop at text))
 
 pub going-start : (n i t : ℕ) (text : List ℕ) (first : ℕ) (seen : Seen) → first ≤ length text → fieldAt (drop first text) ≡ []
     → seen ≡ record { low = 0; rising = true; apart = true } → Going n i t text first first seen
@@ -229,10 +229,10 @@ module _ (n i t : ℕ) (text : List ℕ) (first at : ℕ) (seen : Seen) (g : Goi
           let q : at + 1 + length f ≡ at + (2 + width (c .line)) = omega (arith, field-length) in
           let d : drop (length f) (drop (at + 1) text) ≡ drop (at + (2 + width (c .line))) text =
           drop-drop (length f) (at + 1) text ∙ ap (λ (k : ℕ). drop k text) q in
-          let s : size (lineAt (drop at text)) ≡ 1 + size (lineAt (drop (at + 1) text)) =
-          tabbed-line (drop at text) here .sizes ∙ ap (λ (r : List ℕ). 1 + size (lineAt r)) (drop-drop 1 at text) in
-          let z : size (lineAt (drop (at + 1) text)) ≡ length f + size (lineAt (drop (at + (2 + width (c .line))) text)) =
-          p .sizes ∙ ap (λ (r : List ℕ). length f + size (lineAt r)) d in
+          let s : lineSize (lineAt (drop at text)) ≡ 1 + lineSize (lineAt (drop (at + 1) text)) =
+          tabbed-line (drop at text) here .sizes ∙ ap (λ (r : List ℕ). 1 + lineSize (lineAt r)) (drop-drop 1 at text) in
+          let z : lineSize (lineAt (drop (at + 1) text)) ≡ length f + lineSize (lineAt (drop (at + (2 + width (c .line))) text)) =
+          p .sizes ∙ ap (λ (r : List ℕ). length f + lineSize (lineAt r)) d in
           let w = g .sizes in
           record {
             passed = g .passed ++ (c ∷ []);
@@ -256,10 +256,10 @@ module _ (n i t : ℕ) (text : List ℕ) (first at : ℕ) (seen : Seen) (g : Goi
   module _ (none : getD (drop at text) 0 10 ≡ tab → ⊥) where
     -- all controls were passed
     tested : controlsNext n i t first (drop first text)
-        ≡ andThen (closedGate i (lineAt (drop at text) .ended) t (g .passed)) (λ x. served (at + size (lineAt (drop at text))))
+        ≡ andThen (closedGate i (lineAt (drop at text) .ended) t (g .passed)) (λ x. served (at + lineSize (lineAt (drop at text))))
     unfolding controlsFrom
     tested =
-        ap (λ (o : Outcome Gate). andThen o (λ x. served (first + size (lineAt (drop first text)))))
+        ap (λ (o : Outcome Gate). andThen o (λ x. served (first + lineSize (lineAt (drop first text)))))
         (then-served _ _ (g .passed) (g .left ∙ ap (controlsFrom n i (g .passed)) (end-fields (drop at text) (g .stop) none))
         ∙ ap (λ (b : Bool). closedGate i b t (g .passed)) (g .ended))
         ∙ ap (λ (k : ℕ). andThen (closedGate i (lineAt (drop at text) .ended) t (g .passed)) (λ x. served k)) (g .sizes)
@@ -271,7 +271,7 @@ module _ (n i t : ℕ) (text : List ℕ) (first at : ℕ) (seen : Seen) (g : Goi
         ∙ then-refused _ _ wrongForm i (demand-failed _ _ _ _ (end-missing (drop at text) (omega (arith, length-drop at text))))
 
     module _ (more : at < length text) where
-      there : (lineAt (drop at text) .ended ≡ true) × (size (lineAt (drop at text)) ≡ 1)
+      there : (lineAt (drop at text) .ended ≡ true) × (lineSize (lineAt (drop at text)) ≡ 1)
       there = end-there (drop at text) (g .stop) none (omega (arith, length-drop at text))
 
       closed : controlsNext n i t first (drop first text)
@@ -308,7 +308,7 @@ module _ (n i t : ℕ) (text : List ℕ) (first at : ℕ) (seen : Seen) (g : Goi
 pub record Worded (r w rest : List ℕ) : Type 0 where
   pub fields : fieldsOf (lineAt r .bytes) ≡ w ∷ fieldsOf (lineAt rest .bytes)
   pub ended : lineAt r .ended ≡ lineAt rest .ended
-  pub sizes : size (lineAt r) ≡ length w + 1 + size (lineAt rest)
+  pub sizes : lineSize (lineAt r) ≡ length w + 1 + lineSize (lineAt rest)
 
 worded : (w r : List ℕ) → fieldAt (w ++ (tab ∷ r)) ≡ w → Worded (w ++ (tab ∷ r)) w r
 worded w r e =
@@ -316,8 +316,8 @@ worded w r e =
     let d : drop (length (fieldAt (w ++ (tab ∷ r)))) (w ++ (tab ∷ r)) ≡ tab ∷ r =
     ap (λ (f : List ℕ). drop (length f) (w ++ (tab ∷ r))) e ∙ drop-append-seam w (tab ∷ r) in
     let t = tabbed-line (tab ∷ r) refl in
-    let a : size (lineAt (w ++ (tab ∷ r))) ≡ length w + size (lineAt (tab ∷ r)) = p .sizes ∙ ap₂ (λ (f x : List ℕ). length f + size (lineAt x)) e d in
-    let b : size (lineAt (tab ∷ r)) ≡ 1 + size (lineAt r) = t .sizes in
+    let a : lineSize (lineAt (w ++ (tab ∷ r))) ≡ length w + lineSize (lineAt (tab ∷ r)) = p .sizes ∙ ap₂ (λ (f x : List ℕ). length f + lineSize (lineAt x)) e d in
+    let b : lineSize (lineAt (tab ∷ r)) ≡ 1 + lineSize (lineAt r) = t .sizes in
     record {
       fields = p .fields ∙ ap₂ (λ (f x : List ℕ). f ∷ laterFields (fieldsOf (lineAt x .bytes))) e d ∙ ap (λ (fs : List (List ℕ)). w ∷ laterFields fs) (t .fields);
       ended = p .ended ∙ ap (λ (x : List ℕ). lineAt x .ended) d ∙ t .ended;
@@ -392,10 +392,10 @@ module _ (r : List ℕ) (starts : startsWith (103 ∷ 9 ∷ []) r ≡ true) wher
         → next ≡ at + 2 + length (fieldAt (drop 2 r)) → gateNext n i count at r ≡ controlsNext n i k next rest
     gate-target k e rest q next m =
         let p = parted (drop 2 r) in
-        let s : size (lineAt r) ≡ 2 + size (lineAt (drop 2 r)) = gate-word .sizes in
-        let z : size (lineAt (drop 2 r)) ≡ length (fieldAt (drop 2 r)) + size (lineAt rest) = p .sizes ∙ ap (λ (x : List ℕ). length (fieldAt (drop 2 r)) + size (lineAt x)) (sym q) in
+        let s : lineSize (lineAt r) ≡ 2 + lineSize (lineAt (drop 2 r)) = gate-word .sizes in
+        let z : lineSize (lineAt (drop 2 r)) ≡ length (fieldAt (drop 2 r)) + lineSize (lineAt rest) = p .sizes ∙ ap (λ (x : List ℕ). length (fieldAt (drop 2 r)) + lineSize (lineAt x)) (sym q) in
         let d : lineAt r .ended ≡ lineAt rest .ended = gate-word .ended ∙ p .ended ∙ ap (λ (x : List ℕ). lineAt x .ended) (sym q) in
-        let t : at + size (lineAt r) ≡ next + size (lineAt rest) = omega arith in
+        let t : at + lineSize (lineAt r) ≡ next + lineSize (lineAt rest) = omega arith in
         ap₂ (λ (o : Outcome Gate) (j : ℕ). andThen o (λ x. served j))
         (gate-few
         ∙ then-served _ _ k e
@@ -420,7 +420,7 @@ end-line r =
     (λ e.
     let (d, b) = and-parts (lineAt r .ended) (same (lineAt r .bytes) endWord) e in
     ap (startsWith (101 ∷ 110 ∷ 100 ∷ 10 ∷ []))
-    (cut-first r d .text ∙ ap (λ (x : List ℕ). x ++ (lineFeed ∷ drop (size (lineAt r)) r)) (same-true (lineAt r .bytes) endWord b)))
+    (cut-first r d .text ∙ ap (λ (x : List ℕ). x ++ (lineFeed ∷ drop (lineSize (lineAt r)) r)) (same-true (lineAt r .bytes) endWord b)))
 
 -- ---- the header
 
@@ -507,7 +507,7 @@ module _ (r : List ℕ) (starts : startsWith (108 ∷ 105 ∷ 110 ∷ 101 ∷ 11
       unfolding after
       after-stop = parted (drop 6 r) .stop
 
-      after-size : size (lineAt r) ≡ 6 + width n + size (lineAt after)
+      after-size : lineSize (lineAt r) ≡ 6 + width n + lineSize (lineAt after)
       unfolding after
       after-size = omega (arith, header-word .sizes, parted (drop 6 r) .sizes, number-length)
 
@@ -550,7 +550,7 @@ module _ (r : List ℕ) (starts : startsWith (108 ∷ 105 ∷ 110 ∷ 101 ∷ 11
       header-good h e =
           let nt : getD after 0 10 ≡ tab → ⊥ = λ q. ten (sym e ∙ first-after ∙ q) in
           let (d, s) = end-there after after-stop nt (omega (arith, after-length)) in
-          let z : size (lineAt r) ≡ 6 + width n + 1 = omega (arith, after-size) in
+          let z : lineSize (lineAt r) ≡ 6 + width n + 1 = omega (arith, after-size) in
           then-served _ _ n
           (header-last
           ∙ ap₂ (λ (b : Bool) (fs : List (List ℕ)). lastTest b fs n) (after-ended ∙ d) (end-fields after after-stop nt))

@@ -4,7 +4,7 @@ use Prim.Native.Nat.{_-_, _<_}
 use native.Mathlib.Omega.{arith}
 use lib.ListN.{length}
 use borrow.Author.Needs.{needs, sfits-of}
-use Rattle.checking.specs.Satisfaction.{size}
+use Rattle.checking.specs.Satisfaction.{variableOf}
 use Rattle.circuit.proofs.file.put.Laws.{rest-length}
 use Rattle.text.proofs.dimacs.Signed.{word-is}
 use Rattle.text.proofs.dimacs.Loops.{Listing, count, listing-start, listing-at, listing-inside, listing-count, listing-room, listing-on, listing-done}
@@ -25,7 +25,7 @@ more c = omega arith
 counted : (c : tie.After-magnitude Inv-loop μ-loop) → c .magnitude .result ≡ count _ _ _ _ _ (c .before .before .before .loop .inv) (more (c .before .before))
 counted c =
     c .magnitude .ensures
-    ∙ ap size (word-is _ (sfits-of (c .before .magnitude-arg .given)) ∙ listing-count _ _ _ _ _ (c .before .before .before .loop .inv) (more (c .before .before)))
+    ∙ ap variableOf (word-is _ (sfits-of (c .before .magnitude-arg .given)) ∙ listing-count _ _ _ _ _ (c .before .before .before .loop .inv) (more (c .before .before)))
 
 loop-holds : tie.Need-loop-holds Inv-loop μ-loop
 loop-holds c = listing-start _ _ (c .before .pre .0) (c .before .pre .1)

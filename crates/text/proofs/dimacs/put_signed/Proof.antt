@@ -6,7 +6,7 @@ use native.Mathlib.Omega.{arith}
 use lib.IntN.{ℤ, pos, negsuc}
 use lib.ListN.{length, length-append}
 use Rattle.circuit.proofs.file.put.Laws.{put-as}
-use Rattle.checking.specs.Satisfaction.{size}
+use Rattle.checking.specs.Satisfaction.{variableOf}
 use Rattle.text.specs.Dimacs.{decimal, literalText}
 use Rattle.text.specs.private.Words.{signText}
 use Rattle.text.proofs.put.Laws.{two-put}
@@ -15,12 +15,12 @@ use borrow.Author.Needs.{needs}
 use Rattle.text.proofs.dimacs.put_signed.Statement.{statement}
 use Rattle.text.proofs.dimacs.put_signed.Tie as tie
 
-parts : (z : ℤ) → literalText z ≡ signText z ++ decimal (size z)
+parts : (z : ℤ) → literalText z ≡ signText z ++ decimal (variableOf z)
 parts (pos v) = refl
 parts (negsuc i) = refl
 
-parts-length : (z : ℤ) → length (literalText z) ≡ length (signText z) + length (decimal (size z))
-parts-length z = ap length (parts z) ∙ length-append (signText z) (decimal (size z))
+parts-length : (z : ℤ) → length (literalText z) ≡ length (signText z) + length (decimal (variableOf z))
+parts-length z = ap length (parts z) ∙ length-append (signText z) (decimal (variableOf z))
 
 sub-put-sign : tie.Need-sub-put-sign
 sub-put-sign c = search needs
@@ -62,7 +62,7 @@ put-number-requires : tie.Need-put-number-requires
 put-number-requires c κs =
     let s = c .before .before .before .before .before .before .before in
     let e = ap (λ (z : ℤ). length (signText z)) (word-is (s .args .literal) (s .fits .literal)) in
-    let m = ap (λ (k : ℕ). length (decimal k)) (c .magnitude .ensures ∙ ap size (word-is (s .args .literal) (s .fits .literal))) in
+    let m = ap (λ (k : ℕ). length (decimal k)) (c .magnitude .ensures ∙ ap variableOf (word-is (s .args .literal) (s .fits .literal))) in
     let l = parts-length (s .args .literal) in
     search needs
 
@@ -70,7 +70,7 @@ add-result : tie.Need-add-result
 add-result c =
     let s = c .before .before .before .before .before .before .before .before .before .before in
     let e = ap (λ (z : ℤ). length (signText z)) (word-is (s .args .literal) (s .fits .literal)) in
-    let m = ap (λ (k : ℕ). length (decimal k)) (c .before .before .before .magnitude .ensures ∙ ap size (word-is (s .args .literal) (s .fits .literal))) in
+    let m = ap (λ (k : ℕ). length (decimal k)) (c .before .before .before .magnitude .ensures ∙ ap variableOf (word-is (s .args .literal) (s .fits .literal))) in
     let l = parts-length (s .args .literal) in
     search needs
 
@@ -84,8 +84,8 @@ returns c =
     let e = word-is z (s .fits .literal) in
     let l = parts-length z in
     put-as _ _ _ _ _ (sym (parts z))
-    (two-put (s .args .out .now) _ _ (signText z) (put-as _ _ _ _ _ (ap signText e) (c .before .before .before .before .before .before .before .put-sign .ensures)) (c .before .before .before .before .before .before .before .put-sign .kept .0) _ _ (decimal (size z)) (omega arith)
-    (put-as _ _ _ _ _ (ap decimal (c .before .before .before .magnitude .ensures ∙ ap size e)) (c .before .before .put-number .ensures)) (c .before .before .put-number .kept .0))
+    (two-put (s .args .out .now) _ _ (signText z) (put-as _ _ _ _ _ (ap signText e) (c .before .before .before .before .before .before .before .put-sign .ensures)) (c .before .before .before .before .before .before .before .put-sign .kept .0) _ _ (decimal (variableOf z)) (omega arith)
+    (put-as _ _ _ _ _ (ap decimal (c .before .before .before .magnitude .ensures ∙ ap variableOf e)) (c .before .before .put-number .ensures)) (c .before .before .put-number .kept .0))
 
 pub put-signed-spec : {M : Type 1} → statement M
 put-signed-spec =

@@ -6,7 +6,7 @@ use lib.Seq.{length-take-le}
 use Rattle.circuit.proofs.file.put.Laws.{put-as}
 use Rattle.text.specs.declared.list.ListAnswer.{ListAnswer}
 use Rattle.text.specs.Tomiter.{refusalText, verdict, tomiterText}
-use Rattle.text.specs.private.Lists.{Says}
+use Rattle.text.specs.private.Lists.{Delivers}
 use Rattle.text.proofs.Sizes.{text-fits}
 use Rattle.text.proofs.program.Laws.{Written, refusal-text, list-text}
 use borrow.Author.Needs.{needs}
@@ -19,14 +19,14 @@ refused : (c : tie.After-why)
 unfolding tomiterText
 refused c =
     let l = c .before .before .before .list in
-    refusal-text _ _ (l .last .1 .0) (verdict (c .before .before .before .before .before .before .before .args .input .now)) (subst (λ (r : ListAnswer). Says r (l .last .1 .0) (verdict (c .before .before .before .before .before .before .before .args .input .now))) (c .why .given .1) (l .ensures))
+    refusal-text _ _ (l .last .1 .0) (verdict (c .before .before .before .before .before .before .before .args .input .now)) (subst (λ (r : ListAnswer). Delivers r (l .last .1 .0) (verdict (c .before .before .before .before .before .before .before .args .input .now))) (c .why .given .1) (l .ensures))
 
 -- the clause list's text
 listed : (c : tie.After-totals) → Written (c .totals .given .0 .0) (c .before .before .before .list .last .1 .0) (tomiterText (c .before .before .before .before .before .before .before .args .input .now))
 unfolding tomiterText
 listed c =
     let l = c .before .before .before .list in
-    list-text _ (l .last .1 .0) (verdict (c .before .before .before .before .before .before .before .args .input .now)) (subst (λ (r : ListAnswer). Says r (l .last .1 .0) (verdict (c .before .before .before .before .before .before .before .args .input .now))) (c .totals .given .1) (l .ensures))
+    list-text _ (l .last .1 .0) (verdict (c .before .before .before .before .before .before .before .args .input .now)) (subst (λ (r : ListAnswer). Delivers r (l .last .1 .0) (verdict (c .before .before .before .before .before .before .before .args .input .now))) (c .totals .given .1) (l .ensures))
 
 slice-aggregate-list : tie.Need-slice-aggregate-list
 slice-aggregate-list c = search needs

@@ -8,7 +8,7 @@ use lib.Dec.{eqb}
 use lib.ListN.{drop, getD, length-drop}
 use lib.Seq.{drop-drop}
 use borrow.Author.Tests.{not-true, not-false}
-use Rattle.circuit.specs.Text.{plus, minus}
+use Rattle.circuit.specs.Text.{plusSign, minusSign}
 use Rattle.circuit.specs.File.{lineOf}
 use Rattle.circuit.specs.Outcome.{served}
 use Rattle.circuit.specs.private.Scan.{fieldAt, ofLine, LineEnds}
@@ -25,8 +25,8 @@ rest c = drop (c .args .at) (c .args .text .now)
 first : (c : tie.After-byte) → c .byte .result ≡ getD (rest (c .before .before)) 0 10
 first c = let a = c .before .before .args in c .byte .ensures ∙ byte-at (a .text .now) (a .at)
 
-signed : (c : tie.Else1) → (eqb (getD (rest (c .before .before .before .before)) 0 10) plus || eqb (getD (rest (c .before .before .before .before)) 0 10) minus) ≡ true
-signed c = let s = c .before in sym (ap (λ (b : ℕ). eqb b plus || eqb b minus) (first (s .before))) ∙ sym (s .sign .ensures) ∙ not-false _ (c .if1 .left)
+signed : (c : tie.Else1) → (eqb (getD (rest (c .before .before .before .before)) 0 10) plusSign || eqb (getD (rest (c .before .before .before .before)) 0 10) minusSign) ≡ true
+signed c = let s = c .before in sym (ap (λ (b : ℕ). eqb b plusSign || eqb b minusSign) (first (s .before))) ∙ sym (s .sign .ensures) ∙ not-false _ (c .if1 .left)
 
 -- the field after the sign
 later : (c : tie.Else1)
@@ -51,7 +51,7 @@ returns c =
     let s = c .before .before in
     let a = s .before .before .before .args in (
       why (c .wrong-form .ensures)
-          ∙ sym (control-unsigned _ _ (rest (s .before .before .before)) (sym (ap (λ (b : ℕ). eqb b plus || eqb b minus) (first (s .before))) ∙ sym (s .sign .ensures) ∙ not-true _ (c .before .if1 .taken))),
+          ∙ sym (control-unsigned _ _ (rest (s .before .before .before)) (sym (ap (λ (b : ℕ). eqb b plusSign || eqb b minusSign) (first (s .before))) ∙ sym (s .sign .ensures) ∙ not-true _ (c .before .if1 .taken))),
       tt,
     )
 
@@ -79,7 +79,7 @@ returns-3 : tie.Need-returns-3
 returns-3 c =
     let w = c .before in
     let e = w .before .before .before in (
-      ap (λ (b : ℕ). served (record { line = w .line2 .given .0 .0; positive = eqb b plus })) (first (e .before .before))
+      ap (λ (b : ℕ). served (record { line = w .line2 .given .0 .0; positive = eqb b plusSign })) (first (e .before .before))
           ∙ sym (control-good _ _ (rest (e .before .before .before .before)) _ (signed e) (later e ∙ sym (w .before .before .line .ensures .0) ∙ ap ofLine (w .line2 .given .1))),
       subst (LineEnds (e .before .before .before .before .args .at + 1)) (w .line2 .given .1) (w .before .before .line .ensures .1),
     )
