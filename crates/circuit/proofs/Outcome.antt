@@ -3,8 +3,10 @@ use mathlib.Core.Path.{_≡_, refl, sym, ap, ap₂, subst₂, _∙_}
 use mathlib.Core.Logic.{_↔_}
 use mathlib.Core.Bool.{Bool, true, false}
 use mathlib.Core.List.{List}
-use Prim.Native.Nat.{ℕ}
+use Prim.Native.Nat.{ℕ, _<_, _≤_}
 use native.Mathlib.Omega.{arith}
+use lib.Dec.{eqb, leb, ltb}
+use borrow.Author.Tests.{eqb-false, ne-eqb, leb-false, lt-leb, ltb-false, le-ltb}
 use Rattle.bits.specs.Lists.{over}
 use Rattle.bits.proofs.Bools.{either, cond-true, cond-false}
 use Rattle.circuit.specs.declared.refusal.Refusal.{Refusal}
@@ -14,6 +16,9 @@ use Rattle.circuit.specs.Outcome.{Outcome, served, refused, demand, andT
 -- an outcome is served or refused, and not both
 pub never : {A : Type 0} {o : Outcome A} {a : A} {number place : ℕ} → o ≡ served a → o ≡ refused number place → ⊥
 never p q = let z : _≡_ {A = ℕ} 0 1 = cc in omega arith
+
+pub unserved : {A : Type 0} {a b : A} → _≡_ {A = Outcome A} (served a) (served b) → a ≡ b
+unserved e = cc
 
 -- a refusal in document 01's numbers
 pub why : {A : Type 0} {r : Refusal} {number place : ℕ} → r ≡ refusal number place → _≡_ {A = Outcome A} (refused (r .number) (r .place)) (refused number place)
@@ -102,6 +107,16 @@ fails-refused test number place value Bad is x y = (
   where
     back : (x y : ℕ) → Fails Bad number place x y → demand test number place (served value) ≡ refused x y
     back _ _ (fails b) = demand-failed test number place (served value) (is .1 b)
+
+-- what the usual tests say where they fail
+pub at-least : (x y : ℕ) → (ltb x y ≡ false) ↔ (y ≤ x)
+at-least x y = (ltb-false x y, le-ltb x y)
+
+pub above : (x y : ℕ) → (leb x y ≡ false) ↔ (y < x)
+above x y = (leb-false x y, lt-leb x y)
+
+pub unequal : (x y : ℕ) → (eqb x y ≡ false) ↔ (x ≡ y → ⊥)
+unequal x y = (eqb-false x y, ne-eqb x y)
 
 -- the buffer of a served call, and of a refused one
 pub written-served : {A B : Type 0} (front out : List B) (o : Outcome A) (a : A) → o ≡ served a → written o front out ≡ over front out

@@ -8,7 +8,7 @@ use lib.ListN.{length, take}
 use Rattle.bits.specs.Lists.{over}
 use Rattle.circuit.specs.declared.gate.Gate.{Gate}
 use Rattle.circuit.specs.Gate.{maxLines, maxGates, Control}
-use Rattle.circuit.specs.Outcome.{Outcome, served, refused, Untouched, Yields}
+use Rattle.circuit.specs.Outcome.{Outcome, served, refused, Wrong, Fails, Untouched, Yields}
 use Rattle.circuit.specs.Refusal.{wrongForm, badLineCount, lineOutside, targetControlled, notRising, tooManyGates, noRoom}
 use Rattle.circuit.specs.Words.{gatesOf, wordsOf, allValid, Cascade, WordsRefused}
 use Rattle.circuit.specs.Text.{linesWord, gateWord, endWord, numberText, controlText, headerLine, gateLines, textOf}
@@ -110,10 +110,16 @@ pub record Readable (text : List ℕ) (room : ℕ) (c : ReadCounts) : Type 0 whe
   pub taken : c .taken ≡ length (textOf (c .lines) cascade)
   pub fits : 3 * length cascade ≤ room
 
--- what is wrong with the text; or, where nothing is, the buffer is too short
-pub data ReadRefused (text : List ℕ) (room : ℕ) : ℕ → ℕ → Type 0 where
-  wrong : (number place : ℕ) → FileRefused text number place → ReadRefused text room number place
-  short : (n : ℕ) (gs : List Gate) (rest : List ℕ) → FileCascade n gs → text ≡ textOf n gs ++ rest → room < 3 * length gs → ReadRefused text room noRoom 0
+-- a text that starts with the text of what is read
+pub record ReadAs (text : List ℕ) (c : Reading) : Type 0 where
+  pub good : FileCascade (c .lines) (c .gates)
+  pub rest : List ℕ
+  pub starts : text ≡ textOf (c .lines) (c .gates) ++ rest
+  pub bytes : c .taken ≡ length (textOf (c .lines) (c .gates))
+
+-- what is wrong with the text; or 10 for the text of a cascade and a buffer with room for fewer words than it has
+abbrev pub ReadRefused : List ℕ → ℕ → ℕ → ℕ → Type 0
+ReadRefused text room = Wrong (FileRefused text) (ReadAs text) (λ c. Fails (room < 3 * length (c .gates)) noRoom 0)
 
 -- the words of a cascade, and a buffer that has room for its text of k bytes
 pub record Writable (n : ℕ) (ws : List ℕ) (room k : ℕ) : Type 0 where
@@ -123,9 +129,8 @@ pub record Writable (n : ℕ) (ws : List ℕ) (room k : ℕ) : Type 0 where
   pub fits : k ≤ room
 
 -- what is wrong with a writing: with the words, or 10 for a cascade and a buffer shorter than its text
-pub data WriteRefused (n : ℕ) (ws : List ℕ) (room : ℕ) : ℕ → ℕ → Type 0 where
-  words : {number place : ℕ} → WordsRefused n ws maxGates number place → WriteRefused n ws room number place
-  no-room : (k : ℕ) → Cascade n ws maxGates k → room < length (textOf n (gatesOf ws)) → WriteRefused n ws room noRoom 0
+abbrev pub WriteRefused : ℕ → List ℕ → ℕ → ℕ → ℕ → Type 0
+WriteRefused n ws room = Wrong (WordsRefused n ws maxGates) (Cascade n ws maxGates) (λ k. Fails (room < length (textOf n (gatesOf ws))) noRoom 0)
 
 -- of two calls on files, by their outcomes and what they leave in their buffers
 pub record RoundTrip (read : List ℕ → ℕ → Outcome ReadCounts) (read-into : List ℕ → List ℕ → List ℕ)

@@ -11,8 +11,8 @@ use Rattle.bits.specs.Digits.{bit, linesIn}
 use Rattle.bits.specs.Lists.{over}
 use Rattle.circuit.specs.declared.gate.Gate.{Gate}
 use Rattle.circuit.specs.Gate.{maxLines, maxGates, notGate, valid, fires, apply, toggled, controlCount, controlsOf, allMet}
-use Rattle.circuit.specs.Outcome.{served, refused, Untouched, Yields}
-use Rattle.circuit.specs.Words.{gatesOf, wordsOf, allValid, checkOutcome, Cascade, Counts, pairOutcome, WordsRefused, PairRefused}
+use Rattle.circuit.specs.Outcome.{served, refused, Wrong, Fails, Untouched, Yields}
+use Rattle.circuit.specs.Words.{gatesOf, wordsOf, allValid, checkOutcome, Cascade, Counts, pairOutcome, WordsRefused, GoodPair, PairRefused}
 use Rattle.circuit.specs.Run.{run, runTested, Equal, Differs, runOutcome, recordsOutcome}
 use Rattle.circuit.specs.Refusal.{badState, noRoom}
 use Rattle.circuit.specs.Inverse.{inverse, inverseOutcome, inverseBuffer}
@@ -59,19 +59,17 @@ pub record WordsLaws : Type 0 where
   pub check-served : (n : ℕ) (ws : List ℕ) (limit k : ℕ) → (checkOutcome n ws limit ≡ served k) ↔ Cascade n ws limit k
   pub check-refused : (n : ℕ) (ws : List ℕ) (limit number place : ℕ) → (checkOutcome n ws limit ≡ refused number place) ↔ WordsRefused n ws limit number place
   pub pair-served : (na : ℕ) (a : List ℕ) (nb : ℕ) (b : List ℕ) (c : Counts)
-      → (pairOutcome na a nb b ≡ served c) ↔ ((Cascade na a maxGates (c .first)) × (Cascade nb b maxGates (c .second)) × (na ≡ nb))
+      → (pairOutcome na a nb b ≡ served c) ↔ GoodPair na a nb b c
   pub pair-refused : (na : ℕ) (a : List ℕ) (nb : ℕ) (b : List ℕ) (number place : ℕ)
       → (pairOutcome na a nb b ≡ refused number place) ↔ PairRefused na a nb b number place
 
 -- what is wrong with a run: with the words, or 9 for a cascade and a state of 2 ^ n or more
-pub data RunRefused (n : ℕ) (ws : List ℕ) (s : ℕ) : ℕ → ℕ → Type 0 where
-  run-words : {number place : ℕ} → WordsRefused n ws maxGates number place → RunRefused n ws s number place
-  outside : (k : ℕ) → Cascade n ws maxGates k → 2 ^ n ≤ s → RunRefused n ws s badState 0
+abbrev pub RunRefused : ℕ → List ℕ → ℕ → ℕ → ℕ → Type 0
+RunRefused n ws s = Wrong (WordsRefused n ws maxGates) (Cascade n ws maxGates) (λ k. Fails (2 ^ n ≤ s) badState 0)
 
 -- what is wrong with the call of the inverse: with the words, or 10 for a cascade and a buffer of fewer words than it has
-pub data InverseRefused (n : ℕ) (ws : List ℕ) (room : ℕ) : ℕ → ℕ → Type 0 where
-  inverse-words : {number place : ℕ} → WordsRefused n ws maxGates number place → InverseRefused n ws room number place
-  short : (k : ℕ) → Cascade n ws maxGates k → room < length ws → InverseRefused n ws room noRoom 0
+abbrev pub InverseRefused : ℕ → List ℕ → ℕ → ℕ → ℕ → Type 0
+InverseRefused n ws room = Wrong (WordsRefused n ws maxGates) (Cascade n ws maxGates) (λ k. Fails (room < length ws) noRoom 0)
 
 -- what stands in the buffer after a served call of the inverse of k gates: the inverse, a cascade whose own inverse is the words given, in any buffer with room; and the rest as it was
 pub record InverseStands (n : ℕ) (ws out : List ℕ) (k : ℕ) : Type 0 where

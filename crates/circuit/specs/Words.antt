@@ -12,7 +12,7 @@ use Rattle.circuit.specs.declared.words.CountAnswer.the-variants as coun
 use Rattle.circuit.specs.declared.words.PairAnswer.{PairAnswer}
 use Rattle.circuit.specs.declared.words.PairAnswer.the-variants as pair
 use Rattle.circuit.specs.Gate.{maxLines, maxGates, notGate, valid}
-use Rattle.circuit.specs.Outcome.{Outcome, served, refused, demand, andThen}
+use Rattle.circuit.specs.Outcome.{Outcome, served, refused, demand, andThen, Wrong, Fails}
 use Rattle.circuit.specs.Refusal.{badLineCount, tooManyGates, noGate, lineCountsDiffer, badWordCount}
 
 -- the gates, first to last
@@ -97,11 +97,17 @@ pairOutcome na a nb b =
     andThen (checkOutcome nb b maxGates) (λ m.
     demand (eqb na nb) lineCountsDiffer 0 (served (record { first = k; second = m }))))
 
+-- two cascades on as many lines, with their numbers of gates
+pub record GoodPair (na : ℕ) (a : List ℕ) (nb : ℕ) (b : List ℕ) (c : Counts) : Type 0 where
+  pub first-good : Cascade na a maxGates (c .first)
+  pub second-good : Cascade nb b maxGates (c .second)
+  pub lines : na ≡ nb
+
 -- what is wrong with two cascades: with the first, with the second where the first is good, or 8 where both are
-pub data PairRefused (na : ℕ) (a : List ℕ) (nb : ℕ) (b : List ℕ) : ℕ → ℕ → Type 0 where
-  first-refused : {number place : ℕ} → WordsRefused na a maxGates number place → PairRefused na a nb b number place
-  second-refused : {number place : ℕ} (k : ℕ) → Cascade na a maxGates k → WordsRefused nb b maxGates number place → PairRefused na a nb b number place
-  differ : (k m : ℕ) → Cascade na a maxGates k → Cascade nb b maxGates m → (na ≡ nb → ⊥) → PairRefused na a nb b lineCountsDiffer 0
+abbrev pub PairRefused : ℕ → List ℕ → ℕ → List ℕ → ℕ → ℕ → Type 0
+PairRefused na a nb b =
+    Wrong (WordsRefused na a maxGates) (Cascade na a maxGates) (λ k.
+    Wrong (WordsRefused nb b maxGates) (Cascade nb b maxGates) (λ m. Fails (na ≡ nb → ⊥) lineCountsDiffer 0))
 
 -- the answers in document 01's numbers and values
 abbrev pub ofCount : CountAnswer → Outcome ℕ

@@ -1,5 +1,6 @@
 -- The laws of reading a whole text: the round trip both ways, and what each refusal says. Assumes nothing.
 use mathlib.Core.Path.{_≡_, refl, sym, ap, ap₂, _∙_, subst, subst₂}
+use mathlib.Core.Logic.{_↔_}
 use mathlib.Core.List.{List, [], _∷_, _++_, append-assoc}
 use Prim.Native.Nat.{ℕ, _+_, _*_, _≤_, _<_}
 use native.Mathlib.Omega.{arith}
@@ -15,10 +16,10 @@ use Rattle.circuit.specs.Refusal.{wrongForm, noRoom}
 use Rattle.circuit.specs.Text.{tab, lineFeed, linesWord, numberText, headerLine, endLine, gateLines, textOf}
 use Rattle.circuit.specs.File.{Line, noLine, firstLine, laterLines, linesOf, lineSize, gateOn, gateFields, fieldsOf, headerOn, isEnd, Reading, readFrom, reading, ReadCounts, countsOf, readOutcome, writeOutcome}
 use Rattle.circuit.specs.FileLaws as laws
-use Rattle.circuit.specs.FileLaws.{FileCascade, LineOffence, FileRefused, ReaderLaws, Readable, ReadRefused, Writable, WriteRefused}
+use Rattle.circuit.specs.FileLaws.{FileCascade, LineOffence, FileRefused, ReaderLaws, Readable, ReadAs, ReadRefused, Writable, WriteRefused}
 use Rattle.circuit.specs.Words.{gatesOf, checkOutcome}
-use Rattle.circuit.proofs.words.Laws.{check-served, served-check, check-refused, refused-check}
-use Rattle.circuit.proofs.Outcome.{never, demand-met, demand-failed, then-served, then-refused, then-both, demanded, then-either, last-failed, same-refusal}
+use Rattle.circuit.proofs.words.Laws.{check-served, served-check, words-wrong}
+use Rattle.circuit.proofs.Outcome.{never, demand-met, demand-failed, then-served, then-refused, then-both, demanded, wrong-refused, fails-refused, above}
 use Rattle.circuit.proofs.file.Lines.{Cut, cut-first}
 use Rattle.circuit.proofs.file.Texts.{headerText, start-read, text-read}
 use Rattle.circuit.proofs.file.Offences.{HeaderFound, header-found, header-refused, offence-refused, offence-open, Walked, whole-text, stopped, walked}
@@ -162,23 +163,20 @@ module _ (text : List ℕ) (room : ℕ) where
       (ap reading (r .starts) ∙ text-read (c .lines) (r .cascade) (r .rest) (r .good)) (r .fits)
       ∙ ap₂ (λ (x y : ℕ). served (record { lines = c .lines; gates = x; taken = y })) (sym (r .gates)) (sym (r .taken))
 
-  pub read-refused : (number place : ℕ) → readOutcome text room ≡ refused number place → ReadRefused text room number place
-  read-refused number place e = go (reading text) refl
-    where
-      go : (o : Outcome Reading) → reading text ≡ o → ReadRefused text room number place
-      go (refused x y) q = same-refusal (ReadRefused text room) (sym (read-bad x y q) ∙ e) (ReadRefused.wrong x y (read-fault text x y q))
-      go (served d) q =
-          let (rest, g, t, k) = read-cascade text d q in
-          either (leb (3 * length (d .gates)) room)
-          (λ h. absurd (never (read-fits d q (leb-true _ _ h)) e))
-          (λ h.
-          let l : room < 3 * length (d .gates) = leb-false _ _ h in
-          same-refusal (ReadRefused text room) (sym (read-short d q l) ∙ e) (ReadRefused.short (d .lines) (d .gates) rest g t l))
+-- a text is read as a cascade exactly where it starts with the cascade's text
+pub read-as : (text : List ℕ) (c : Reading) → (reading text ≡ served c) ↔ ReadAs text c
+read-as text c = (
+  (λ e. let (rest, g, t, k) = read-cascade text c e in record { good = g; rest = rest; starts = t; bytes = k }),
+  (λ r.
+  ap reading (r .starts) ∙ text-read (c .lines) (c .gates) (r .rest) (r .good)
+  ∙ ap (λ (k : ℕ). served (record { lines = c .lines; gates = c .gates; taken = k })) (sym (r .bytes))),
+)
 
-  pub refused-read : (number place : ℕ) → ReadRefused text room number place → readOutcome text room ≡ refused number place
-  refused-read number place (ReadRefused.wrong x y f) = read-bad x y (fault-read text x y f)
-  refused-read number place (ReadRefused.short n gs rest g t l) =
-      read-short (record { lines = n; gates = gs; taken = length (textOf n gs) }) (ap reading t ∙ text-read n gs rest g) l
+pub read-refused : (text : List ℕ) (room number place : ℕ) → (readOutcome text room ≡ refused number place) ↔ ReadRefused text room number place
+unfolding readOutcome
+read-refused text room =
+    wrong-refused (reading text) _ _ _ _ (λ x y. (read-fault text x y, fault-read text x y)) (read-as text)
+    (λ c g. fails-refused (leb (3 * length (c .gates)) room) noRoom 0 (countsOf c) (room < 3 * length (c .gates)) (above (3 * length (c .gates)) room))
 
 -- the text of the cascade without gates on one line
 pub refuses-all : (read : List ℕ → Outcome Reading) → ((text : List ℕ) → (number : ℕ) × (place : ℕ) × (read text ≡ refused number place)) → ReaderLaws read → ⊥
@@ -205,14 +203,8 @@ module _ (n : ℕ) (ws : List ℕ) (room : ℕ) where
       let x : length (textOf n (gatesOf ws)) ≡ k = cc in
       record { gates = g; good = check-served n ws maxGates g a; bytes = sym x; fits = omega (arith, leb-true (length (textOf n (gatesOf ws))) room t) }
 
-  pub fault-write : (number place : ℕ) → WriteRefused n ws room number place → writeOutcome n ws room ≡ refused number place
-  unfolding writeOutcome
-  fault-write number place (WriteRefused.words w) = then-refused _ _ number place (refused-check n ws maxGates number place w)
-  fault-write number place (WriteRefused.no-room k c h) = then-served _ _ k (served-check n ws maxGates k c) ∙ demand-failed _ _ _ _ (lt-leb _ room h)
-
-  pub write-fault : (number place : ℕ) → writeOutcome n ws room ≡ refused number place → WriteRefused n ws room number place
-  unfolding writeOutcome
-  write-fault =
-      then-either (WriteRefused n ws room) (checkOutcome n ws maxGates) _
-      (λ x y p. WriteRefused.words (check-refused n ws maxGates x y p))
-      (λ k p. last-failed (WriteRefused n ws room) (leb (length (textOf n (gatesOf ws))) room) noRoom 0 _ (λ t. WriteRefused.no-room k (check-served n ws maxGates k p) (leb-false _ _ t)))
+pub write-refused : (n : ℕ) (ws : List ℕ) (room number place : ℕ) → (writeOutcome n ws room ≡ refused number place) ↔ WriteRefused n ws room number place
+unfolding writeOutcome
+write-refused n ws room =
+    words-wrong n ws maxGates (leb (length (textOf n (gatesOf ws))) room) noRoom 0 (λ k. length (textOf n (gatesOf ws))) (room < length (textOf n (gatesOf ws)))
+    (above (length (textOf n (gatesOf ws))) room)

@@ -16,13 +16,10 @@ use Rattle.circuit.specs.File.{Line, noLine, firstLine, laterLines, line
 use Rattle.circuit.specs.Words.{wordsOf}
 use Rattle.circuit.specs.private.Scan.{lineAt, gateNext, HeaderNext, headerNext, countsFrom}
 use Rattle.circuit.specs.private.Fill.{GatesAt}
-use Rattle.circuit.proofs.Outcome.{never, then-served, then-refused, then-both, told}
+use Rattle.circuit.proofs.Outcome.{never, unserved, then-served, then-refused, then-both, told}
 use Rattle.circuit.proofs.words.Laws.{valid-all-more}
 use Rattle.circuit.proofs.file.Lines.{cut-first, same-true}
 use Rattle.circuit.proofs.file.Offences.{GateFound, gate-found, HeaderFound, header-found, Walked, whole-text, stopped, walked}
-
-unserved : {A : Type 0} {a b : A} → _≡_ {A = Outcome A} (served a) (served b) → a ≡ b
-unserved e = cc
 
 -- a gate line that was read
 pub record Stepped (n first : ℕ) (text : List ℕ) (gs : List Gate) (at next : ℕ) : Type 0 where

@@ -1,5 +1,6 @@
 -- The laws of the inverse: its words one gate at a time, its validity, and what its call answers and leaves. Assumes nothing.
 use mathlib.Core.Path.{_≡_, refl, sym, ap, _∙_, subst}
+use mathlib.Core.Logic.{_↔_}
 use mathlib.Core.Bool.{Bool, true, cond}
 use mathlib.Core.List.{List, [], _∷_, _++_, reverse, reverse-cons}
 use Prim.Native.Nat.{ℕ, _+_, _-_, _*_, _/_, _≤_, _<_}
@@ -19,10 +20,10 @@ use Rattle.circuit.specs.Refusal.{noRoom}
 use Rattle.circuit.specs.Words.{gateAt, gateWords, gatesOf, wordsOf, allValid, checkOutcome, Cascade}
 use Rattle.circuit.specs.Inverse.{inverse, putInverse, inverseOutcome, inverseBuffer}
 use Rattle.circuit.specs.Run.{run}
-use Rattle.circuit.specs.Laws.{InverseRefused, inverse-words, short, InverseStands}
+use Rattle.circuit.specs.Laws.{InverseRefused, InverseStands}
 use Rattle.circuit.proofs.gate.Laws.{apply-twice}
-use Rattle.circuit.proofs.Outcome.{demand-met, demand-failed, then-served, then-refused, then-both, demanded, written-refused, told, then-either, last-failed}
-use Rattle.circuit.proofs.words.Laws.{gates-next, gates-end, gates-length, words-length, gates-words, words-reverse, valid-append, words-cascade, cascade-count, cascade-words, check-served, served-check, check-refused, refused-check}
+use Rattle.circuit.proofs.Outcome.{demand-met, demand-failed, then-served, then-refused, then-both, demanded, written-refused, told, above}
+use Rattle.circuit.proofs.words.Laws.{words-wrong, gates-next, gates-end, gates-length, words-length, gates-words, words-reverse, valid-append, words-cascade, cascade-count, cascade-words, check-served, served-check, check-refused, refused-check}
 
 -- the words of the gates from j on, in reverse order
 abbrev pub tailBack : List ℕ → ℕ → List ℕ
@@ -115,18 +116,9 @@ inverse-written n ws out k good room =
 
 -- ---- refused exactly by what is wrong
 
-module _ (n : ℕ) (ws : List ℕ) (room : ℕ) where
-  pub fault-inverse : (number place : ℕ) → InverseRefused n ws room number place → inverseOutcome n ws room ≡ refused number place
-  unfolding inverseOutcome
-  fault-inverse number place (inverse-words w) = then-refused _ _ number place (refused-check n ws maxGates number place w)
-  fault-inverse number place (short k c h) = then-served _ _ k (served-check n ws maxGates k c) ∙ demand-failed _ _ _ _ (lt-leb (length ws) room h)
-
-  pub inverse-fault : (number place : ℕ) → inverseOutcome n ws room ≡ refused number place → InverseRefused n ws room number place
-  unfolding inverseOutcome
-  inverse-fault =
-      then-either (InverseRefused n ws room) (checkOutcome n ws maxGates) _
-      (λ x y p. inverse-words (check-refused n ws maxGates x y p))
-      (λ k p. last-failed (InverseRefused n ws room) (leb (length ws) room) noRoom 0 k (λ t. short k (check-served n ws maxGates k p) (leb-false _ _ t)))
+pub refused-exactly : (n : ℕ) (ws : List ℕ) (room number place : ℕ) → (inverseOutcome n ws room ≡ refused number place) ↔ InverseRefused n ws room number place
+unfolding inverseOutcome
+refused-exactly n ws room = words-wrong n ws maxGates (leb (length ws) room) noRoom 0 (λ k. k) (room < length ws) (above (length ws) room)
 
 -- ---- served exactly for a cascade and a buffer with room
 

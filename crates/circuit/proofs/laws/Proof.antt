@@ -1,11 +1,11 @@
 -- `circuit::laws` meets its contract: the record of the laws. Assumes nothing.
 use Rattle.circuit.proofs.gate.Laws.{fires-lines, lines-fires, valid-by-lines, lines-valid, valid-more, apply-bit, apply-none, apply-not, toggled-apply, apply-twice, apply-below, count-lines}
 use Rattle.circuit.proofs.gate.Controls.{controls-count, controls-fire}
-use Rattle.circuit.proofs.words.Laws.{gates-words, words-gates, check-served, served-check, check-refused, refused-check, pair-served, served-pair, pair-refused, refused-pair}
-use Rattle.circuit.proofs.run.Laws.{run-append, run-tested, run-below, equal-differs, run-fault, fault-run, run-served, served-run}
+use Rattle.circuit.proofs.words.Laws.{gates-words, words-gates, check-served, served-check, check-refused, refused-check, pair-served, served-pair, pair-refused}
+use Rattle.circuit.proofs.run.Laws.{run-append, run-tested, run-below, equal-differs, run-refused, run-served, served-run}
 use Rattle.circuit.proofs.run.Records.{records-words, records-served, served-records, records-fault, fault-records}
-use Rattle.circuit.proofs.inverse.Laws.{run-inverse, inverse-run, inverse-append, inverse-twice, inverse-valid, inverse-fault, fault-inverse, inverse-served, served-inverse, inverse-stands, inverse-untouched}
-use Rattle.circuit.proofs.file.Laws.{reader, read-served, served-read, read-refused, refused-read, write-served, served-write, write-fault, fault-write, refuses-all}
+use Rattle.circuit.proofs.inverse.Laws.{run-inverse, inverse-run, inverse-append, inverse-twice, inverse-valid, refused-exactly, inverse-served, served-inverse, inverse-stands, inverse-untouched}
+use Rattle.circuit.proofs.file.Laws.{reader, read-served, served-read, read-refused, write-served, served-write, write-refused, refuses-all}
 use Rattle.circuit.proofs.file.RoundTrip.{round-trip, idle-reading, idle-writing}
 use Rattle.circuit.proofs.laws.Statement.{statement}
 use Rattle.circuit.proofs.laws.Tie as tie
@@ -34,8 +34,8 @@ returns c =
             words-gates = words-gates;
             check-served = λ n ws limit k. (check-served n ws limit k, served-check n ws limit k);
             check-refused = λ n ws limit number place. (check-refused n ws limit number place, refused-check n ws limit number place);
-            pair-served = λ na a nb b c. (pair-served na a nb b c, (λ x. served-pair na a nb b (c .first) (c .second) (x .0) (x .1) (x .2)));
-            pair-refused = λ na a nb b number place. (pair-refused na a nb b number place, refused-pair na a nb b number place);
+            pair-served = λ na a nb b c. (pair-served na a nb b c, served-pair na a nb b c);
+            pair-refused = pair-refused;
           };
       cascade =
           record {
@@ -43,14 +43,14 @@ returns c =
             run-below = run-below;
             run-tested = run-tested;
             run-served = λ n ws s t. (run-served n ws s t, (λ (k, c, h, e). served-run n ws s t k c h e));
-            run-refused = λ n ws s number place. (run-fault n ws s number place, fault-run n ws s number place);
+            run-refused = run-refused;
             records-served = λ n gs s t. (records-served n gs s t, (λ (c, h, e). served-records n gs s t c h e));
             records-refused = λ n gs s number place. (records-fault n gs s number place, fault-records n gs s number place);
             records-words = records-words;
             inverse-served = λ n ws room k. (inverse-served n ws room k, (λ (c, h). served-inverse n ws room k c h));
             inverse-stands = inverse-stands;
             inverse-untouched = inverse-untouched;
-            inverse-refused = λ n ws room number place. (inverse-fault n ws room number place, fault-inverse n ws room number place);
+            inverse-refused = refused-exactly;
             run-inverse = run-inverse;
             inverse-run = inverse-run;
             inverse-append = inverse-append;
@@ -65,9 +65,9 @@ returns c =
             idle-reading = idle-reading;
             idle-writing = idle-writing;
             read-served = λ text room c. (read-served text room c, served-read text room c);
-            read-refused = λ text room number place. (read-refused text room number place, refused-read text room number place);
+            read-refused = read-refused;
             write-served = λ n ws room k. (write-served n ws room k, served-write n ws room k);
-            write-refused = λ n ws room number place. (write-fault n ws room number place, fault-write n ws room number place);
+            write-refused = write-refused;
             refuses-all = refuses-all;
           };
     }

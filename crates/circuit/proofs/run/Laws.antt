@@ -16,10 +16,10 @@ use Rattle.circuit.specs.Outcome.{Outcome, served, refused, andThen}
 use Rattle.circuit.specs.Refusal.{badState, badLineCount}
 use Rattle.circuit.specs.Words.{gateAt, gatesOf, allValid, lineCountGood, validFrom, sizeOutcome, checkOutcome, Cascade}
 use Rattle.circuit.specs.Run.{run, runTested, Equal, Differs, runOutcome}
-use Rattle.circuit.specs.Laws.{run-words, outside, RunRefused}
-use Rattle.circuit.proofs.Outcome.{demand-met, demand-failed, then-served, then-refused, then-both, then-fails, then-either, last-failed, demanded}
+use Rattle.circuit.specs.Laws.{RunRefused}
+use Rattle.circuit.proofs.Outcome.{demand-met, demand-failed, then-served, then-refused, then-both, then-fails, demanded, at-least}
 use Rattle.circuit.proofs.gate.Laws.{apply-below, toggled-apply}
-use Rattle.circuit.proofs.words.Laws.{gates-next, gates-end, check-lines, check-gates, gates-refused, gates-sized, check-served, served-check, check-refused, refused-check}
+use Rattle.circuit.proofs.words.Laws.{words-wrong, gates-next, gates-end, check-lines, check-gates, gates-refused, gates-sized, check-served, served-check, check-refused, refused-check}
 
 -- a turn over the words: gate i acts, by the rule f, and the others after it
 module _ (f : Gate → ℕ → ℕ) where
@@ -95,18 +95,9 @@ module _ (n : ℕ) (ws : List ℕ) (s : ℕ) where
 
 -- ---- refused exactly by what is wrong
 
-module _ (n : ℕ) (ws : List ℕ) (s : ℕ) where
-  pub fault-run : (number place : ℕ) → RunRefused n ws s number place → runOutcome n ws s ≡ refused number place
-  unfolding runOutcome
-  fault-run number place (run-words w) = then-refused _ _ number place (refused-check n ws maxGates number place w)
-  fault-run number place (outside k c h) = then-served _ _ k (served-check n ws maxGates k c) ∙ demand-failed _ _ _ _ (le-ltb s (2 ^ n) h)
-
-  pub run-fault : (number place : ℕ) → runOutcome n ws s ≡ refused number place → RunRefused n ws s number place
-  unfolding runOutcome
-  run-fault =
-      then-either (RunRefused n ws s) (checkOutcome n ws maxGates) _
-      (λ x y p. run-words (check-refused n ws maxGates x y p))
-      (λ k p. last-failed (RunRefused n ws s) (ltb s (2 ^ n)) badState 0 _ (λ t. outside k (check-served n ws maxGates k p) (ltb-false _ _ t)))
+pub run-refused : (n : ℕ) (ws : List ℕ) (s number place : ℕ) → (runOutcome n ws s ≡ refused number place) ↔ RunRefused n ws s number place
+unfolding runOutcome
+run-refused n ws s = words-wrong n ws maxGates (ltb s (2 ^ n)) badState 0 (λ k. run (gatesOf ws) s) (2 ^ n ≤ s) (at-least s (2 ^ n))
 
 -- ---- served exactly for a cascade and a state
 

@@ -22,7 +22,7 @@ use Rattle.circuit.specs.FileLaws.{FileCascade}
 use Rattle.circuit.specs.Laws.{RunRefused}
 use Rattle.circuit.proofs.Outcome.{demand-met, demand-failed, then-refused}
 use Rattle.circuit.proofs.words.Laws.{words-length, gates-words, from-good, from-bad, lines-good, size-good, size-many, gates-sized, check-gates, words-cascade, cascade-count}
-use Rattle.circuit.proofs.run.Laws.{run-lines, run-size, run-served, served-run, run-fault, fault-run}
+use Rattle.circuit.proofs.run.Laws.{run-lines, run-size, run-served, served-run, run-refused}
 
 -- ---- gate by gate
 
@@ -156,7 +156,7 @@ module _ (n : ℕ) (gs : List Gate) (s : ℕ) where
       (e ∙ ap (λ (l : List Gate). run l s) (sym (gates-words gs)))
 
   pub records-fault : (number place : ℕ) → recordsOutcome n gs s ≡ refused number place → RunRefused n (wordsOf gs) s number place
-  records-fault number place e = run-fault n (wordsOf gs) s number place (sym (records-words n gs s) ∙ e)
+  records-fault number place e = run-refused n (wordsOf gs) s number place .0 (sym (records-words n gs s) ∙ e)
 
   pub fault-records : (number place : ℕ) → RunRefused n (wordsOf gs) s number place → recordsOutcome n gs s ≡ refused number place
-  fault-records number place f = records-words n gs s ∙ fault-run n (wordsOf gs) s number place f
+  fault-records number place f = records-words n gs s ∙ run-refused n (wordsOf gs) s number place .1 f

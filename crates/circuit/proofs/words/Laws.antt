@@ -1,6 +1,7 @@
 -- The laws of words as gates: the next gate, gates as words, and what the tests of a caller's words say. Assumes nothing.
-use mathlib.Core.Path.{_≡_, refl, sym, ap, ap₂, _∙_, subst₂}
-use mathlib.Core.Bool.{true, false}
+use mathlib.Core.Path.{_≡_, refl, sym, ap, ap₂, _∙_, subst, subst₂}
+use mathlib.Core.Logic.{_↔_}
+use mathlib.Core.Bool.{Bool, true, false}
 use mathlib.Core.List.{List, [], _∷_, _++_, reverse, reverse-cons}
 use Prim.Native.Nat.{ℕ, zero, suc, _+_, _*_, _/_, _%_, _≤_, _<_}
 use native.Mathlib.Omega.{arith}
@@ -12,11 +13,11 @@ use Rattle.bits.proofs.Bools.{either, and-parts, both, not-held, refuted, cond-
 use Rattle.bits.proofs.Lists.{three}
 use Rattle.circuit.specs.declared.gate.Gate.{Gate}
 use Rattle.circuit.specs.Gate.{maxLines, maxGates, notGate, valid}
-use Rattle.circuit.specs.Outcome.{Outcome, served, refused}
+use Rattle.circuit.specs.Outcome.{Outcome, served, refused, demand, andThen, Wrong, Fails}
 use Rattle.circuit.specs.Refusal.{badLineCount, tooManyGates, noGate, lineCountsDiffer, badWordCount}
-use Rattle.circuit.specs.Words.{gatesOf, gateAt, gateWords, wordsOf, putGate, allValid, lineCountGood, validFrom, sizeOutcome, gatesOutcome, checkOutcome, Counts, pairOutcome, Cascade, WordsRefused, lines, thirds, many, gate, PairRefused, first-refused, second-refused, differ}
+use Rattle.circuit.specs.Words.{gatesOf, gateAt, gateWords, wordsOf, putGate, allValid, lineCountGood, validFrom, sizeOutcome, gatesOutcome, checkOutcome, Counts, pairOutcome, Cascade, WordsRefused, lines, thirds, many, gate, GoodPair, PairRefused}
 use Rattle.circuit.proofs.gate.Laws.{valid-more}
-use Rattle.circuit.proofs.Outcome.{never, demand-met, demand-failed, demanded, then-served, then-refused, then-both}
+use Rattle.circuit.proofs.Outcome.{never, unserved, demand-met, demand-failed, demanded, then-served, then-refused, then-both, wrong-refused, fails-refused, unequal}
 
 -- ---- the words from gate i on
 
@@ -295,6 +296,14 @@ module _ (n : ℕ) (ws : List ℕ) (limit : ℕ) where
       check-gates (good-lines n low high) ∙ gates-sized (length ws / 3) (size-good t l) ∙ refused-from n 0 (gatesOf ws) j (omega (arith, gates-length ws)) w f
       ∙ ap (refused noGate) (omega arith)
 
+-- a call that tests the words and then one thing more
+pub words-wrong : (n : ℕ) (ws : List ℕ) (limit : ℕ) {B : Type 0} (test : Bool) (number place : ℕ) (value : ℕ → B) (Bad : Type 0) → (test ≡ false) ↔ Bad
+    → (x y : ℕ) → (andThen (checkOutcome n ws limit) (λ k. demand test number place (served (value k))) ≡ refused x y)
+    ↔ Wrong (WordsRefused n ws limit) (Cascade n ws limit) (λ k. Fails Bad number place) x y
+words-wrong n ws limit test number place value Bad is =
+    wrong-refused (checkOutcome n ws limit) _ _ _ _ (λ x y. (check-refused n ws limit x y, refused-check n ws limit x y))
+    (λ k. (check-served n ws limit k, served-check n ws limit k)) (λ k c. fails-refused test number place (value k) Bad is)
+
 -- gates on n lines, and their words
 pub words-cascade : (n : ℕ) (gs : List Gate) (limit : ℕ) → 1 ≤ n → n ≤ maxLines → length gs ≤ limit → allValid n gs ≡ true → Cascade n (wordsOf gs) limit (length gs)
 words-cascade n gs limit low high few v =
@@ -327,61 +336,30 @@ module _ (na : ℕ) (a : List ℕ) (nb : ℕ) (b : List ℕ) where
       unfolding pairOutcome
       pair-good h = then-served _ _ k first ∙ then-served _ _ m second ∙ demand-met _ _ _ _ (eq-eqb na nb h)
 
-pub pair-served : (na : ℕ) (a : List ℕ) (nb : ℕ) (b : List ℕ) (c : Counts) → pairOutcome na a nb b ≡ served c
-    → (Cascade na a maxGates (c .first)) × (Cascade nb b maxGates (c .second)) × (na ≡ nb)
+pub pair-served : (na : ℕ) (a : List ℕ) (nb : ℕ) (b : List ℕ) (c : Counts) → pairOutcome na a nb b ≡ served c → GoodPair na a nb b c
 unfolding pairOutcome
 pair-served na a nb b c e =
     let (k, p, f) = then-both (checkOutcome na a maxGates) _ c e in
     let (m, q, g) = then-both (checkOutcome nb b maxGates) _ c f in
     let (t, h) = demanded (eqb na nb) lineCountsDiffer 0 _ c g in
-    let first : k ≡ c .first = ap (λ (o : Outcome Counts). firstOf o) h in
-    let second : m ≡ c .second = ap (λ (o : Outcome Counts). secondOf o) h in (
-      check-served na a maxGates (c .first) (p ∙ ap served first),
-      check-served nb b maxGates (c .second) (q ∙ ap served second),
-      eqb-true na nb t,
-    )
-  where
-    firstOf : Outcome Counts → ℕ
-    firstOf (served d) = d .first
-    firstOf (refused number place) = 0
+    let d : record { first = k; second = m } ≡ c = unserved h in
+    subst (GoodPair na a nb b) d (record { first-good = check-served na a maxGates k p; second-good = check-served nb b maxGates m q; lines = eqb-true na nb t })
 
-    secondOf : Outcome Counts → ℕ
-    secondOf (served d) = d .second
-    secondOf (refused number place) = 0
+pub served-pair : (na : ℕ) (a : List ℕ) (nb : ℕ) (b : List ℕ) (c : Counts) → GoodPair na a nb b c → pairOutcome na a nb b ≡ served c
+served-pair na a nb b c g =
+    pair-good na a nb b (c .first) (served-check na a maxGates (c .first) (g .first-good)) (c .second) (served-check nb b maxGates (c .second) (g .second-good)) (g .lines)
 
-pub served-pair : (na : ℕ) (a : List ℕ) (nb : ℕ) (b : List ℕ) (k m : ℕ) → Cascade na a maxGates k → Cascade nb b maxGates m → na ≡ nb
-    → pairOutcome na a nb b ≡ served (record { first = k; second = m })
-served-pair na a nb b k m x y e = pair-good na a nb b k (served-check na a maxGates k x) m (served-check nb b maxGates m y) e
+pub pair-refused : (na : ℕ) (a : List ℕ) (nb : ℕ) (b : List ℕ) (number place : ℕ) → (pairOutcome na a nb b ≡ refused number place) ↔ PairRefused na a nb b number place
+unfolding pairOutcome
+pair-refused na a nb b =
+    wrong-refused (checkOutcome na a maxGates) _ _ _ _ (λ x y. (check-refused na a maxGates x y, refused-check na a maxGates x y))
+    (λ k. (check-served na a maxGates k, served-check na a maxGates k)) (λ k c.
+    words-wrong nb b maxGates (eqb na nb) lineCountsDiffer 0 (λ m. record { first = k; second = m }) (na ≡ nb → ⊥) (unequal na nb))
 
-pub pair-refused : (na : ℕ) (a : List ℕ) (nb : ℕ) (b : List ℕ) (number place : ℕ) → pairOutcome na a nb b ≡ refused number place → PairRefused na a nb b number place
-pair-refused na a nb b number place e = go (checkOutcome na a maxGates) (checkOutcome nb b maxGates) refl refl
-  where
-    eight : (k m : ℕ) → checkOutcome na a maxGates ≡ served k → checkOutcome nb b maxGates ≡ served m → PairRefused na a nb b number place
-    eight k m p q =
-        either (eqb na nb)
-        (λ t. absurd (never (pair-good na a nb b k p m q (eqb-true na nb t)) e))
-        (λ t.
-        let f : _≡_ {A = Outcome Counts} (refused lineCountsDiffer 0) (refused number place) = sym (pair-differ na a nb b k p m q (eqb-false na nb t)) ∙ e in
-        let x : lineCountsDiffer ≡ number = cc in
-        let y : 0 ≡ place = cc in
-        subst₂ (PairRefused na a nb b) x y (differ k m (check-served na a maxGates k p) (check-served nb b maxGates m q) (eqb-false na nb t)))
-
-    go : (c d : Outcome ℕ) → checkOutcome na a maxGates ≡ c → checkOutcome nb b maxGates ≡ d → PairRefused na a nb b number place
-    go (refused x y) d p q =
-        let f : _≡_ {A = Outcome Counts} (refused x y) (refused number place) = sym (pair-first na a nb b x y p) ∙ e in
-        let i : x ≡ number = cc in
-        let j : y ≡ place = cc in
-        subst₂ (PairRefused na a nb b) i j (first-refused (check-refused na a maxGates x y p))
-    go (served k) (refused x y) p q =
-        let f : _≡_ {A = Outcome Counts} (refused x y) (refused number place) = sym (pair-second na a nb b k p x y q) ∙ e in
-        let i : x ≡ number = cc in
-        let j : y ≡ place = cc in
-        subst₂ (PairRefused na a nb b) i j (second-refused k (check-served na a maxGates k p) (check-refused nb b maxGates x y q))
-    go (served k) (served m) p q = eight k m p q
-
-pub refused-pair : (na : ℕ) (a : List ℕ) (nb : ℕ) (b : List ℕ) (number place : ℕ) → PairRefused na a nb b number place → pairOutcome na a nb b ≡ refused number place
-refused-pair na a nb b number place (first-refused w) = pair-first na a nb b number place (refused-check na a maxGates number place w)
-refused-pair na a nb b number place (second-refused k c w) =
-    pair-second na a nb b k (served-check na a maxGates k c) number place (refused-check nb b maxGates number place w)
-refused-pair na a nb b number place (differ k m c d h) =
-    pair-differ na a nb b k (served-check na a maxGates k c) m (served-check nb b maxGates m d) h
+-- a call that tests two cascades and then one thing more
+pub pair-wrong : (na : ℕ) (a : List ℕ) (nb : ℕ) (b : List ℕ) {B : Type 0} (test : Bool) (number place : ℕ) (value : Counts → B) (Bad : Type 0) → (test ≡ false) ↔ Bad
+    → (x y : ℕ) → (andThen (pairOutcome na a nb b) (λ c. demand test number place (served (value c))) ≡ refused x y)
+    ↔ Wrong (PairRefused na a nb b) (GoodPair na a nb b) (λ c. Fails Bad number place) x y
+pair-wrong na a nb b test number place value Bad is =
+    wrong-refused (pairOutcome na a nb b) _ _ _ _ (pair-refused na a nb b) (λ c. (pair-served na a nb b c, served-pair na a nb b c))
+    (λ c g. fails-refused test number place (value c) Bad is)
