@@ -7,7 +7,7 @@ use lib.IntN.{ℤ}
 use lib.ListN.{length}
 use Rattle.bits.specs.Lists.{over}
 use Rattle.circuit.specs.Gate.{maxMiterGates}
-use Rattle.circuit.specs.Outcome.{served, refused, Untouched}
+use Rattle.circuit.specs.Outcome.{served, refused, Wrong, Fails, Untouched}
 use Rattle.circuit.specs.Refusal.{noRoom}
 use Rattle.circuit.specs.Words.{gatesOf, Cascade, WordsRefused}
 use Rattle.checking.specs.declared.clauses.Totals.{Totals}
@@ -23,9 +23,8 @@ pub record Counted (n : ℕ) (ws : List ℕ) (t : Totals) : Type 0 where
   pub sizes : t ≡ totals (variablesOf n (gatesOf ws)) (length (clausesOf n (gatesOf ws))) (length (stored (clausesOf n (gatesOf ws))))
 
 -- what is wrong with an emission: with the words, or 10 for a cascade and a buffer of fewer words than its list has
-pub data EmitRefused (n : ℕ) (ws : List ℕ) (room : ℕ) : ℕ → ℕ → Type 0 where
-  emit-words : {number place : ℕ} → WordsRefused n ws maxMiterGates number place → EmitRefused n ws room number place
-  short : (k : ℕ) → Cascade n ws maxMiterGates k → room < length (stored (clausesOf n (gatesOf ws))) → EmitRefused n ws room noRoom 0
+abbrev pub EmitRefused : ℕ → List ℕ → ℕ → ℕ → ℕ → Type 0
+EmitRefused n ws room = Wrong (WordsRefused n ws maxMiterGates) (Counted n ws) (λ t. Fails (room < t .words) noRoom 0)
 
 pub record EmitLaws : Type 0 where
   -- sizes: served exactly for a cascade, else refused by what is wrong

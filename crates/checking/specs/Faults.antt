@@ -35,6 +35,10 @@ unfoldable pub maskWhere : ℕ → (ℕ → Bool) → ℕ
 maskWhere zero test = 0
 maskWhere (suc n) test = maskWhere n test + cond (test n) (2 ^ n) 0
 
+-- the masks of a gate
+abbrev pub gateMasks : ℕ
+gateMasks = 2
+
 -- two masks a gate: missing positive controls, then missing negative ones
 unfoldable pub masksFrom : ℕ → List Gate → List Gate → List ℕ → List ℕ
 masksFrom n before [] xs = []
@@ -58,7 +62,7 @@ faultCheck na a nb b xs =
 
 -- then 10
 unfoldable pub faultOutcome : ℕ → List ℕ → ℕ → List ℕ → List ℕ → ℕ → Outcome ℕ
-faultOutcome na a nb b xs room = andThen (faultCheck na a nb b xs) (λ gates. demand (leb (2 * gates) room) noRoom 0 (served gates))
+faultOutcome na a nb b xs room = andThen (faultCheck na a nb b xs) (λ gates. demand (leb (gateMasks * gates) room) noRoom 0 (served gates))
 
 -- the masks at the buffer's start
 unfoldable pub faultBuffer : ℕ → List ℕ → ℕ → List ℕ → List ℕ → List ℕ → List ℕ

@@ -6,9 +6,9 @@ use Prim.Native.Nat.{ℕ, _+_, _*_, _≤_, _<_}
 use lib.ListN.{length, take, drop}
 use Rattle.circuit.specs.declared.gate.Gate.{Gate}
 use Rattle.circuit.specs.Gate.{maxGates, maxMiterGates}
-use Rattle.circuit.specs.Outcome.{served, refused, Untouched}
+use Rattle.circuit.specs.Outcome.{served, refused, Wrong, Fails, Untouched}
 use Rattle.circuit.specs.Refusal.{noRoom}
-use Rattle.circuit.specs.Words.{gatesOf, Cascade, PairRefused}
+use Rattle.circuit.specs.Words.{gatesOf, Cascade, GoodPair, PairRefused}
 use Rattle.circuit.specs.Run.{run}
 use Rattle.checking.specs.Miter.{miterGates, miterOutcome, miterBuffer}
 
@@ -23,9 +23,8 @@ pub record MiterServed (na : ℕ) (a : List ℕ) (nb : ℕ) (b : List ℕ) (room
   pub count : k ≡ first + second
 
 -- what is wrong with a miter's call: with the two cascades, or 10 where they are good and the buffer has fewer words than both together
-pub data MiterRefused (na : ℕ) (a : List ℕ) (nb : ℕ) (b : List ℕ) (room : ℕ) : ℕ → ℕ → Type 0 where
-  miter-pair : {number place : ℕ} → PairRefused na a nb b number place → MiterRefused na a nb b room number place
-  short : (k m : ℕ) → Cascade na a maxGates k → Cascade nb b maxGates m → na ≡ nb → room < length a + length b → MiterRefused na a nb b room noRoom 0
+abbrev pub MiterRefused : ℕ → List ℕ → ℕ → List ℕ → ℕ → ℕ → ℕ → Type 0
+MiterRefused na a nb b room = Wrong (PairRefused na a nb b) (GoodPair na a nb b) (λ c. Fails (room < length a + length b) noRoom 0)
 
 -- what stands in the buffer after a served miter of k gates: the miter, a cascade that steps and reductions take, and the rest as it was
 pub record MiterStands (na : ℕ) (a : List ℕ) (nb : ℕ) (b out : List ℕ) (k : ℕ) : Type 0 where

@@ -108,6 +108,11 @@ fails-refused test number place value Bad is x y = (
     back : (x y : ℕ) → Fails Bad number place x y → demand test number place (served value) ≡ refused x y
     back _ _ (fails b) = demand-failed test number place (served value) (is .1 b)
 
+-- a call that goes on without a test is refused as the first one is
+pub same-refused : {A B : Type 0} (first : Outcome A) (value : A → B) (F : ℕ → ℕ → Type 0) → ((x y : ℕ) → (first ≡ refused x y) ↔ F x y)
+    → (x y : ℕ) → (andThen first (λ a. served (value a)) ≡ refused x y) ↔ F x y
+same-refused first value F is x y = ((λ e. is x y .0 (then-fails first value x y e)), (λ f. then-refused first _ x y (is x y .1 f)))
+
 -- what the usual tests say where they fail
 pub at-least : (x y : ℕ) → (ltb x y ≡ false) ↔ (y ≤ x)
 at-least x y = (ltb-false x y, le-ltb x y)

@@ -33,10 +33,10 @@ module _ (na : ℕ) (a : List ℕ) (nb : ℕ) (b : List ℕ) where
   -- the one that was picked, by its words
   module _ (counts : Counts) (p : pairOutcome na a nb b ≡ served counts) (words : List ℕ) (w : words ≡ picked (pairOutcome na a nb b) a b []) where
     first : Cascade na a maxGates (counts .first)
-    first = let (x, y, z) = pair-served na a nb b counts p in x
+    first = pair-served na a nb b counts p .first-good
 
     second : Cascade nb b maxGates (counts .second)
-    second = let (x, y, z) = pair-served na a nb b counts p in y
+    second = pair-served na a nb b counts p .second-good
 
     which : words ≡ cond (leb (counts .first) (counts .second)) a b
     which = w ∙ ap (λ (o : Outcome Counts). picked o a b []) p

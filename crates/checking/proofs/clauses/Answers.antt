@@ -1,18 +1,19 @@
 -- What sizes and emission answer, and what emission leaves. Assumes nothing.
 use mathlib.Core.Path.{_≡_, refl, sym, ap, _∙_}
+use mathlib.Core.Logic.{_↔_}
 use mathlib.Core.List.{List}
 use Prim.Native.Nat.{ℕ, _≤_, _<_}
 use native.Mathlib.Omega.{arith}
 use lib.Dec.{leb}
 use lib.IntN.{ℤ}
 use lib.ListN.{length}
-use borrow.Author.Tests.{le-leb, lt-leb, leb-true, leb-false}
+use borrow.Author.Tests.{le-leb, lt-leb, leb-true}
 use Rattle.bits.specs.Lists.{over}
 use Rattle.circuit.specs.Gate.{maxMiterGates}
 use Rattle.circuit.specs.Outcome.{Outcome, served, refused, Untouched, Yields}
 use Rattle.circuit.specs.Refusal.{noRoom}
 use Rattle.circuit.specs.Words.{gatesOf, checkOutcome, WordsRefused}
-use Rattle.circuit.proofs.Outcome.{told, written-served, written-refused, then-served, then-refused, then-both, then-fails, demand-met, demand-failed, demanded, then-either, last-failed}
+use Rattle.circuit.proofs.Outcome.{told, written-served, written-refused, then-served, then-refused, then-both, demand-met, demand-failed, demanded, wrong-refused, fails-refused, same-refused, above}
 use Rattle.circuit.proofs.words.Laws.{check-served, served-check, check-refused, refused-check}
 use Rattle.checking.specs.declared.clauses.Totals.{Totals}
 use Rattle.checking.specs.Clauses.{clausesOf}
@@ -20,7 +21,7 @@ use Rattle.checking.specs.Stored.{stored}
 use Rattle.checking.specs.Sizes.{sizesOf, sizesOutcome}
 use Rattle.checking.specs.Emit.{emitOutcome, emitBuffer}
 use Rattle.checking.specs.private.Emission.{ListReady}
-use Rattle.checking.specs.EmitLaws.{Counted, EmitRefused, emit-words, short, EmitLaws}
+use Rattle.checking.specs.EmitLaws.{Counted, EmitRefused, EmitLaws}
 use Rattle.checking.proofs.clauses.Sums.{sizes-list}
 
 -- ---- served exactly for a cascade, and refused exactly by what is wrong
@@ -40,13 +41,11 @@ module _ (n : ℕ) (ws : List ℕ) where
       then-served _ _ (c .gates) (served-check n ws maxMiterGates (c .gates) (c .good))
       ∙ ap served (sizes-list n (gatesOf ws) (c .good .lines-high) (c .good .gates) ∙ sym (c .sizes))
 
-  sizes-fault : (x y : ℕ) → sizesOutcome n ws ≡ refused x y → WordsRefused n ws maxMiterGates x y
+  sizes-wrong : (x y : ℕ) → (sizesOutcome n ws ≡ refused x y) ↔ WordsRefused n ws maxMiterGates x y
   unfolding sizesOutcome
-  sizes-fault x y e = check-refused n ws maxMiterGates x y (then-fails (checkOutcome n ws maxMiterGates) _ x y e)
-
-  fault-sizes : (x y : ℕ) → WordsRefused n ws maxMiterGates x y → sizesOutcome n ws ≡ refused x y
-  unfolding sizesOutcome
-  fault-sizes x y w = then-refused _ _ x y (refused-check n ws maxMiterGates x y w)
+  sizes-wrong =
+      same-refused (checkOutcome n ws maxMiterGates) _ (WordsRefused n ws maxMiterGates)
+      (λ x y. (check-refused n ws maxMiterGates x y, refused-check n ws maxMiterGates x y))
 
   module _ (room : ℕ) where
     emit-counted : (t : Totals) → emitOutcome n ws room ≡ served t → (Counted n ws t) × (t .words ≤ room)
@@ -61,21 +60,11 @@ module _ (n : ℕ) (ws : List ℕ) where
     unfolding emitOutcome
     counted-emit t c h = then-served _ _ t (counted-sizes t c) ∙ demand-met _ _ _ _ (le-leb _ _ h)
 
-    fault-emit : (x y : ℕ) → EmitRefused n ws room x y → emitOutcome n ws room ≡ refused x y
+    emit-wrong : (x y : ℕ) → (emitOutcome n ws room ≡ refused x y) ↔ EmitRefused n ws room x y
     unfolding emitOutcome
-    fault-emit x y (emit-words w) = then-refused _ _ x y (fault-sizes x y w)
-    fault-emit x y (short k c h) =
-        then-served _ _ _ (counted-sizes _ (record { gates = k; good = c; sizes = refl })) ∙ demand-failed _ _ _ _ (lt-leb _ _ h)
-
-    emit-fault : (x y : ℕ) → emitOutcome n ws room ≡ refused x y → EmitRefused n ws room x y
-    unfolding emitOutcome
-    emit-fault =
-        then-either (EmitRefused n ws room) (sizesOutcome n ws) _
-        (λ x y p. emit-words (sizes-fault x y p))
-        (λ t p.
-        let c = sizes-counted t p in
-        last-failed (EmitRefused n ws room) (leb (t .words) room) noRoom 0 t
-        (λ h. short (c .gates) (c .good) (omega (arith, leb-false (t .words) room h, ap (λ (x : Totals). x .words) (c .sizes)))))
+    emit-wrong =
+        wrong-refused (sizesOutcome n ws) _ _ _ _ sizes-wrong (λ t. (sizes-counted t, counted-sizes t))
+        (λ t c. fails-refused (leb (t .words) room) noRoom 0 t (room < t .words) (above (t .words) room))
 
 module _ (n : ℕ) (ws : List ℕ) (out : List ℤ) where
   emit-leaves : (t : Totals) → emitOutcome n ws (length out) ≡ served t → emitBuffer n ws out ≡ over (stored (clausesOf n (gatesOf ws))) out
@@ -90,11 +79,11 @@ pub emit-laws : EmitLaws
 emit-laws =
     record {
       sizes-served = λ n ws t. (sizes-counted n ws t, counted-sizes n ws t);
-      sizes-refused = λ n ws x y. (sizes-fault n ws x y, fault-sizes n ws x y);
+      sizes-refused = sizes-wrong;
       emit-served = λ n ws room t. (emit-counted n ws room t, (λ c. counted-emit n ws room t (c .0) (c .1)));
       emit-leaves = emit-leaves;
       emit-untouched = emit-untouched;
-      emit-refused = λ n ws room x y. (emit-fault n ws room x y, fault-emit n ws room x y);
+      emit-refused = emit-wrong;
     }
 
 -- ---- what emission answers and leaves

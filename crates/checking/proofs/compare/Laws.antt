@@ -33,7 +33,9 @@ yes-differ a b x h = ap not (ne-eqb _ _ h)
 pub pair-gates : (na : ℕ) (a : List ℕ) (nb : ℕ) (b : List ℕ) (c : Counts) → pairOutcome na a nb b ≡ served c
     → (allValid maxLines (gatesOf a) ≡ true) × (allValid maxLines (gatesOf b) ≡ true)
 pair-gates na a nb b c e =
-    let (k, m, same) = pair-served na a nb b c e in
+    let p = pair-served na a nb b c e in
+    let k = p .first-good in
+    let m = p .second-good in
     (valid-all-more na maxLines (gatesOf a) (k .lines-high) (k .gates), valid-all-more nb maxLines (gatesOf b) (m .lines-high) (m .gates))
 
 -- ---- the search

@@ -26,7 +26,7 @@ use Rattle.circuit.proofs.words.Laws.{cascade-count}
 use Rattle.circuit.proofs.gate.Laws.{fires-lines, lines-fires, valid-by-lines, lines-valid, valid-more, apply-gate, inverted-fired, inverted-idle}
 use Rattle.circuit.proofs.run.Laws.{run-append}
 use Rattle.checking.specs.Faults.{isFree, missing, everywhere, stands, maskWhere, masksFrom, faultMasks, faultOutcome, faultBuffer}
-use Rattle.checking.specs.RefusalLaws.{Every, MasksServed}
+use Rattle.checking.specs.RefusalLaws.{Every, StatesGood}
 use Rattle.checking.specs.FaultLaws.{stateAt, Candidate, Masking, maskPlace, MasksStand, repairedAt, Repairs, withControl}
 use Rattle.checking.proofs.faults.Masks.{mask-bit}
 use Rattle.checking.proofs.faults.Loops.{masks-length}
@@ -311,11 +311,11 @@ module _ (na : ℕ) (a : List ℕ) (nb : ℕ) (b states out : List ℕ) (k : ℕ
   abbrev last : List ℕ
   last = faultBuffer na a nb b states out
 
-  call : MasksServed na a nb b states (length out) k
-  call = masks-made na a nb b states (length out) k made
+  call : StatesGood na a nb b states k
+  call = masks-made na a nb b states (length out) k made .0
 
   suspect-count : length (gatesOf a) ≡ k
-  suspect-count = cascade-count na a maxGates k (call .pair .first)
+  suspect-count = cascade-count na a maxGates k (call .pair .first-good)
 
   left : last ≡ over masks out
   unfolding faultBuffer
@@ -337,7 +337,7 @@ module _ (na : ℕ) (a : List ℕ) (nb : ℕ) (b states out : List ℕ) (k : ℕ
   pub masks-stand : MasksStand na (gatesOf a) states k out last
   masks-stand =
       record {
-        long = ap length left ∙ over-length masks out (omega (arith, two-each, call .fits));
+        long = ap length left ∙ over-length masks out (omega (arith, two-each, masks-made na a nb b states (length out) k made .1));
         lines = lines;
         rest = ap (drop (2 * k)) left ∙ drop-at masks (drop (length masks) out) (2 * k) two-each ∙ ap (λ (n : ℕ). drop n out) two-each;
       }
@@ -348,7 +348,7 @@ module _ (na : ℕ) (a : List ℕ) (nb : ℕ) (b states out : List ℕ) (k : ℕ
   guilty-stands i line positive h below free agree =
       either (bit (getD last (maskPlace positive i) 0) line) (λ t. t)
       (λ t.
-      let c = call .pair .first in
+      let c = call .pair .first-good in
       let (j, l, d) =
       excluded na (gatesOf a) (gatesOf b) states i line positive (c .lines-high) (c .gates)
       (λ j l. record { state = call .inside j l; outputs = call .differing j l })

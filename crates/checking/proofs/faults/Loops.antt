@@ -182,7 +182,7 @@ module _ (na : ℕ) (a : List ℕ) (nb : ℕ) (b xs : List ℕ) where
       let (k, p, g) = then-both Inside _ gates f in
       let (m, q, h) = then-both Differing _ gates g in
       let first : counts .first ≡ gates = ap (λ (o : Outcome ℕ). valueOf o) h in
-      subst (λ (j : ℕ). Cascade na a maxGates j) first (pair-served na a nb b counts good .0)
+      subst (λ (j : ℕ). Cascade na a maxGates j) first (pair-served na a nb b counts good .first-good)
     where
       valueOf : Outcome ℕ → ℕ
       valueOf (served x) = x

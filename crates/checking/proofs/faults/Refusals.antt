@@ -1,24 +1,25 @@
 -- The refusals of the sweep, the input check, the pick and the fault call: exactly by what is wrong. Assumes nothing.
 use mathlib.Core.Path.{_≡_, refl, sym, ap, subst, _∙_}
+use mathlib.Core.Logic.{_↔_}
 use mathlib.Core.Bool.{Bool, true, false}
 use mathlib.Core.List.{List, [], _∷_}
-use Prim.Native.Nat.{ℕ, zero, suc, _+_, _*_, _^_, _<_}
+use Prim.Native.Nat.{ℕ, zero, suc, _+_, _*_, _^_, _<_, _≤_}
 use native.Mathlib.Omega.{arith}
 use lib.Dec.{leb, ltb}
 use lib.ListN.{length, getD}
-use borrow.Author.Tests.{leb-true, leb-false, lt-ltb, le-ltb, ltb-true, ltb-false}
+use borrow.Author.Tests.{leb-true, lt-ltb, ltb-true}
 use Rattle.bits.proofs.Bools.{either}
 use Rattle.circuit.specs.Outcome.{served, refused}
 use Rattle.circuit.specs.Refusal.{badState, agreeingState, noRoom, tooWide}
-use Rattle.circuit.specs.Words.{gatesOf, Counts, pairOutcome, PairRefused}
+use Rattle.circuit.specs.Words.{gatesOf, pairOutcome, GoodPair, PairRefused}
 use Rattle.circuit.specs.Run.{run}
-use Rattle.circuit.proofs.Outcome.{never, demand-met, demand-failed, demanded, then-both, then-fails, then-either, last-failed, same-refusal}
-use Rattle.circuit.proofs.words.Laws.{pair-served, served-pair, pair-refused, refused-pair}
+use Rattle.circuit.proofs.Outcome.{never, unserved, demand-met, demand-failed, demanded, then-both, same-refusal, wrong-refused, fails-refused, same-refused, at-least, above}
+use Rattle.circuit.proofs.words.Laws.{pair-served, served-pair, pair-refused, pair-wrong}
 use Rattle.checking.specs.Compare.{outputsDiffer, maxSweepLines, differenceOutcome, differsOutcome, pickOutcome}
-use Rattle.checking.specs.Faults.{eachFrom, faultCheck, faultOutcome}
-use Rattle.checking.specs.RefusalLaws.{GoodPair, SweepRefused, sweep-pair, wide, DiffersRefused, input-pair, outside, Every, First, MasksServed, MasksRefused, masks-pair, outside-at, agreeing-at, short, RefusalLaws}
-use Rattle.checking.proofs.compare.Laws.{differ-no, no-differ, differ-yes, yes-differ, difference-refused, difference-wide, differs-refused, differs-outside, pick-refused}
-use Rattle.checking.proofs.faults.Loops.{fault-pair, fault-state, fault-agree, fault-good, fault-refused, fault-short, fault-made}
+use Rattle.checking.specs.Faults.{gateMasks, eachFrom, faultCheck, faultOutcome}
+use Rattle.checking.specs.RefusalLaws.{SweepRefused, DiffersRefused, Every, First, AtFirst, at-first, StatesRefused, StatesGood, MasksRefused, RefusalLaws}
+use Rattle.checking.proofs.compare.Laws.{differ-no, no-differ, differ-yes, yes-differ}
+use Rattle.checking.proofs.faults.Loops.{fault-good, fault-made}
 
 -- ---- the tests of the states
 
@@ -76,129 +77,112 @@ module _ (test : ℕ → Bool) (number : ℕ) where
       ∙ refused-each (i + 1) xs j (record { inside = omega (arith, f .inside); before = λ l h. f .before (suc l) (omega arith); here = f .here })
       ∙ ap (refused number) e
 
+-- a list of states, by a test that says what it should
+module _ (test : ℕ → Bool) (number : ℕ) (Good Bad : ℕ → Type 0) (yes : (x : ℕ) → (test x ≡ true) ↔ Good x) (no : (x : ℕ) → (test x ≡ false) ↔ Bad x) (xs : List ℕ) where
+  each-good : (k : ℕ) → (eachFrom test number 0 xs ≡ served k) ↔ ((k ≡ length xs) × Every Good xs)
+  each-good k = (
+    (λ e.
+        let f = each-served test number 0 xs k e in
+        let n : k ≡ 0 + length xs = unserved (sym e ∙ served-each test number 0 xs f) in
+        (omega arith, (λ j h. yes _ .0 (f j h)))),
+    (λ (n, f). served-each test number 0 xs (λ j h. yes _ .1 (f j h)) ∙ ap served (omega arith)),
+  )
+
+  each-wrong : (x y : ℕ) → (eachFrom test number 0 xs ≡ refused x y) ↔ AtFirst Good Bad xs number x y
+  each-wrong x y = (
+    each-refused test number (AtFirst Good Bad xs number) 0 xs
+        (λ j f. subst (AtFirst Good Bad xs number number) (omega arith) (at-first j (other-words xs j (λ s. yes s .0) (λ s. no s .0) f))) x y,
+    back x y,
+  )
+    where
+      back : (x y : ℕ) → AtFirst Good Bad xs number x y → eachFrom test number 0 xs ≡ refused x y
+      back _ _ (at-first i f) = refused-each test number 0 xs i (other-words xs i (λ s. yes s .1) (λ s. no s .1) f) ∙ ap (refused number) (omega arith)
+
 -- ---- each call
 
 module _ (na : ℕ) (a : List ℕ) (nb : ℕ) (b : List ℕ) where
-  good-pair : (c : Counts) → pairOutcome na a nb b ≡ served c → GoodPair na a nb b (c .first) (c .second)
-  good-pair c e = let (k, m, l) = pair-served na a nb b c e in record { first = k; second = m; lines = l }
-
-  abbrev counts : ℕ → ℕ → Counts
-  counts k m = record { first = k; second = m }
-
-  pair-good : (k m : ℕ) → GoodPair na a nb b k m → pairOutcome na a nb b ≡ served (counts k m)
-  pair-good k m g = served-pair na a nb b k m (g .first) (g .second) (g .lines)
-
-  fault-sweep : (x y : ℕ) → SweepRefused na a nb b x y → differenceOutcome na a nb b ≡ refused x y
-  fault-sweep x y (sweep-pair w) = difference-refused na a nb b x y (refused-pair na a nb b x y w)
-  fault-sweep x y (wide k m g h) = difference-wide na a nb b (counts k m) (pair-good k m g) h
-
-  sweep-fault : (x y : ℕ) → differenceOutcome na a nb b ≡ refused x y → SweepRefused na a nb b x y
+  sweep-wrong : (x y : ℕ) → (differenceOutcome na a nb b ≡ refused x y) ↔ SweepRefused na a nb b x y
   unfolding differenceOutcome
-  sweep-fault =
-      then-either (SweepRefused na a nb b) (pairOutcome na a nb b) _
-      (λ x y p. sweep-pair (pair-refused na a nb b x y p))
-      (λ c p. last-failed (SweepRefused na a nb b) (leb na maxSweepLines) tooWide 0 _ (λ t. wide (c .first) (c .second) (good-pair c p) (leb-false _ _ t)))
+  sweep-wrong = pair-wrong na a nb b (leb na maxSweepLines) tooWide 0 _ (maxSweepLines < na) (above na maxSweepLines)
 
-  pick-fault : (x y : ℕ) → pickOutcome na a nb b ≡ refused x y → PairRefused na a nb b x y
+  pick-wrong : (x y : ℕ) → (pickOutcome na a nb b ≡ refused x y) ↔ PairRefused na a nb b x y
   unfolding pickOutcome
-  pick-fault x y e = pair-refused na a nb b x y (then-fails (pairOutcome na a nb b) _ x y e)
+  pick-wrong = same-refused (pairOutcome na a nb b) _ (PairRefused na a nb b) (pair-refused na a nb b)
 
-  module _ (s : ℕ) where
-    fault-input : (x y : ℕ) → DiffersRefused na a nb b s x y → differsOutcome na a nb b s ≡ refused x y
-    fault-input x y (input-pair w) = differs-refused na a nb b s x y (refused-pair na a nb b x y w)
-    fault-input x y (outside k m g h) = differs-outside na a nb b (counts k m) (pair-good k m g) s (le-ltb _ _ h)
+  input-wrong : (s x y : ℕ) → (differsOutcome na a nb b s ≡ refused x y) ↔ DiffersRefused na a nb b s x y
+  unfolding differsOutcome
+  input-wrong s = pair-wrong na a nb b (ltb s (2 ^ na)) badState 0 _ (2 ^ na ≤ s) (at-least s (2 ^ na))
 
-    input-fault : (x y : ℕ) → differsOutcome na a nb b s ≡ refused x y → DiffersRefused na a nb b s x y
-    unfolding differsOutcome
-    input-fault =
-        then-either (DiffersRefused na a nb b s) (pairOutcome na a nb b) _
-        (λ x y p. input-pair (pair-refused na a nb b x y p))
-        (λ c p. last-failed (DiffersRefused na a nb b s) (ltb s (2 ^ na)) badState 0 _ (λ t. outside (c .first) (c .second) (good-pair c p) (ltb-false _ _ t)))
-
-  module _ (xs : List ℕ) (room : ℕ) where
+  module _ (xs : List ℕ) where
     abbrev inside : ℕ → Bool
     inside x = ltb x (2 ^ na)
 
     abbrev differing : ℕ → Bool
     differing = outputsDiffer (gatesOf a) (gatesOf b)
 
-    abbrev Fault : ℕ → ℕ → Type 0
-    Fault = MasksRefused na a nb b xs room
+    all-inside : (k : ℕ) → (eachFrom inside badState 0 xs ≡ served k) ↔ ((k ≡ length xs) × Every (λ x. x < 2 ^ na) xs)
+    all-inside = each-good inside badState _ (λ x. 2 ^ na ≤ x) (λ x. (ltb-true x (2 ^ na), lt-ltb x (2 ^ na))) (λ x. at-least x (2 ^ na)) xs
 
-    all-inside : (k : ℕ) → eachFrom inside badState 0 xs ≡ served k → Every (λ x. x < 2 ^ na) xs
-    all-inside k e = λ j h. ltb-true _ _ (each-served inside badState 0 xs k e j h)
-
-    all-differing : (k : ℕ) → eachFrom differing agreeingState 0 xs ≡ served k → Every (λ x. run (gatesOf a) x ≡ run (gatesOf b) x → ⊥) xs
-    all-differing k e = λ j h. differ-yes _ _ _ (each-served differing agreeingState 0 xs k e j h)
+    all-differing : (k : ℕ) → (eachFrom differing agreeingState 0 xs ≡ served k) ↔ ((k ≡ length xs) × Every (λ x. run (gatesOf a) x ≡ run (gatesOf b) x → ⊥) xs)
+    all-differing = each-good differing agreeingState _ (λ x. run (gatesOf a) x ≡ run (gatesOf b) x) (λ x. (differ-yes _ _ x, yes-differ _ _ x)) (λ x. (differ-no _ _ x, no-differ _ _ x)) xs
 
     -- the tests before that of the room
-    check-good : (gates : ℕ) → faultCheck na a nb b xs ≡ served gates
-        → (m : ℕ) × (GoodPair na a nb b gates m) × (Every (λ x. x < 2 ^ na) xs) × (Every (λ x. run (gatesOf a) x ≡ run (gatesOf b) x → ⊥) xs)
-    unfolding faultCheck
-    check-good gates e =
-        let (c, p, f) = then-both (pairOutcome na a nb b) _ gates e in
-        let (k, q, g) = then-both (eachFrom inside badState 0 xs) _ gates f in
-        let (m, r, l) = then-both (eachFrom differing agreeingState 0 xs) _ gates g in
-        let n : c .first ≡ gates = cc in
-        (c .second, subst (λ (i : ℕ). GoodPair na a nb b i (c .second)) n (good-pair c p), all-inside k q, all-differing m r)
-
-    good-check : (k m : ℕ) → GoodPair na a nb b k m → Every (λ x. x < 2 ^ na) xs → Every (λ x. run (gatesOf a) x ≡ run (gatesOf b) x → ⊥) xs → faultCheck na a nb b xs ≡ served k
-    good-check k m g e f =
-        fault-good na a nb b xs (counts k m) (pair-good k m g) _ (served-each inside badState 0 xs (λ j h. lt-ltb _ _ (e j h))) _
-        (served-each differing agreeingState 0 xs (λ j h. yes-differ _ _ _ (f j h)))
-
-    fault-masks : (x y : ℕ) → Fault x y → faultOutcome na a nb b xs room ≡ refused x y
-    fault-masks x y (masks-pair w) = fault-refused na a nb b xs room x y (fault-pair na a nb b xs x y (refused-pair na a nb b x y w))
-    fault-masks x y (outside-at k m g i f) =
-        fault-refused na a nb b xs room _ _
-        (fault-state na a nb b xs (counts k m) (pair-good k m g) _ _
-        (refused-each inside badState 0 xs i (other-words xs i (λ s. lt-ltb _ _) (λ s. le-ltb _ _) f) ∙ ap (refused badState) (omega arith)))
-    fault-masks x y (agreeing-at k m g e i f) =
-        fault-refused na a nb b xs room _ _
-        (fault-agree na a nb b xs (counts k m) (pair-good k m g) _ (served-each inside badState 0 xs (λ j h. lt-ltb _ _ (e j h))) _ _
-        (refused-each differing agreeingState 0 xs i (other-words xs i (yes-differ _ _) (no-differ _ _) f) ∙ ap (refused agreeingState) (omega arith)))
-    fault-masks x y (short k m g e f h) =
-        fault-short na a nb b xs room k (good-check k m g e f) h
-
-    masks-fault : (x y : ℕ) → faultOutcome na a nb b xs room ≡ refused x y → Fault x y
-    unfolding faultOutcome faultCheck
-    masks-fault =
-        then-either Fault (faultCheck na a nb b xs) _
-        (then-either Fault (pairOutcome na a nb b) _
-        (λ x y p. masks-pair (pair-refused na a nb b x y p))
-        (λ c p.
-        then-either Fault (eachFrom inside badState 0 xs) _
-        (each-refused inside badState Fault 0 xs (λ j f.
-        subst (Fault badState) (omega arith) (outside-at (c .first) (c .second) (good-pair c p) j (other-words xs j (λ s. ltb-true _ _) (λ s. ltb-false _ _) f))))
-        (λ k q.
-        then-either Fault (eachFrom differing agreeingState 0 xs) _
-        (each-refused differing agreeingState Fault 0 xs (λ j f.
-        subst (Fault agreeingState) (omega arith) (agreeing-at (c .first) (c .second) (good-pair c p) (all-inside k q) j (other-words xs j (differ-yes _ _) (differ-no _ _) f))))
-        (λ m r x y e. absurd (never refl e)))))
-        (λ gates g. last-failed Fault (leb (2 * gates) room) noRoom 0 gates (λ t. too-short gates g (leb-false _ _ t)))
+    states-good : (k : ℕ) → (faultCheck na a nb b xs ≡ served k) ↔ StatesGood na a nb b xs k
+    states-good gates = (check-good, good-check)
       where
-        too-short : (gates : ℕ) → faultCheck na a nb b xs ≡ served gates → room < 2 * gates → Fault noRoom 0
-        too-short gates e h = let (m, g, p, q) = check-good gates e in short gates m g p q h
+        check-good : faultCheck na a nb b xs ≡ served gates → StatesGood na a nb b xs gates
+        check-good e =
+            unfold faultCheck in
+            let (c, p, f) = then-both (pairOutcome na a nb b) _ gates e in
+            let (k, q, g) = then-both (eachFrom inside badState 0 xs) _ gates f in
+            let (m, r, l) = then-both (eachFrom differing agreeingState 0 xs) _ gates g in
+            let n : c .first ≡ gates = cc in
+            record {
+              second = c .second;
+              pair = subst (λ (i : ℕ). GoodPair na a nb b (record { first = i; second = c .second })) n (pair-served na a nb b c p);
+              inside = all-inside k .0 q .1;
+              differing = all-differing m .0 r .1;
+            }
 
-    -- served exactly for a good pair, states that are good, and room
-    pub masks-made : (k : ℕ) → faultOutcome na a nb b xs room ≡ served k → MasksServed na a nb b xs room k
-    unfolding faultOutcome
-    masks-made k e =
-        let (gates, f, g) = then-both (faultCheck na a nb b xs) _ k e in
-        let (t, q) = demanded (leb (2 * gates) room) noRoom 0 (served gates) k g in
-        let n : gates ≡ k = cc in
-        let (m, pair, p, d) = check-good k (f ∙ ap served n) in
-        record { second = m; pair = pair; inside = p; differing = d; fits = omega (arith, leb-true (2 * gates) room t) }
+        good-check : StatesGood na a nb b xs gates → faultCheck na a nb b xs ≡ served gates
+        good-check s =
+            fault-good na a nb b xs _ (served-pair na a nb b _ (s .pair)) _ (all-inside (length xs) .1 (refl, s .inside)) _
+            (all-differing (length xs) .1 (refl, s .differing))
 
-    made-masks : (k : ℕ) → MasksServed na a nb b xs room k → faultOutcome na a nb b xs room ≡ served k
-    made-masks k s = fault-made na a nb b xs room k (good-check k (s .second) (s .pair) (s .inside) (s .differing)) (s .fits)
+    states-wrong : (x y : ℕ) → (faultCheck na a nb b xs ≡ refused x y) ↔ StatesRefused na a nb b xs x y
+    unfolding faultCheck
+    states-wrong =
+        wrong-refused (pairOutcome na a nb b) _ _ _ _ (pair-refused na a nb b) (λ c. (pair-served na a nb b c, served-pair na a nb b c)) (λ c g.
+        wrong-refused (eachFrom inside badState 0 xs) _ _ _ _
+        (each-wrong inside badState _ _ (λ x. (ltb-true x (2 ^ na), lt-ltb x (2 ^ na))) (λ x. at-least x (2 ^ na)) xs) all-inside (λ k e.
+        same-refused (eachFrom differing agreeingState 0 xs) _ _
+        (each-wrong differing agreeingState _ _ (λ x. (differ-yes _ _ x, yes-differ _ _ x)) (λ x. (differ-no _ _ x, no-differ _ _ x)) xs)))
+
+    module _ (room : ℕ) where
+      masks-wrong : (x y : ℕ) → (faultOutcome na a nb b xs room ≡ refused x y) ↔ MasksRefused na a nb b xs room x y
+      unfolding faultOutcome
+      masks-wrong =
+          wrong-refused (faultCheck na a nb b xs) _ _ _ _ states-wrong states-good
+          (λ k g. fails-refused (leb (gateMasks * k) room) noRoom 0 k (room < gateMasks * k) (above (gateMasks * k) room))
+
+      -- served exactly for a good pair, states that are good, and room
+      pub masks-made : (k : ℕ) → faultOutcome na a nb b xs room ≡ served k → (StatesGood na a nb b xs k) × (gateMasks * k ≤ room)
+      unfolding faultOutcome
+      masks-made k e =
+          let (gates, f, g) = then-both (faultCheck na a nb b xs) _ k e in
+          let (t, q) = demanded (leb (gateMasks * gates) room) noRoom 0 (served gates) k g in
+          let n : gates ≡ k = unserved q in
+          (states-good k .0 (f ∙ ap served n), omega (arith, leb-true (gateMasks * gates) room t))
+
+      made-masks : (k : ℕ) → StatesGood na a nb b xs k → gateMasks * k ≤ room → faultOutcome na a nb b xs room ≡ served k
+      made-masks k s h = fault-made na a nb b xs room k (states-good k .1 s) h
 
 pub refusal-laws : RefusalLaws
 refusal-laws =
     record {
-      sweep-refused = λ na a nb b x y. (sweep-fault na a nb b x y, fault-sweep na a nb b x y);
-      input-refused = λ na a nb b s x y. (input-fault na a nb b s x y, fault-input na a nb b s x y);
-      pick-refused = λ na a nb b x y. (pick-fault na a nb b x y, (λ w. pick-refused na a nb b x y (refused-pair na a nb b x y w)));
-      masks-served = λ na a nb b xs room k. (masks-made na a nb b xs room k, made-masks na a nb b xs room k);
-      masks-refused = λ na a nb b xs room x y. (masks-fault na a nb b xs room x y, fault-masks na a nb b xs room x y);
+      sweep-refused = sweep-wrong;
+      input-refused = input-wrong;
+      pick-refused = pick-wrong;
+      masks-served = λ na a nb b xs room k. (masks-made na a nb b xs room k, (λ (s, h). made-masks na a nb b xs room k s h));
+      masks-refused = masks-wrong;
     }

@@ -1,5 +1,6 @@
 -- The laws of the miter: what its call answers and leaves, and that it is the identity where the two cascades agree. Assumes nothing.
-use mathlib.Core.Path.{_≡_, refl, sym, ap, subst₂, _∙_}
+use mathlib.Core.Path.{_≡_, refl, sym, ap, _∙_}
+use mathlib.Core.Logic.{_↔_}
 use mathlib.Core.Bool.{true}
 use mathlib.Core.List.{List, _++_}
 use Prim.Native.Nat.{ℕ, _+_, _-_, _*_, _%_, _≤_, _<_}
@@ -7,10 +8,9 @@ use native.Mathlib.Omega.{arith}
 use lib.Dec.{leb}
 use lib.ListN.{length, take, drop, length-drop, length-append}
 use lib.Seq.{take-at, drop-at}
-use borrow.Author.Tests.{le-leb, lt-leb, leb-true, leb-false}
+use borrow.Author.Tests.{le-leb, lt-leb, leb-true}
 use borrow.Rule.Slice.PartMut.{putMid}
 use Rattle.bits.specs.Lists.{over}
-use Rattle.bits.proofs.Bools.{either}
 use Rattle.bits.proofs.Lists.{lent-over, over-length, rest-lent}
 use Rattle.circuit.specs.declared.gate.Gate.{Gate}
 use Rattle.circuit.specs.Gate.{maxGates}
@@ -19,12 +19,12 @@ use Rattle.circuit.specs.Refusal.{noRoom}
 use Rattle.circuit.specs.Words.{gatesOf, wordsOf, allValid, Counts, pairOutcome}
 use Rattle.circuit.specs.Run.{run}
 use Rattle.circuit.specs.Inverse.{inverse, putInverse}
-use Rattle.circuit.proofs.Outcome.{never, told, demand-met, demand-failed, demanded, then-served, then-refused, then-both, written-refused}
-use Rattle.circuit.proofs.words.Laws.{gates-length, gates-words, words-gates, words-append, words-length, valid-append, served-check, pair-served, served-pair, pair-refused, refused-pair}
+use Rattle.circuit.proofs.Outcome.{told, demand-met, demand-failed, demanded, then-served, then-refused, then-both, above, written-refused}
+use Rattle.circuit.proofs.words.Laws.{gates-length, gates-words, words-gates, words-append, words-length, valid-append, pair-served, served-pair, pair-wrong}
 use Rattle.circuit.proofs.run.Laws.{run-append}
 use Rattle.circuit.proofs.inverse.Laws.{run-inverse, inverse-run, inverse-valid, put-fits}
 use Rattle.checking.specs.Miter.{miterGates, miterOutcome, miterBuffer}
-use Rattle.checking.specs.MiterLaws.{MiterServed, MiterRefused, miter-pair, short, MiterStands, MiterLaws}
+use Rattle.checking.specs.MiterLaws.{MiterServed, MiterRefused, MiterStands, MiterLaws}
 
 -- ---- the identity exactly where the two agree
 
@@ -60,15 +60,14 @@ module _ (na : ℕ) (a : List ℕ) (nb : ℕ) (b : List ℕ) where
 
   -- the numbers of gates fit
   pub pair-few : (c : Counts) → pairOutcome na a nb b ≡ served c → (c .first ≤ maxGates) × (c .second ≤ maxGates)
-  pair-few c good = let (p, q, l) = pair-served na a nb b c good in (p .few, q .few)
+  pair-few c good = let g = pair-served na a nb b c good in (g .first-good .few, g .second-good .few)
 
   -- after the copy the rest of the buffer takes the inverse
   pub miter-written : (c : Counts) → pairOutcome na a nb b ≡ served c → (out mid last : List ℕ) → length a + length b ≤ length out → mid ≡ over a out
       → last ≡ putInverse b (take (length mid - length a) (drop (length a) mid))
       → putMid (length a) (length mid - length a) mid last ≡ over front out
   miter-written c good out mid last room e l =
-      let (p, q, s) = pair-served na a nb b c good in
-      let z = p .size in
+      let z = pair-served na a nb b c good .first-good .size in
       let n : length mid ≡ length out = ap length e ∙ over-length a out (omega arith) in
       let r : length (take (length mid - length a) (drop (length a) mid)) ≡ length mid - length a = ap length (rest-lent mid (length a)) ∙ length-drop (length a) mid in
       let w : length a % 3 ≡ 0 = omega arith in
@@ -80,7 +79,7 @@ module _ (na : ℕ) (a : List ℕ) (nb : ℕ) (b : List ℕ) where
   -- served exactly for valid pairs with room
   pub served-miter : (room k : ℕ) → MiterServed na a nb b room k → miterOutcome na a nb b room ≡ served k
   served-miter room k m =
-      miter-made room (record { first = m .first; second = m .second }) (served-pair na a nb b (m .first) (m .second) (m .first-good) (m .second-good) (m .lines)) (m .fits)
+      miter-made room (record { first = m .first; second = m .second }) (served-pair na a nb b _ (record { first-good = m .first-good; second-good = m .second-good; lines = m .lines })) (m .fits)
       ∙ ap served (sym (m .count))
 
   pub miter-served : (room k : ℕ) → miterOutcome na a nb b room ≡ served k → MiterServed na a nb b room k
@@ -88,28 +87,15 @@ module _ (na : ℕ) (a : List ℕ) (nb : ℕ) (b : List ℕ) where
   miter-served room k e =
       let (c, g, f) = then-both (pairOutcome na a nb b) _ k e in
       let (t, s) = demanded (leb (length a + length b) room) noRoom 0 (served (c .first + c .second)) k f in
-      let (p, q, l) = pair-served na a nb b c g in
+      let p = pair-served na a nb b c g in
       let n : c .first + c .second ≡ k = cc in
-      record { first = c .first; second = c .second; first-good = p; second-good = q; lines = l; fits = leb-true _ _ t; count = sym n }
+      record { first = c .first; second = c .second; first-good = p .first-good; second-good = p .second-good; lines = p .lines; fits = leb-true _ _ t; count = sym n }
 
   -- refused exactly by what is wrong
-  pub fault-miter : (room number place : ℕ) → MiterRefused na a nb b room number place → miterOutcome na a nb b room ≡ refused number place
-  fault-miter room number place (miter-pair w) = miter-refused room number place (refused-pair na a nb b number place w)
-  fault-miter room number place (short k m c d l h) = miter-short room (record { first = k; second = m }) (served-pair na a nb b k m c d l) h
-
-  pub miter-fault : (room number place : ℕ) → miterOutcome na a nb b room ≡ refused number place → MiterRefused na a nb b room number place
-  miter-fault room number place e = go (pairOutcome na a nb b) refl
-    where
-      is : (x y : ℕ) → _≡_ {A = Outcome ℕ} (refused x y) (refused number place) → MiterRefused na a nb b room x y → MiterRefused na a nb b room number place
-      is x y f w = let p : x ≡ number = cc in let q : y ≡ place = cc in subst₂ (MiterRefused na a nb b room) p q w
-
-      go : (o : Outcome Counts) → pairOutcome na a nb b ≡ o → MiterRefused na a nb b room number place
-      go (refused x y) p = is x y (sym (miter-refused room x y p) ∙ e) (miter-pair (pair-refused na a nb b x y p))
-      go (served c) p =
-          let (k, m, l) = pair-served na a nb b c p in
-          either (leb (length a + length b) room)
-          (λ t. absurd (never (miter-made room c p (leb-true _ _ t)) e))
-          (λ t. is noRoom 0 (sym (miter-short room c p (leb-false _ _ t)) ∙ e) (short (c .first) (c .second) k m l (leb-false _ _ t)))
+  pub miter-wrong : (room number place : ℕ) → (miterOutcome na a nb b room ≡ refused number place) ↔ MiterRefused na a nb b room number place
+  unfolding miterOutcome
+  miter-wrong room =
+      pair-wrong na a nb b (leb (length a + length b) room) noRoom 0 (λ c. c .first + c .second) (room < length a + length b) (above (length a + length b) room)
 
   -- what stands in the buffer
   module _ (out : List ℕ) (k : ℕ) (good : miterOutcome na a nb b (length out) ≡ served k) where
@@ -167,7 +153,7 @@ miter-laws =
     record {
       identity = λ a b s. (identity-agree a b s, agree-identity a b s);
       miter-served = λ na a nb b room k. (miter-served na a nb b room k, served-miter na a nb b room k);
-      miter-refused = λ na a nb b room number place. (miter-fault na a nb b room number place, fault-miter na a nb b room number place);
+      miter-refused = miter-wrong;
       miter-untouched = miter-untouched;
       miter-stands = miter-stands;
     }

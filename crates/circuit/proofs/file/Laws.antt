@@ -168,8 +168,8 @@ pub read-as : (text : List ℕ) (c : Reading) → (reading text ≡ served c) �
 read-as text c = (
   (λ e. let (rest, g, t, k) = read-cascade text c e in record { good = g; rest = rest; starts = t; bytes = k }),
   (λ r.
-  ap reading (r .starts) ∙ text-read (c .lines) (c .gates) (r .rest) (r .good)
-  ∙ ap (λ (k : ℕ). served (record { lines = c .lines; gates = c .gates; taken = k })) (sym (r .bytes))),
+      ap reading (r .starts) ∙ text-read (c .lines) (c .gates) (r .rest) (r .good)
+      ∙ ap (λ (k : ℕ). served (record { lines = c .lines; gates = c .gates; taken = k })) (sym (r .bytes))),
 )
 
 pub read-refused : (text : List ℕ) (room number place : ℕ) → (readOutcome text room ≡ refused number place) ↔ ReadRefused text room number place
