@@ -36,7 +36,7 @@ returns c =
             pair-served = λ na a nb b c. (pair-served na a nb b c, (λ x. served-pair na a nb b (c .first) (c .second) (x .0) (x .1) (x .2)));
             pair-refused = λ na a nb b number place. (pair-refused na a nb b number place, refused-pair na a nb b number place);
           };
-      cascade =
+      cascades =
           record {
             run-append = run-append;
             run-below = run-below;
