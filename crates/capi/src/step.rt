@@ -2,7 +2,10 @@
 
 use checking::step::Kind;
 use checking::step::StepAnswer;
+use circuit::gate::Gate;
 ghost use mathlib.Core.Path.{_≡_};
+ghost use Prim.Native.Nat.{_/_};
+ghost use lib.ListN.{length};
 ghost use Rattle.circuit.specs.Outcome.{Yields};
 ghost use Rattle.checking.specs.Match.{kindNumber};
 ghost use Rattle.checking.specs.Step.{stepOutcome, stepBuffer};
@@ -33,8 +36,9 @@ fn kind_number(kind: Kind) -> u64
 
 #[no_mangle]
 pub extern "C" fn cascade_step(lines: u64, words: &mut [u64]) -> CascadeStepAnswer
-    ensures { λ r. ⌜ Yields r (now (words .exit)) (stepAnswer (stepOutcome lines (now (words .entry)))) (stepBuffer lines (now (words .entry))) ⌝ }
+    ensures { λ r. ⌜ Yields r (now (words .exit)) (stepAnswer (length (now (words .entry)) / 3) (stepOutcome lines (now (words .entry)))) (stepBuffer lines (now (words .entry))) ⌝ }
 {
+    let before = (words.len() / Gate::WORDS) as u64;
     match checking::step::step(lines, words) {
         StepAnswer::Found { i, j, kind, gates } => CascadeStepAnswer {
             number: 0,
@@ -52,7 +56,7 @@ pub extern "C" fn cascade_step(lines: u64, words: &mut [u64]) -> CascadeStepAnsw
             i: 0,
             j: 0,
             kind: 0,
-            gates: 0,
+            gates: before,
         },
         StepAnswer::Refused(why) => CascadeStepAnswer {
             number: why.number,
@@ -61,7 +65,7 @@ pub extern "C" fn cascade_step(lines: u64, words: &mut [u64]) -> CascadeStepAnsw
             i: 0,
             j: 0,
             kind: 0,
-            gates: 0,
+            gates: before,
         },
     }
 }

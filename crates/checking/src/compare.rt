@@ -6,9 +6,8 @@ use circuit::words::PairAnswer;
 ghost use mathlib.Core.Bool.{true};
 ghost use mathlib.Core.Path.{_≡_};
 ghost use denote.Ref.{ptr};
-ghost use Rattle.circuit.specs.Gate.{maxLines, valid, fires, apply};
+ghost use Rattle.circuit.specs.Gate.{maxLines};
 ghost use Rattle.circuit.specs.Words.{gatesOf, allValid, pairOutcome};
-ghost use Rattle.circuit.specs.Run.{run};
 ghost use Rattle.circuit.specs.Outcome.{served};
 ghost use Rattle.checking.specs.Compare.{lowestFrom, outputsDiffer, Sweeps, Picks, differsOutcome, pickOutcome, ofDifference, ofDiffers, ofRefusal};
 
@@ -32,54 +31,13 @@ pub enum RefusalAnswer {
     Refused(Refusal),
 }
 
-// Whether two cascades give different outputs on a state.
-fn outputs_differ(a: &[u64], b: &[u64], state: u64) -> bool
-    ensures { λ r. ⌜ r ≡ outputsDiffer (gatesOf (now (a .entry))) (gatesOf (now (b .entry))) state ⌝ }
-{
-    circuit::run::run_words(a, state) != circuit::run::run_words(b, state)
-}
-
-// Whether a gate, which is known to be one, fires.
-pub(crate) fn gate_fires(g: Gate, state: u64) -> bool
-    requires { ⌜ valid maxLines g ≡ true ⌝ }
-    ensures { λ r. ⌜ r ≡ fires g state ⌝ }
-{
-    let positive = g.positive;
-    let negative = g.negative;
-    ((state ^ positive) & (positive | negative)) == 0
-}
-
-// The state after a gate, which is known to be one.
-pub(crate) fn after(g: Gate, state: u64) -> u64
-    requires { ⌜ valid maxLines g ≡ true ⌝ }
-    ensures { λ r. ⌜ r ≡ apply g state ⌝ }
-{
-    let target = g.target;
-    state ^ ((gate_fires(g, state) as u64) << target)
-}
-
-// The state after all gates of the words, which are known to be gates.
-fn output(words: &[u64], state: u64) -> u64
-    requires { ⌜ allValid maxLines (gatesOf (now words)) ≡ true ⌝ }
-    ensures { λ r. ⌜ r ≡ run (gatesOf (now (words .entry))) state ⌝ }
-{
-    let gates = words.len() / Gate::WORDS;
-    let mut s = state;
-    let mut i = 0;
-    while i < gates {
-        s = after(circuit::words::gate_at(words, i), s);
-        i += 1;
-    }
-    s
-}
-
-// Whether two cascades, whose gates are known to be gates, give different outputs on a state.
-pub(crate) fn tested_differ(a: &[u64], b: &[u64], state: u64) -> bool
+// Whether two cascades, which were tested, give different outputs on a state.
+pub(crate) fn outputs_differ(a: &[u64], b: &[u64], state: u64) -> bool
     requires { ⌜ allValid maxLines (gatesOf (now a)) ≡ true ⌝ }
     requires { ⌜ allValid maxLines (gatesOf (now b)) ≡ true ⌝ }
     ensures { λ r. ⌜ r ≡ outputsDiffer (gatesOf (now (a .entry))) (gatesOf (now (b .entry))) state ⌝ }
 {
-    output(a, state) != output(b, state)
+    circuit::run::run_tested(a, state) != circuit::run::run_tested(b, state)
 }
 
 // The lowest of the states below `count` on which two cascades differ.
@@ -90,7 +48,7 @@ fn lowest_difference(a: &[u64], b: &[u64], count: u64) -> DifferenceAnswer
 {
     let mut x = 0;
     while x < count {
-        if tested_differ(a, b, x) {
+        if outputs_differ(a, b, x) {
             return DifferenceAnswer::State(x);
         }
         x += 1;

@@ -6,9 +6,7 @@ ghost use mathlib.Core.List.{[], _∷_};
 ghost use Prim.Native.Nat.{_+_, _*_, _≤_, _<_};
 ghost use lib.IntN.{pos};
 ghost use lib.ListN.{length};
-ghost use Rattle.bits.specs.Digits.{bit};
 ghost use Rattle.bits.specs.Lists.{over};
-ghost use Rattle.circuit.specs.Gate.{maxLines};
 ghost use Rattle.circuit.specs.Outcome.{Yields};
 ghost use Rattle.checking.specs.Stored.{wordLimit};
 ghost use Rattle.checking.specs.private.Emitter.{literalWord, literalsIn, controlsStored, Currents, Lines, Many, manyStored, gateStored, Ready};
@@ -31,14 +29,6 @@ pub(crate) fn literal(variable: u64, positive: bool) -> i16
         return v;
     }
     -v
-}
-
-// Whether line k stands in the mask.
-fn has(mask: u64, k: u64) -> bool
-    requires { ⌜ k < maxLines ⌝ }
-    ensures { λ r. ⌜ r ≡ bit mask k ⌝ }
-{
-    (mask >> k) % 2 == 1
 }
 
 // Three words at the buffer's start.
@@ -96,7 +86,7 @@ fn put_controls(
     while left != 0 {
         let line = circuit::gate::lowest(left);
         let v = current[line as usize];
-        let sign = has(positive, line);
+        let sign = circuit::gate::has(positive, line);
         out[i] = literal(v, !sign);
         let at = k + 4 * i;
         put_4(&mut out[at..], 0, 2, not_p, literal(v, sign));
@@ -160,7 +150,7 @@ pub(crate) fn put_gate(g: Gate, n: u64, current: &[u64], used: u64, out: &mut [i
             3,
             literal(used + 1, false),
             literal(v, true),
-            literal(current[line as usize], has(positive, line)),
+            literal(current[line as usize], circuit::gate::has(positive, line)),
         );
         return 5;
     }

@@ -45,10 +45,9 @@ fn free_lines(g: Gate, n: u64) -> u64
 
 // The lines that a state leaves in the mask of missing positive controls.
 fn kept_positive(g: Gate, state: u64) -> u64
-    requires { ⌜ valid maxLines g ≡ true ⌝ }
     ensures { λ r. ⌜ r ≡ kept true g state ⌝ }
 {
-    if crate::compare::gate_fires(g, state) {
+    if g.fires(state) {
         return state ^ u64::MAX;
     }
     0
@@ -56,10 +55,9 @@ fn kept_positive(g: Gate, state: u64) -> u64
 
 // The lines that a state leaves in the mask of missing negative controls.
 fn kept_negative(g: Gate, state: u64) -> u64
-    requires { ⌜ valid maxLines g ≡ true ⌝ }
     ensures { λ r. ⌜ r ≡ kept false g state ⌝ }
 {
-    if crate::compare::gate_fires(g, state) {
+    if g.fires(state) {
         return state;
     }
     0
@@ -97,7 +95,7 @@ fn narrow(words: &[u64], state: u64, out: &mut [u64])
         let at = 2 * i;
         out[at] = out[at] & kept_positive(g, s);
         out[at + 1] = out[at + 1] & kept_negative(g, s);
-        s = crate::compare::after(g, s);
+        s = g.toggle(s);
         i += 1;
     }
 }
@@ -137,7 +135,7 @@ fn check_differing(a: &[u64], b: &[u64], states: &[u64]) -> CountAnswer
 {
     let mut i = 0;
     while i < states.len() {
-        if !crate::compare::tested_differ(a, b, states[i]) {
+        if !crate::compare::outputs_differ(a, b, states[i]) {
             return CountAnswer::Refused(Refusal::agreeing_state(i as u64));
         }
         i += 1;

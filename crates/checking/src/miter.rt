@@ -35,7 +35,7 @@ pub fn miter(na: u64, a: &[u64], nb: u64, b: &[u64], out: &mut [u64]) -> CountAn
             }
             copy(a, out);
             let at = a.len();
-            circuit::inverse::inverse(nb, b, &mut out[at..]);
+            circuit::inverse::put_inverse(b, &mut out[at..]);
             CountAnswer::Gates(first + second)
         }
     }

@@ -84,14 +84,6 @@ fn single(mask: u64) -> bool
     (mask & (mask - 1)) == 0
 }
 
-// The mask of line k alone.
-fn line(k: u64) -> u64
-    requires { ⌜ k < maxLines ⌝ }
-    ensures { λ r. ⌜ r ≡ 2 ^ k ⌝ }
-{
-    1 << k
-}
-
 // Whether two gates may pass each other: neither's target is a control of the other.
 fn may_pass(g: Gate, h: Gate) -> bool
     requires { ⌜ g .target < maxLines ⌝ }
@@ -102,7 +94,7 @@ fn may_pass(g: Gate, h: Gate) -> bool
     let g_target = g.target;
     let h_lines = h.positive | h.negative;
     let h_target = h.target;
-    ((h_lines & line(g_target)) | (g_lines & line(h_target))) == 0
+    ((h_lines & circuit::gate::line(g_target)) | (g_lines & circuit::gate::line(h_target))) == 0
 }
 
 // Whether and how two gates match.

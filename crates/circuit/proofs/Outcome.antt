@@ -1,5 +1,6 @@
 -- The laws of outcomes: a test that holds or fails, a call that goes on, and what a call that writes a buffer owes. Assumes nothing.
 use mathlib.Core.Path.{_≡_, refl, sym, ap, ap₂, subst₂, _∙_}
+use mathlib.Core.Logic.{_↔_}
 use mathlib.Core.Bool.{Bool, true, false}
 use mathlib.Core.List.{List}
 use Prim.Native.Nat.{ℕ}
@@ -8,7 +9,7 @@ use Rattle.bits.specs.Lists.{over}
 use Rattle.bits.proofs.Bools.{either, cond-true, cond-false}
 use Rattle.circuit.specs.declared.refusal.Refusal.{Refusal}
 use Rattle.circuit.specs.Refusal.{refusal}
-use Rattle.circuit.specs.Outcome.{Outcome, served, refused, demand, andThen, written, Untouched, Yields}
+use Rattle.circuit.specs.Outcome.{Outcome, served, refused, demand, andThen, Wrong, before, then, Fails, fails, written, Untouched, Yields}
 
 -- an outcome is served or refused, and not both
 pub never : {A : Type 0} {o : Outcome A} {a : A} {number place : ℕ} → o ≡ served a → o ≡ refused number place → ⊥
@@ -67,6 +68,40 @@ module _ (F : ℕ → ℕ → Type 0) where
       → (x y : ℕ) → demand test number place (served value) ≡ refused x y → F x y
   last-failed true number place value p x y e = absurd (never refl e)
   last-failed false number place value p x y e = same-refusal e (p refl)
+
+-- a call that goes on after a first one is refused exactly by what is wrong before, or then
+module _ {A B : Type 0} (first : Outcome A) (more : A → Outcome B) (Before : ℕ → ℕ → Type 0) (Good : A → Type 0) (Then : A → ℕ → ℕ → Type 0)
+    (refusals : (x y : ℕ) → (first ≡ refused x y) ↔ Before x y) (values : (a : A) → (first ≡ served a) ↔ Good a)
+    (later : (a : A) → Good a → (x y : ℕ) → (more a ≡ refused x y) ↔ Then a x y) where
+  pub wrong-refused : (x y : ℕ) → (andThen first more ≡ refused x y) ↔ Wrong Before Good Then x y
+  wrong-refused x y = (told-wrong, wrong-told)
+    where
+      told-wrong : andThen first more ≡ refused x y → Wrong Before Good Then x y
+      told-wrong =
+          then-either (Wrong Before Good Then) first more (λ u v p. before (refusals u v .0 p))
+          (λ a p u v q. let g = values a .0 p in then a g (later a g u v .0 q)) x y
+
+      wrong-told : Wrong Before Good Then x y → andThen first more ≡ refused x y
+      wrong-told (before w) = then-refused first more x y (refusals x y .1 w)
+      wrong-told (then a g w) = then-served first more a (values a .1 g) ∙ later a g x y .1 w
+
+  -- and served exactly where both are
+  pub good-served : (b : B) → (andThen first more ≡ served b) ↔ ((a : A) × (Good a) × (more a ≡ served b))
+  good-served b = (
+    (λ e. let (a, p, q) = then-both first more b e in (a, values a .0 p, q)),
+    (λ (a, g, q). then-served first more a (values a .1 g) ∙ q),
+  )
+
+-- a last test is refused exactly where it fails
+pub fails-refused : {A : Type 0} (test : Bool) (number place : ℕ) (value : A) (Bad : Type 0) → (test ≡ false) ↔ Bad
+    → (x y : ℕ) → (demand test number place (served value) ≡ refused x y) ↔ Fails Bad number place x y
+fails-refused test number place value Bad is x y = (
+  last-failed (Fails Bad number place) test number place value (λ t. fails (is .0 t)) x y,
+  back x y,
+)
+  where
+    back : (x y : ℕ) → Fails Bad number place x y → demand test number place (served value) ≡ refused x y
+    back _ _ (fails b) = demand-failed test number place (served value) (is .1 b)
 
 -- the buffer of a served call, and of a refused one
 pub written-served : {A B : Type 0} (front out : List B) (o : Outcome A) (a : A) → o ≡ served a → written o front out ≡ over front out

@@ -123,17 +123,17 @@ closedGate i ended t cs =
     (demand (not (among t cs)) targetControlled i
     (demand (risingFrom 0 cs) notRising i (served (gateOf t cs))))
 
--- by its fields: 6 for the 1,025th line that starts `g` tab, then 1, 3 by field, 4, 5; gate lines have the indices 1 to 1,024
-unfoldable pub gateFields : ℕ → ℕ → Bool → List (List ℕ) → Outcome Gate
-gateFields n i ended [] = refused wrongForm i
-gateFields n i ended (f ∷ []) = refused wrongForm i
-gateFields n i ended (f ∷ t ∷ fs) =
+-- by its fields, after so many gate lines: 6 for the 1,025th line that starts `g` tab, then 1, 3 by field, 4, 5
+unfoldable pub gateFields : ℕ → ℕ → ℕ → Bool → List (List ℕ) → Outcome Gate
+gateFields n i count ended [] = refused wrongForm i
+gateFields n i count ended (f ∷ []) = refused wrongForm i
+gateFields n i count ended (f ∷ t ∷ fs) =
     demand (same f gateWord) wrongForm i
-    (demand (leb i maxGates) tooManyGates i
+    (demand (ltb count maxGates) tooManyGates i
     (andThen (lineOf n i t) (λ k. andThen (controlsFrom n i [] fs) (closedGate i ended k))))
 
-abbrev pub gateOn : ℕ → ℕ → Line → Outcome Gate
-gateOn n i l = gateFields n i (l .ended) (fieldsOf (l .bytes))
+abbrev pub gateOn : ℕ → ℕ → ℕ → Line → Outcome Gate
+gateOn n i count l = gateFields n i count (l .ended) (fieldsOf (l .bytes))
 
 -- ---- the whole text
 
@@ -161,18 +161,18 @@ pub record Reading : Type 0 where
   pub gates : List Gate
   pub taken : ℕ
 
--- from line `length gs + 1` on, after the gates gs and `at` bytes
-unfoldable pub readFrom : ℕ → List Gate → ℕ → List Line → Outcome Reading
-readFrom n gs at [] = refused wrongForm (length gs + 1)
-readFrom n gs at (l ∷ ls) =
+-- from line `length gs + first` on, after the gates gs, whose lines start at line `first`, and `at` bytes
+unfoldable pub readFrom : ℕ → ℕ → List Gate → ℕ → List Line → Outcome Reading
+readFrom n first gs at [] = refused wrongForm (length gs + first)
+readFrom n first gs at (l ∷ ls) =
     cond (isEnd l) (served (record { lines = n; gates = gs; taken = at + lineSize l }))
-    (andThen (gateOn n (length gs + 1) l) (λ g. readFrom n (gs ++ (g ∷ [])) (at + lineSize l) ls))
+    (andThen (gateOn n (length gs + first) (length gs) l) (λ g. readFrom n first (gs ++ (g ∷ [])) (at + lineSize l) ls))
 
--- lines from the top
+-- lines from the top; gate lines start at line 1
 unfoldable pub reading : List ℕ → Outcome Reading
 reading text =
     andThen (headerOn (firstLine (linesOf text))) (λ n.
-    readFrom n [] (lineSize (firstLine (linesOf text))) (laterLines (linesOf text)))
+    readFrom n 1 [] (lineSize (firstLine (linesOf text))) (laterLines (linesOf text)))
 
 -- ---- the two calls
 

@@ -67,27 +67,27 @@ pub record GoodFields (n : ℕ) (l : Line) (k : ℕ) (cs : List Control) : Type 
   pub target : k < n
   pub controls : Inside n cs
 
--- line i after the header
-pub data LineOffence (n i : ℕ) (l : Line) : ℕ → Type 0 where
+-- line i, after the header and so many gate lines
+pub data LineOffence (n i count : ℕ) (l : Line) : ℕ → Type 0 where
   -- it does not start `g` tab, and is not `end` with its LF
-  no-gate : ((t : List ℕ) (fs : List (List ℕ)) → fieldsOf (l .bytes) ≡ gateWord ∷ t ∷ fs → ⊥) → (l .bytes ≡ endWord → l .ended ≡ true → ⊥) → LineOffence n i l wrongForm
+  no-gate : ((t : List ℕ) (fs : List (List ℕ)) → fieldsOf (l .bytes) ≡ gateWord ∷ t ∷ fs → ⊥) → (l .bytes ≡ endWord → l .ended ≡ true → ⊥) → LineOffence n i count l wrongForm
   -- it starts `g` tab, and 1,024 gate lines stand before it
-  many : (t : List ℕ) (fs : List (List ℕ)) → fieldsOf (l .bytes) ≡ gateWord ∷ t ∷ fs → maxGates < i → LineOffence n i l tooManyGates
+  many : (t : List ℕ) (fs : List (List ℕ)) → fieldsOf (l .bytes) ≡ gateWord ∷ t ∷ fs → maxGates ≤ count → LineOffence n i count l tooManyGates
   -- the target's form, its value, then the controls
-  target-form : (t : List ℕ) (fs : List (List ℕ)) → fieldsOf (l .bytes) ≡ gateWord ∷ t ∷ fs → i ≤ maxGates → ((k : ℕ) → NumberField t k → ⊥) → LineOffence n i l wrongForm
-  target-value : (t : List ℕ) (fs : List (List ℕ)) → fieldsOf (l .bytes) ≡ gateWord ∷ t ∷ fs → i ≤ maxGates → (k : ℕ) → NumberField t k → n ≤ k → LineOffence n i l lineOutside
-  controls : (t : List ℕ) (fs : List (List ℕ)) → fieldsOf (l .bytes) ≡ gateWord ∷ t ∷ fs → i ≤ maxGates → (k : ℕ) → NumberField t k → k < n
-      → (number : ℕ) → ControlsOffence n fs number → LineOffence n i l number
+  target-form : (t : List ℕ) (fs : List (List ℕ)) → fieldsOf (l .bytes) ≡ gateWord ∷ t ∷ fs → count < maxGates → ((k : ℕ) → NumberField t k → ⊥) → LineOffence n i count l wrongForm
+  target-value : (t : List ℕ) (fs : List (List ℕ)) → fieldsOf (l .bytes) ≡ gateWord ∷ t ∷ fs → count < maxGates → (k : ℕ) → NumberField t k → n ≤ k → LineOffence n i count l lineOutside
+  controls : (t : List ℕ) (fs : List (List ℕ)) → fieldsOf (l .bytes) ≡ gateWord ∷ t ∷ fs → count < maxGates → (k : ℕ) → NumberField t k → k < n
+      → (number : ℕ) → ControlsOffence n fs number → LineOffence n i count l number
   -- all fields are good: a missing LF, the target among its controls, controls that do not rise
-  no-end : (k : ℕ) (cs : List Control) → GoodFields n l k cs → i ≤ maxGates → l .ended ≡ false → LineOffence n i l wrongForm
-  controlled : (k : ℕ) (cs : List Control) → GoodFields n l k cs → i ≤ maxGates → l .ended ≡ true → Among k cs → LineOffence n i l targetControlled
-  not-rising : (k : ℕ) (cs : List Control) → GoodFields n l k cs → i ≤ maxGates → l .ended ≡ true → (Among k cs → ⊥) → NotRising cs → LineOffence n i l notRising
+  no-end : (k : ℕ) (cs : List Control) → GoodFields n l k cs → count < maxGates → l .ended ≡ false → LineOffence n i count l wrongForm
+  controlled : (k : ℕ) (cs : List Control) → GoodFields n l k cs → count < maxGates → l .ended ≡ true → Among k cs → LineOffence n i count l targetControlled
+  not-rising : (k : ℕ) (cs : List Control) → GoodFields n l k cs → count < maxGates → l .ended ≡ true → (Among k cs → ⊥) → NotRising cs → LineOffence n i count l notRising
 
 -- the lines before are good, and the line or the missing line after them is not
 pub data FileRefused (text : List ℕ) : ℕ → ℕ → Type 0 where
   header-line : (number : ℕ) → HeaderOffence (firstLine (linesOf text)) number → FileRefused text number 0
   later-line : (n : ℕ) (gs : List Gate) (rest : List ℕ) → FileCascade n gs → text ≡ headerLine n ++ (gateLines gs ++ rest)
-      → (number : ℕ) → LineOffence n (length gs + 1) (firstLine (linesOf rest)) number → FileRefused text number (length gs + 1)
+      → (number : ℕ) → LineOffence n (length gs + 1) (length gs) (firstLine (linesOf rest)) number → FileRefused text number (length gs + 1)
 
 -- ---- the laws, of any reader
 

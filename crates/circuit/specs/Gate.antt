@@ -1,7 +1,7 @@
 -- A gate: its record, its effect on a state, and its limits, by document 01.
 use mathlib.Core.Bool.{Bool, true, false, not, cond, _&&_}
 use mathlib.Core.List.{List, [], _∷_, _++_}
-use Prim.Native.Nat.{ℕ, zero, suc, _+_, _^_}
+use Prim.Native.Nat.{ℕ, zero, suc, _+_, _%_, _^_}
 use lib.Dec.{eqb, ltb}
 use lib.Bits.{bitAnd, bitOr, bitXor}
 use lib.Count.{ones}
@@ -41,6 +41,11 @@ inverted g s = cond (fires g s) (bitXor s (2 ^ g .target)) s
 -- the state after the gate; the same one if the record is no gate on 64 lines
 unfoldable pub apply : Gate → ℕ → ℕ
 apply g s = cond (valid maxLines g) (inverted g s) s
+
+-- the same without a test of the record, for those that were tested: no control is missed, by one mask
+unfoldable pub toggled : Gate → ℕ → ℕ
+toggled g s =
+    cond (eqb (bitAnd (bitXor s (g .positive)) (bitOr (g .positive) (g .negative))) 0) (bitXor s (2 ^ (g .target % maxLines))) s
 
 -- the number of set bits in both masks
 unfoldable pub controlCount : Gate → ℕ

@@ -10,11 +10,11 @@ use lib.ListN.{length, take, drop}
 use Rattle.bits.specs.Digits.{bit, linesIn}
 use Rattle.bits.specs.Lists.{over}
 use Rattle.circuit.specs.declared.gate.Gate.{Gate}
-use Rattle.circuit.specs.Gate.{maxLines, maxGates, notGate, valid, fires, apply, controlCount, controlsOf, allMet}
+use Rattle.circuit.specs.Gate.{maxLines, maxGates, notGate, valid, fires, apply, toggled, controlCount, controlsOf, allMet}
 use Rattle.circuit.specs.Outcome.{served, refused, Untouched, Yields}
+use Rattle.circuit.specs.Words.{gatesOf, wordsOf, allValid, checkOutcome, Cascade, Counts, pairOutcome, WordsRefused, PairRefused}
+use Rattle.circuit.specs.Run.{run, runTested, Equal, Differs, runOutcome, recordsOutcome}
 use Rattle.circuit.specs.Refusal.{badState, noRoom}
-use Rattle.circuit.specs.Words.{gatesOf, wordsOf, allValid, checkOutcome, Cascade, WordsRefused, Counts, pairOutcome, PairRefused}
-use Rattle.circuit.specs.Run.{run, Equal, Differs, runOutcome, recordsOutcome}
 use Rattle.circuit.specs.Inverse.{inverse, inverseOutcome, inverseBuffer}
 use Rattle.circuit.specs.FileLaws.{FileLaws}
 
@@ -41,6 +41,8 @@ pub record GateLaws : Type 0 where
   pub apply-line : (g : Gate) (s k : ℕ) → valid maxLines g ≡ true → bit (apply g s) k ≡ xor (bit s k) (fires g s && eqb k (g .target))
   pub apply-none : (g : Gate) (s : ℕ) → valid maxLines g ≡ false → apply g s ≡ s
   pub apply-not : (t s : ℕ) → t < maxLines → apply (notGate t) s ≡ bitXor s (2 ^ t)
+  -- of a gate that was tested
+  pub toggled-apply : (g : Gate) (s : ℕ) → valid maxLines g ≡ true → toggled g s ≡ apply g s
   pub apply-twice : (g : Gate) (s : ℕ) → apply g (apply g s) ≡ s
   pub apply-below : (n : ℕ) (g : Gate) (s : ℕ) → valid n g ≡ true → s < 2 ^ n → apply g s < 2 ^ n
   -- the control count is the number of lines in either mask
@@ -84,6 +86,8 @@ pub record CascadeLaws : Type 0 where
   -- a run of two cascades in a row, and its bound
   pub run-append : (a b : List Gate) (s : ℕ) → run (a ++ b) s ≡ run b (run a s)
   pub run-below : (n : ℕ) (gs : List Gate) → allValid n gs ≡ true → (s : ℕ) → s < 2 ^ n → run gs s < 2 ^ n
+  -- of gates that were tested
+  pub run-tested : (gs : List Gate) → allValid maxLines gs ≡ true → (s : ℕ) → runTested gs s ≡ run gs s
   -- a run is served exactly for a cascade and a state, with the output; and refused exactly by what is wrong
   pub run-served : (n : ℕ) (ws : List ℕ) (s t : ℕ) → (runOutcome n ws s ≡ served t) ↔ ((k : ℕ) × (Cascade n ws maxGates k) × (s < 2 ^ n) × (t ≡ run (gatesOf ws) s))
   pub run-refused : (n : ℕ) (ws : List ℕ) (s number place : ℕ) → (runOutcome n ws s ≡ refused number place) ↔ RunRefused n ws s number place

@@ -19,6 +19,15 @@ abbrev pub andThen : {A B : Type 0} → Outcome A → (A → Outcome B) → Outc
 andThen (served a) more = more a
 andThen (refused number place) more = refused number place
 
+-- why a call is refused that goes on after a first one: for what is wrong before; or, where the first one serves a value, for what is wrong then
+pub data Wrong {A : Type 0} (Before : ℕ → ℕ → Type 0) (Good : A → Type 0) (Then : A → ℕ → ℕ → Type 0) : ℕ → ℕ → Type 0 where
+  before : {number place : ℕ} → Before number place → Wrong Before Good Then number place
+  then : (a : A) → Good a → {number place : ℕ} → Then a number place → Wrong Before Good Then number place
+
+-- one thing is wrong, and has this number and place
+pub data Fails (Bad : Type 0) (number place : ℕ) : ℕ → ℕ → Type 0 where
+  fails : Bad → Fails Bad number place number place
+
 -- a buffer after the call: the answer at its start and the rest as it was, or untouched by a refusal
 abbrev pub written : {A B : Type 0} → Outcome A → List B → List B → List B
 written (served a) front out = over front out

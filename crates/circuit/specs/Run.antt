@@ -8,7 +8,7 @@ use Rattle.bits.specs.Lists.{fold}
 use Rattle.circuit.specs.declared.gate.Gate.{Gate}
 use Rattle.circuit.specs.declared.run.RunAnswer.{RunAnswer}
 use Rattle.circuit.specs.declared.run.RunAnswer.the-variants.{State, Refused}
-use Rattle.circuit.specs.Gate.{maxGates, apply}
+use Rattle.circuit.specs.Gate.{maxGates, apply, toggled}
 use Rattle.circuit.specs.Outcome.{Outcome, served, refused, demand, andThen}
 use Rattle.circuit.specs.Refusal.{badLineCount, tooManyGates, badState}
 use Rattle.circuit.specs.Words.{gatesOf, lineCountGood, validFrom, checkOutcome}
@@ -16,6 +16,10 @@ use Rattle.circuit.specs.Words.{gatesOf, lineCountGood, validFrom, check
 -- the output state
 abbrev pub run : List Gate → ℕ → ℕ
 run gates state = fold apply gates state
+
+-- the same for gates that were tested
+abbrev pub runTested : List Gate → ℕ → ℕ
+runTested gates state = fold toggled gates state
 
 -- two cascades on n lines give the same output on every state
 abbrev pub Equal : ℕ → List Gate → List Gate → Type 0

@@ -43,15 +43,15 @@ pub enum WriteAnswer {
     Refused(Refusal),
 }
 
-// The counts of a cascade on n lines whose gate lines start at a position; else 1, 3, 4, 5 or 6 by line.
-fn judge(text: &[u8], n: u64, start: usize) -> ReadAnswer
-    requires { ⌜ (start ≤ length (now text)) × (n ≤ maxLines) ⌝ }
-    ensures { λ r. ⌜ ofRead r ≡ countsFrom n start (now (text .entry)) ⌝ }
+// The counts of a cascade on n lines whose gate lines start at line `first` and at a position; else 1, 3, 4, 5 or 6 by line.
+fn judge(text: &[u8], n: u64, first: u64, start: usize) -> ReadAnswer
+    requires { ⌜ (first ≤ start) × (start ≤ length (now text)) × (n ≤ maxLines) ⌝ }
+    ensures { λ r. ⌜ ofRead r ≡ countsFrom n first start (now (text .entry)) ⌝ }
 {
     let mut at = start;
     let mut gates = 0;
     while !crate::file::scan::ends(text, at) {
-        match crate::file::scan::gate_line(text, at, n, gates as u64 + 1) {
+        match crate::file::scan::gate_line(text, at, n, gates as u64 + first, gates) {
             GateAnswer::Refused(why) => {
                 return ReadAnswer::Refused(why);
             }
@@ -74,7 +74,7 @@ pub fn read(text: &[u8], out: &mut [u64]) -> ReadAnswer
 {
     match crate::file::scan::header(text) {
         HeaderAnswer::Refused(why) => ReadAnswer::Refused(why),
-        HeaderAnswer::Lines { lines, next } => match judge(text, lines, next) {
+        HeaderAnswer::Lines { lines, next } => match judge(text, lines, 1, next) {
             ReadAnswer::Refused(why) => ReadAnswer::Refused(why),
             ReadAnswer::Cascade {
                 header,

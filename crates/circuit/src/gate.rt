@@ -2,11 +2,12 @@
 
 ghost use mathlib.Core.Path.{_≡_};
 ghost use mathlib.Core.Bool.{true};
-ghost use Prim.Native.Nat.{_-_, _^_, _<_, _≤_};
+ghost use Prim.Native.Nat.{_-_, _%_, _^_, _≤_};
 ghost use lib.Dec.{eqb, ltb};
 ghost use lib.Bits.{bitAnd};
 ghost use lib.Count.{ones, trailingZeros};
-ghost use Rattle.circuit.specs.Gate.{maxLines, notGate, fires, inverted, apply, valid, controlCount};
+ghost use Rattle.bits.specs.Digits.{bit};
+ghost use Rattle.circuit.specs.Gate.{maxLines, notGate, fires, apply, toggled, valid, controlCount};
 
 #[repr(C)]
 pub struct Gate {
@@ -32,22 +33,28 @@ pub fn below(mask: u64, n: u64) -> bool
     (mask & above(n)) == 0
 }
 
-// The mask of line k alone.
-pub(crate) fn line(k: u64) -> u64
-    requires { ⌜ k < maxLines ⌝ }
-    ensures { λ r. ⌜ r ≡ 2 ^ k ⌝ }
+// The mask of line k alone; for 64 and above, that of the rest of k by 64.
+pub fn line(k: u64) -> u64
+    ensures { λ r. ⌜ r ≡ 2 ^ (k % maxLines) ⌝ }
 {
-    1 << k
+    1 << (k % Gate::MAX_LINES)
+}
+
+// Whether line k stands in the mask; for 64 and above, the line of the rest of k by 64.
+pub fn has(mask: u64, k: u64) -> bool
+    ensures { λ r. ⌜ r ≡ bit mask (k % maxLines) ⌝ }
+{
+    (mask >> (k % Gate::MAX_LINES)) % 2 == 1
 }
 
 // Whether line k does not stand in the mask.
 fn clear(mask: u64, k: u64) -> bool
     ensures { λ r. ⌜ r ≡ eqb (bitAnd mask (2 ^ k)) 0 ⌝ }
 {
-    if (mask >> (k % Gate::MAX_LINES)) % 2 == 0 {
-        return true;
+    if has(mask, k) {
+        return Gate::MAX_LINES <= k;
     }
-    Gate::MAX_LINES <= k
+    true
 }
 
 // How many bits of the mask are set.
@@ -121,16 +128,15 @@ impl Gate {
         (((state & positive) ^ positive) | (state & negative)) == 0
     }
 
-    // The state with the target inverted where the gate fires.
-    pub(crate) fn invert(self, state: u64) -> u64
-        requires { ⌜ valid maxLines self ≡ true ⌝ }
-        ensures { λ r. ⌜ r ≡ inverted self state ⌝ }
+    // The state after a gate that was tested: the target is inverted where no control is missed.
+    pub fn toggle(self, state: u64) -> u64
+        ensures { λ r. ⌜ r ≡ toggled self state ⌝ }
     {
         let positive = self.positive;
         let negative = self.negative;
         let target = self.target;
         let missed = (state ^ positive) & (positive | negative);
-        state ^ (((missed == 0) as u64) << target)
+        state ^ (((missed == 0) as u64) << (target % Gate::MAX_LINES))
     }
 
     // The state after the gate; the same one if the record is no gate on 64 lines.
@@ -138,7 +144,7 @@ impl Gate {
         ensures { λ r. ⌜ r ≡ apply self state ⌝ }
     {
         if self.valid(Gate::MAX_LINES) {
-            return self.invert(state);
+            return self.toggle(state);
         }
         state
     }

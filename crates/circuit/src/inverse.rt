@@ -4,20 +4,19 @@ use crate::gate::Gate;
 use crate::refusal::Refusal;
 use crate::words::CountAnswer;
 ghost use mathlib.Core.Path.{_≡_};
-ghost use Prim.Native.Nat.{_≤_, _%_};
 ghost use lib.ListN.{length};
-ghost use Rattle.bits.specs.Lists.{over};
 ghost use Rattle.circuit.specs.Outcome.{Yields};
-ghost use Rattle.circuit.specs.Words.{gatesOf, wordsOf, ofCount};
-ghost use Rattle.circuit.specs.Inverse.{inverse, inverseOutcome, inverseBuffer};
+ghost use Rattle.circuit.specs.Words.{ofCount};
+ghost use Rattle.circuit.specs.Inverse.{putInverse, inverseOutcome, inverseBuffer};
 
-// Writes the gates in reverse order at the buffer's start.
-fn put_reversed(words: &[u64], out: &mut [u64])
-    requires { ⌜ length (now words) % 3 ≡ 0 ⌝ }
-    requires { ⌜ length (now words) ≤ length (now out) ⌝ }
-    ensures { λ _. ⌜ now (out .exit) ≡ over (wordsOf (inverse (gatesOf (now (words .entry))))) (now (out .entry)) ⌝ }
+// Writes the whole gates of the words in reverse order at the buffer's start; nothing where they do not fit.
+pub fn put_inverse(words: &[u64], out: &mut [u64])
+    ensures { λ _. ⌜ now (out .exit) ≡ putInverse (now (words .entry)) (now (out .entry)) ⌝ }
 {
     let mut j = words.len() / Gate::WORDS;
+    if out.len() / Gate::WORDS < j {
+        return;
+    }
     let mut at = 0;
     while 0 < j {
         j -= 1;
@@ -36,7 +35,7 @@ pub fn inverse(n: u64, words: &[u64], out: &mut [u64]) -> CountAnswer
             if out.len() < words.len() {
                 return CountAnswer::Refused(Refusal::no_room());
             }
-            put_reversed(words, out);
+            put_inverse(words, out);
             CountAnswer::Gates(gates)
         }
     }

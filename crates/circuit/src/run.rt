@@ -8,7 +8,7 @@ ghost use Prim.Native.Nat.{_≤_};
 ghost use Rattle.circuit.specs.Gate.{maxLines};
 ghost use Rattle.circuit.specs.Outcome.{served, andThen};
 ghost use Rattle.circuit.specs.Words.{gatesOf, validFrom};
-ghost use Rattle.circuit.specs.Run.{run, runOutcome, ofRun, recordsOutcome};
+ghost use Rattle.circuit.specs.Run.{run, runTested, runOutcome, ofRun, recordsOutcome};
 ghost use Rattle.circuit.specs.private.Records.{begun, goesOn, advanced, ended};
 
 // The output state, or a refusal.
@@ -52,7 +52,7 @@ impl RunAnswer {
                 if !gate.valid(n) {
                     return RunAnswer::Refused(Refusal::no_gate(index as u64));
                 }
-                RunAnswer::State(gate.invert(state))
+                RunAnswer::State(gate.toggle(state))
             }
         }
     }
@@ -73,15 +73,15 @@ impl RunAnswer {
     }
 }
 
-// The state after all gates of the words; a record that is no gate on 64 lines does nothing.
-pub fn run_words(words: &[u64], state: u64) -> u64
-    ensures { λ r. ⌜ r ≡ run (gatesOf (now (words .entry))) state ⌝ }
+// The state after all gates of the words, which were tested.
+pub fn run_tested(words: &[u64], state: u64) -> u64
+    ensures { λ r. ⌜ r ≡ runTested (gatesOf (now (words .entry))) state ⌝ }
 {
     let gates = words.len() / Gate::WORDS;
     let mut s = state;
     let mut i = 0;
     while i < gates {
-        s = crate::words::gate_at(words, i).apply(s);
+        s = crate::words::gate_at(words, i).toggle(s);
         i += 1;
     }
     s
@@ -100,7 +100,7 @@ fn run_gates(n: u64, words: &[u64], state: u64) -> RunAnswer
         if !g.valid(n) {
             return RunAnswer::Refused(Refusal::no_gate(i as u64));
         }
-        s = g.invert(s);
+        s = g.toggle(s);
         i += 1;
     }
     RunAnswer::State(s)

@@ -98,19 +98,19 @@ controls-number n _ _ (form _ _ _) = omega arith
 controls-number n _ _ (value _ _ _ _ _) = omega arith
 controls-number n _ number (later _ fs _ _ _ _ o) = controls-number n fs number o
 
-line-number : (n i : ℕ) (l : Line) (number : ℕ) → LineOffence n i l number → number < 100
-line-number n i l _ (no-gate _ _) = omega arith
-line-number n i l _ (many _ _ _ _) = omega arith
-line-number n i l _ (target-form _ _ _ _ _) = omega arith
-line-number n i l _ (target-value _ _ _ _ _ _ _) = omega arith
-line-number n i l number (controls _ fs _ _ _ _ _ _ o) = controls-number n fs number o
-line-number n i l _ (laws.LineOffence.no-end _ _ _ _ _) = omega arith
-line-number n i l _ (controlled _ _ _ _ _ _) = omega arith
-line-number n i l _ (not-rising _ _ _ _ _ _ _) = omega arith
+line-number : (n i count : ℕ) (l : Line) (number : ℕ) → LineOffence n i count l number → number < 100
+line-number n i count l _ (no-gate _ _) = omega arith
+line-number n i count l _ (many _ _ _ _) = omega arith
+line-number n i count l _ (target-form _ _ _ _ _) = omega arith
+line-number n i count l _ (target-value _ _ _ _ _ _ _) = omega arith
+line-number n i count l number (controls _ fs _ _ _ _ _ _ o) = controls-number n fs number o
+line-number n i count l _ (laws.LineOffence.no-end _ _ _ _ _) = omega arith
+line-number n i count l _ (controlled _ _ _ _ _ _) = omega arith
+line-number n i count l _ (not-rising _ _ _ _ _ _ _) = omega arith
 
 fault-small : (text : List ℕ) (number place : ℕ) → FileRefused text number place → (number < 100) × (place < 10000)
 fault-small text _ _ (header-line number o) = (header-number _ number o, omega arith)
-fault-small text _ _ (later-line n gs rest good starts number o) = (line-number n _ _ number o, omega (arith, good .few))
+fault-small text _ _ (later-line n gs rest good starts number o) = (line-number n _ _ _ number o, omega (arith, good .few))
 
 -- ---- every verdict
 

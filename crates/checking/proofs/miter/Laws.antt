@@ -18,11 +18,11 @@ use Rattle.circuit.specs.Outcome.{Outcome, served, refused, written, Untouched,
 use Rattle.circuit.specs.Refusal.{noRoom}
 use Rattle.circuit.specs.Words.{gatesOf, wordsOf, allValid, Counts, pairOutcome}
 use Rattle.circuit.specs.Run.{run}
-use Rattle.circuit.specs.Inverse.{inverse, inverseBuffer}
-use Rattle.circuit.proofs.Outcome.{never, told, written-refused, demand-met, demand-failed, demanded, then-served, then-refused, then-both}
+use Rattle.circuit.specs.Inverse.{inverse, putInverse}
+use Rattle.circuit.proofs.Outcome.{never, told, demand-met, demand-failed, demanded, then-served, then-refused, then-both, written-refused}
 use Rattle.circuit.proofs.words.Laws.{gates-length, gates-words, words-gates, words-append, words-length, valid-append, served-check, pair-served, served-pair, pair-refused, refused-pair}
 use Rattle.circuit.proofs.run.Laws.{run-append}
-use Rattle.circuit.proofs.inverse.Laws.{run-inverse, inverse-run, inverse-valid, inverse-written}
+use Rattle.circuit.proofs.inverse.Laws.{run-inverse, inverse-run, inverse-valid, put-fits}
 use Rattle.checking.specs.Miter.{miterGates, miterOutcome, miterBuffer}
 use Rattle.checking.specs.MiterLaws.{MiterServed, MiterRefused, miter-pair, short, MiterStands, MiterLaws}
 
@@ -64,7 +64,7 @@ module _ (na : ℕ) (a : List ℕ) (nb : ℕ) (b : List ℕ) where
 
   -- after the copy the rest of the buffer takes the inverse
   pub miter-written : (c : Counts) → pairOutcome na a nb b ≡ served c → (out mid last : List ℕ) → length a + length b ≤ length out → mid ≡ over a out
-      → last ≡ inverseBuffer nb b (take (length mid - length a) (drop (length a) mid))
+      → last ≡ putInverse b (take (length mid - length a) (drop (length a) mid))
       → putMid (length a) (length mid - length a) mid last ≡ over front out
   miter-written c good out mid last room e l =
       let (p, q, s) = pair-served na a nb b c good in
@@ -74,7 +74,7 @@ module _ (na : ℕ) (a : List ℕ) (nb : ℕ) (b : List ℕ) where
       let w : length a % 3 ≡ 0 = omega arith in
       let f : a ++ wordsOf (inverse (gatesOf b)) ≡ front = sym (words-append (gatesOf a) (inverse (gatesOf b)) ∙ ap (λ (x : List ℕ). x ++ wordsOf (inverse (gatesOf b))) (words-gates a w)) in
       lent-over a (wordsOf (inverse (gatesOf b))) out mid last (length a) e refl (omega arith)
-      (l ∙ inverse-written nb b (take (length mid - length a) (drop (length a) mid)) (c .second) (served-check nb b maxGates (c .second) q) (omega arith))
+      (l ∙ put-fits b (take (length mid - length a) (drop (length a) mid)) (omega arith))
       ∙ ap (λ (x : List ℕ). over x out) f
 
   -- served exactly for valid pairs with room

@@ -31,7 +31,7 @@ pub data TextFound (text : List ℕ) : Outcome Reading → Type 0 where
 
 module _ (text : List ℕ) where
   after-header : (n : ℕ) → 1 ≤ n → n ≤ maxLines → firstLine (linesOf text) .bytes ≡ headerText n → Cut text (firstLine (linesOf text)) (laterLines (linesOf text))
-      → (o : Outcome Reading) → Walked n [] (lineSize (firstLine (linesOf text))) (drop (lineSize (firstLine (linesOf text))) text) o → TextFound text o
+      → (o : Outcome Reading) → Walked n 1 [] (lineSize (firstLine (linesOf text))) (drop (lineSize (firstLine (linesOf text))) text) o → TextFound text o
   after-header n low high b c o (whole-text hs rest q w m) =
       let l = firstLine (linesOf text) in
       let z : length (numberText n ++ (lineFeed ∷ [])) ≡ length (numberText n) + 1 = length-append (numberText n) (lineFeed ∷ []) in
@@ -51,24 +51,24 @@ module _ (text : List ℕ) where
       c .text
       ∙ ap₂ (λ (x y : List ℕ). x ++ (lineFeed ∷ y)) b q
       ∙ ap (λ (x : List ℕ). linesWord ++ (tab ∷ x)) (sym (append-assoc (numberText n) (lineFeed ∷ []) (gateLines hs ++ rest))) in
-      let p : length hs + 1 ≡ 0 + length hs + 1 = omega arith in
-      subst (λ (k : ℕ). TextFound text (refused number k)) p
+      let p : length hs ≡ 0 + length hs = omega arith in
+      subst (λ (k : ℕ). TextFound text (refused number (k + 1))) p
       (fault number (length hs + 1)
       (laws.later-line n hs rest (record { lines-low = low; lines-high = high; few = omega arith; gates = w }) e number
-      (subst (λ (k : ℕ). LineOffence n k (firstLine (linesOf rest)) number) (sym p) x)))
+      (subst (λ (k : ℕ). LineOffence n (k + 1) k (firstLine (linesOf rest)) number) (sym p) x)))
 
   pub text-found : TextFound text (reading text)
   unfolding reading
   text-found = go (headerOn (firstLine (linesOf text))) (header-found (firstLine (linesOf text)))
     where
       go : (o : Outcome ℕ) → HeaderFound (firstLine (linesOf text)) o
-          → TextFound text (andThen o (λ n. readFrom n [] (lineSize (firstLine (linesOf text))) (laterLines (linesOf text))))
+          → TextFound text (andThen o (λ n. readFrom n 1 [] (lineSize (firstLine (linesOf text))) (laterLines (linesOf text))))
       go o (HeaderFound.bad number x) = fault number 0 (laws.header-line number x)
       go o (HeaderFound.good n low high b d) =
           let l = firstLine (linesOf text) in
           let c = cut-first text d in
-          after-header n low high b c (readFrom n [] (lineSize l) (laterLines (linesOf text)))
-          (walked n high (laterLines (linesOf text)) [] (lineSize l) (drop (lineSize l) text) (c .later) (omega arith))
+          after-header n low high b c (readFrom n 1 [] (lineSize l) (laterLines (linesOf text)))
+          (walked n 1 high (laterLines (linesOf text)) [] (lineSize l) (drop (lineSize l) text) (c .later) (omega arith))
 
   served-found : (c : Reading) (o : Outcome Reading) → TextFound text o → o ≡ served c
       → (rest : List ℕ) × (FileCascade (c .lines) (c .gates)) × (text ≡ textOf (c .lines) (c .gates) ++ rest) × (c .taken ≡ length (textOf (c .lines) (c .gates)))
@@ -99,20 +99,20 @@ module _ (text : List ℕ) where
   read-fault number place e = refused-found number place (reading text) text-found e
 
 -- a line that is wrong, or missing, ends the reading
-pub line-refused : (n : ℕ) → n ≤ maxLines → (gs : List Gate) (at : ℕ) (ls : List Line) (number : ℕ) → LineOffence n (length gs + 1) (firstLine ls) number
-    → readFrom n gs at ls ≡ refused number (length gs + 1)
+pub line-refused : (n : ℕ) → n ≤ maxLines → (gs : List Gate) (at : ℕ) (ls : List Line) (number : ℕ) → LineOffence n (length gs + 1) (length gs) (firstLine ls) number
+    → readFrom n 1 gs at ls ≡ refused number (length gs + 1)
 unfolding readFrom
 line-refused n high gs at [] number x =
     let e : _≡_ {A = Outcome Gate} (refused wrongForm (length gs + 1)) (refused number (length gs + 1)) =
-    sym (missing n (length gs + 1)) ∙ offence-refused n (length gs + 1) high noLine number x in
+    sym (missing n (length gs + 1) (length gs)) ∙ offence-refused n (length gs + 1) (length gs) high noLine number x in
     let w : wrongForm ≡ number = cc in
     ap (λ (k : ℕ). refused k (length gs + 1)) w
   where
-    missing : (n i : ℕ) → gateOn n i noLine ≡ refused wrongForm i
-    missing n i = unfold gateFields fieldsOf in refl
+    missing : (n i count : ℕ) → gateOn n i count noLine ≡ refused wrongForm i
+    missing n i count = unfold gateFields fieldsOf in refl
 line-refused n high gs at (l ∷ ls) number x =
-    cond-false (isEnd l) _ _ (offence-open n (length gs + 1) high l number x)
-    ∙ then-refused _ _ number (length gs + 1) (offence-refused n (length gs + 1) high l number x)
+    cond-false (isEnd l) _ _ (offence-open n (length gs + 1) (length gs) high l number x)
+    ∙ then-refused _ _ number (length gs + 1) (offence-refused n (length gs + 1) (length gs) high l number x)
 
 pub fault-read : (text : List ℕ) (number place : ℕ) → FileRefused text number place → reading text ≡ refused number place
 unfolding reading

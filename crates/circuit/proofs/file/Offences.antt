@@ -6,7 +6,7 @@ use Prim.Native.Nat.{ℕ, _+_, _≤_, _<_}
 use native.Mathlib.Omega.{arith}
 use lib.Dec.{eqb, leb, ltb}
 use lib.ListN.{length, drop, length-append}
-use borrow.Author.Tests.{le-leb, lt-leb, lt-ltb, ltb-true, ltb-false, leb-true, leb-false, eqb-true}
+use borrow.Author.Tests.{le-leb, lt-leb, lt-ltb, le-ltb, ltb-true, ltb-false, leb-true, leb-false, eqb-true}
 use Rattle.bits.proofs.Bools.{either, and-parts, both, not-held, refuted, cond-true, cond-false, and-second}
 use Rattle.circuit.specs.declared.gate.Gate.{Gate}
 use Rattle.circuit.specs.Gate.{maxLines, maxGates, valid, Control}
@@ -215,9 +215,9 @@ two-fields l f t fs e =
 not-end : (l : Line) → isEnd l ≡ false → l .bytes ≡ endWord → l .ended ≡ true → ⊥
 not-end l e b d = refuted e (both d (true-same (l .bytes) endWord b))
 
-pub data GateFound (n i : ℕ) (l : Line) : Outcome Gate → Type 0 where
-  good : (g : Gate) → valid n g ≡ true → l .bytes ≡ gateText g → l .ended ≡ true → i ≤ maxGates → GateFound n i l (served g)
-  bad : (number : ℕ) → LineOffence n i l number → GateFound n i l (refused number i)
+pub data GateFound (n i count : ℕ) (l : Line) : Outcome Gate → Type 0 where
+  good : (g : Gate) → valid n g ≡ true → l .bytes ≡ gateText g → l .ended ≡ true → count < maxGates → GateFound n i count l (served g)
+  bad : (number : ℕ) → LineOffence n i count l number → GateFound n i count l (refused number i)
 
 -- the bytes of a gate line by its fields
 gate-bytes : (l : Line) (k : ℕ) (cs : List Control) → fieldsOf (l .bytes) ≡ gateWord ∷ numberText k ∷ map controlText cs → risingFrom 0 cs ≡ true → within maxLines cs ≡ true
@@ -229,32 +229,32 @@ gate-bytes l k cs e r w =
     ∙ ap (λ (x : List ℕ). gateWord ++ (tab ∷ (numberText k ++ x))) (sym (controls-tabbed cs))
     ∙ ap (λ (x : List Control). gateWord ++ (tab ∷ (numberText k ++ controlsText x))) (sym (controls-gate k cs r w))
 
-module _ (n i : ℕ) (lines-high : n ≤ maxLines) (l : Line) where
-  closed-found : (k : ℕ) (cs : List Control) → GoodFields n l k cs → i ≤ maxGates → GateFound n i l (closedGate i (l .ended) k cs)
+module _ (n i count : ℕ) (lines-high : n ≤ maxLines) (l : Line) where
+  closed-found : (k : ℕ) (cs : List Control) → GoodFields n l k cs → count < maxGates → GateFound n i count l (closedGate i (l .ended) k cs)
   unfolding closedGate
   closed-found k cs h few =
       let w : within n cs ≡ true = inside-within n cs (h .controls) in
       either (l .ended)
       (λ d.
-      subst (GateFound n i l) (sym (demand-met {A = Gate} _ _ _ _ d))
+      subst (GateFound n i count l) (sym (demand-met {A = Gate} _ _ _ _ d))
       (either (among k cs)
-      (λ a. subst (GateFound n i l) (sym (demand-failed {A = Gate} _ _ _ _ (ap not a))) (bad 4 (laws.controlled k cs h few d (among-true k cs a))))
+      (λ a. subst (GateFound n i count l) (sym (demand-failed {A = Gate} _ _ _ _ (ap not a))) (bad 4 (laws.controlled k cs h few d (among-true k cs a))))
       (λ a.
-      subst (GateFound n i l) (sym (demand-met {A = Gate} _ _ _ _ (ap not a)))
+      subst (GateFound n i count l) (sym (demand-met {A = Gate} _ _ _ _ (ap not a)))
       (either (risingFrom 0 cs)
       (λ r.
-      subst (GateFound n i l) (sym (demand-met {A = Gate} _ _ _ _ r))
+      subst (GateFound n i count l) (sym (demand-met {A = Gate} _ _ _ _ r))
       (good (gateOf k cs) (controls-valid n k cs (h .target) w a r) (gate-bytes l k cs (h .fields) r (within-more n maxLines cs lines-high w)) d few))
       (λ r.
-      subst (GateFound n i l) (sym (demand-failed {A = Gate} _ _ _ _ r))
+      subst (GateFound n i count l) (sym (demand-failed {A = Gate} _ _ _ _ r))
       (bad 5 (laws.not-rising k cs h few d (λ x. refuted a (true-among k cs x)) (not-rising cs r))))))))
-      (λ d. subst (GateFound n i l) (sym (demand-failed {A = Gate} _ _ _ _ d)) (bad 1 (laws.no-end k cs h few d)))
+      (λ d. subst (GateFound n i count l) (sym (demand-failed {A = Gate} _ _ _ _ d)) (bad 1 (laws.no-end k cs h few d)))
 
-  rest-found : (t : List ℕ) (fs : List (List ℕ)) → fieldsOf (l .bytes) ≡ gateWord ∷ t ∷ fs → i ≤ maxGates
-      → GateFound n i l (andThen (lineOf n i t) (λ k. andThen (controlsFrom n i [] fs) (closedGate i (l .ended) k)))
+  rest-found : (t : List ℕ) (fs : List (List ℕ)) → fieldsOf (l .bytes) ≡ gateWord ∷ t ∷ fs → count < maxGates
+      → GateFound n i count l (andThen (lineOf n i t) (λ k. andThen (controlsFrom n i [] fs) (closedGate i (l .ended) k)))
   rest-found t fs e few = target (lineOf n i t) (line-field n i t)
     where
-      then-controls : (k : ℕ) → NumberField t k → k < n → (o : Outcome (List Control)) → ControlsFound n i [] fs o → GateFound n i l (andThen o (closedGate i (l .ended) k))
+      then-controls : (k : ℕ) → NumberField t k → k < n → (o : Outcome (List Control)) → ControlsFound n i [] fs o → GateFound n i count l (andThen o (closedGate i (l .ended) k))
       then-controls k h b o (good ds f w) =
           closed-found k ds
           (record {
@@ -264,40 +264,40 @@ module _ (n i : ℕ) (lines-high : n ≤ maxLines) (l : Line) where
           }) few
       then-controls k h b o (bad number x) = bad number (laws.controls t fs e few k h b number x)
 
-      target : (o : Outcome ℕ) → LineField n i t o → GateFound n i l (andThen o (λ k. andThen (controlsFrom n i [] fs) (closedGate i (l .ended) k)))
+      target : (o : Outcome ℕ) → LineField n i t o → GateFound n i count l (andThen o (λ k. andThen (controlsFrom n i [] fs) (closedGate i (l .ended) k)))
       target o (good k h b) = then-controls k h b (controlsFrom n i [] fs) (controls-found n i fs [])
       target o (beyond k h b) = bad 3 (laws.target-value t fs e few k h b)
       target o (wrong h) = bad 1 (laws.target-form t fs e few h)
 
-  pub gate-found : isEnd l ≡ false → GateFound n i l (gateOn n i l)
+  pub gate-found : isEnd l ≡ false → GateFound n i count l (gateOn n i count l)
   unfolding gateFields
   gate-found z = go (fieldsOf (l .bytes)) refl
     where
-      go : (fs : List (List ℕ)) → fieldsOf (l .bytes) ≡ fs → GateFound n i l (gateFields n i (l .ended) fs)
+      go : (fs : List (List ℕ)) → fieldsOf (l .bytes) ≡ fs → GateFound n i count l (gateFields n i count (l .ended) fs)
       go [] e = bad 1 (laws.no-gate (λ t fs q. nil≢cons (sym e ∙ q)) (not-end l z))
       go (f ∷ []) e = bad 1 (laws.no-gate (λ t fs q. nil≢cons (tail-eq-of-cons-eq (sym e ∙ q))) (not-end l z))
       go (f ∷ t ∷ fs) e =
           either (same f gateWord)
           (λ s.
           let d : fieldsOf (l .bytes) ≡ gateWord ∷ t ∷ fs = e ∙ ap (λ (x : List ℕ). x ∷ t ∷ fs) (same-true f gateWord s) in
-          subst (GateFound n i l) (sym (demand-met {A = Gate} _ _ _ _ s))
-          (either (leb i maxGates)
-          (λ m. subst (GateFound n i l) (sym (demand-met {A = Gate} _ _ _ _ m)) (rest-found t fs d (leb-true i maxGates m)))
-          (λ m. subst (GateFound n i l) (sym (demand-failed {A = Gate} _ _ _ _ m)) (bad 6 (laws.many t fs d (leb-false i maxGates m))))))
+          subst (GateFound n i count l) (sym (demand-met {A = Gate} _ _ _ _ s))
+          (either (ltb count maxGates)
+          (λ m. subst (GateFound n i count l) (sym (demand-met {A = Gate} _ _ _ _ m)) (rest-found t fs d (ltb-true count maxGates m)))
+          (λ m. subst (GateFound n i count l) (sym (demand-failed {A = Gate} _ _ _ _ m)) (bad 6 (laws.many t fs d (ltb-false count maxGates m))))))
           (λ s.
-          subst (GateFound n i l) (sym (demand-failed {A = Gate} _ _ _ _ s))
+          subst (GateFound n i count l) (sym (demand-failed {A = Gate} _ _ _ _ s))
           (bad 1 (laws.no-gate (λ u gs q. refuted s (true-same f gateWord (head-eq-of-cons-eq (sym e ∙ q)))) (not-end l z))))
 
   -- ---- the other way: an offence is refused
 
   -- a line that starts `g` tab
-  gate-start : (t : List ℕ) (fs : List (List ℕ)) → fieldsOf (l .bytes) ≡ gateWord ∷ t ∷ fs → i ≤ maxGates
-      → gateOn n i l ≡ andThen (lineOf n i t) (λ k. andThen (controlsFrom n i [] fs) (closedGate i (l .ended) k))
+  gate-start : (t : List ℕ) (fs : List (List ℕ)) → fieldsOf (l .bytes) ≡ gateWord ∷ t ∷ fs → count < maxGates
+      → gateOn n i count l ≡ andThen (lineOf n i t) (λ k. andThen (controlsFrom n i [] fs) (closedGate i (l .ended) k))
   unfolding gateFields
   gate-start t fs e few =
-      ap (gateFields n i (l .ended)) e ∙ demand-met {A = Gate} _ _ _ _ (same-self gateWord) ∙ demand-met {A = Gate} _ _ _ _ (le-leb i maxGates few)
+      ap (gateFields n i count (l .ended)) e ∙ demand-met {A = Gate} _ _ _ _ (same-self gateWord) ∙ demand-met {A = Gate} _ _ _ _ (lt-ltb count maxGates few)
 
-  gate-tested : (k : ℕ) (cs : List Control) → GoodFields n l k cs → i ≤ maxGates → gateOn n i l ≡ closedGate i (l .ended) k cs
+  gate-tested : (k : ℕ) (cs : List Control) → GoodFields n l k cs → count < maxGates → gateOn n i count l ≡ closedGate i (l .ended) k cs
   gate-tested k cs h few =
       gate-start (numberText k) (map controlText cs) (h .fields) few
       ∙ then-served _ _ k (line-text n i k (h .target) (omega arith))
@@ -313,17 +313,17 @@ module _ (n i : ℕ) (lines-high : n ≤ maxLines) (l : Line) where
   line-high t o (beyond m h b) k x y = refl
   line-high t o (wrong h) k x y = absurd (h k x)
 
-  pub offence-refused : (number : ℕ) → LineOffence n i l number → gateOn n i l ≡ refused number i
+  pub offence-refused : (number : ℕ) → LineOffence n i count l number → gateOn n i count l ≡ refused number i
   unfolding gateFields closedGate
   offence-refused number (laws.no-gate h e) = go (fieldsOf (l .bytes)) refl
     where
-      go : (fs : List (List ℕ)) → fieldsOf (l .bytes) ≡ fs → gateFields n i (l .ended) fs ≡ refused wrongForm i
+      go : (fs : List (List ℕ)) → fieldsOf (l .bytes) ≡ fs → gateFields n i count (l .ended) fs ≡ refused wrongForm i
       go [] q = refl
       go (f ∷ []) q = refl
       go (f ∷ t ∷ fs) q =
           demand-failed {A = Gate} _ _ _ _ (not-held (same f gateWord) (λ s. h t fs (q ∙ ap (λ (x : List ℕ). x ∷ t ∷ fs) (same-true f gateWord s))))
   offence-refused number (laws.many t fs e m) =
-      ap (gateFields n i (l .ended)) e ∙ demand-met {A = Gate} _ _ _ _ (same-self gateWord) ∙ demand-failed {A = Gate} _ _ _ _ (lt-leb i maxGates m)
+      ap (gateFields n i count (l .ended)) e ∙ demand-met {A = Gate} _ _ _ _ (same-self gateWord) ∙ demand-failed {A = Gate} _ _ _ _ (le-ltb count maxGates m)
   offence-refused number (laws.target-form t fs e few h) =
       gate-start t fs e few ∙ then-refused _ _ wrongForm i (line-wrong t _ (line-field n i t) h)
   offence-refused number (laws.target-value t fs e few k h b) =
@@ -341,7 +341,7 @@ module _ (n i : ℕ) (lines-high : n ≤ maxLines) (l : Line) where
       ∙ demand-met {A = Gate} _ _ _ _ (ap not (not-held (among k cs) (λ x. a (among-true k cs x))))
       ∙ demand-failed {A = Gate} _ _ _ _ (rising-not 0 cs r)
 
-  pub offence-open : (number : ℕ) → LineOffence n i l number → isEnd l ≡ false
+  pub offence-open : (number : ℕ) → LineOffence n i count l number → isEnd l ≡ false
   offence-open number (laws.no-gate h e) = not-held (isEnd l) (λ x. let (a, b) = and-parts (l .ended) (same (l .bytes) endWord) x in e (same-true (l .bytes) endWord b) a)
   offence-open number (laws.many t fs e m) = two-fields l gateWord t fs e
   offence-open number (laws.target-form t fs e few h) = two-fields l gateWord t fs e
@@ -447,15 +447,15 @@ module _ (l : Line) where
 -- ---- the whole text
 
 -- a reading from the gates gs and `at` bytes on, of the rest r of a text: gate lines, then `end` or an offence
-pub data Walked (n : ℕ) (gs : List Gate) (at : ℕ) (r : List ℕ) : Outcome Reading → Type 0 where
+pub data Walked (n first : ℕ) (gs : List Gate) (at : ℕ) (r : List ℕ) : Outcome Reading → Type 0 where
   whole-text : (hs : List Gate) (rest : List ℕ) → r ≡ gateLines hs ++ (endLine ++ rest) → allValid n hs ≡ true → length gs + length hs ≤ maxGates
-      → Walked n gs at r (served (record { lines = n; gates = gs ++ hs; taken = at + length (gateLines hs ++ endLine) }))
+      → Walked n first gs at r (served (record { lines = n; gates = gs ++ hs; taken = at + length (gateLines hs ++ endLine) }))
   stopped : (hs : List Gate) (rest : List ℕ) → r ≡ gateLines hs ++ rest → allValid n hs ≡ true → length gs + length hs ≤ maxGates
-      → (number : ℕ) → LineOffence n (length gs + length hs + 1) (firstLine (linesOf rest)) number → Walked n gs at r (refused number (length gs + length hs + 1))
+      → (number : ℕ) → LineOffence n (length gs + length hs + first) (length gs + length hs) (firstLine (linesOf rest)) number → Walked n first gs at r (refused number (length gs + length hs + first))
 
-no-line : (n i : ℕ) → LineOffence n i noLine 1
+no-line : (n i count : ℕ) → LineOffence n i count noLine 1
 unfolding fieldsOf
-no-line n i = laws.no-gate (λ t fs q. nil≢cons (tail-eq-of-cons-eq q)) (λ b d. false≢true d)
+no-line n i count = laws.no-gate (λ t fs q. nil≢cons (tail-eq-of-cons-eq q)) (λ b d. false≢true d)
 
 -- a line that was cut off, and the text after it
 joined : (r : List ℕ) (l : Line) (ls : List Line) (g : Gate) → l .bytes ≡ gateText g → Cut r l ls → (x : List ℕ) (hs : List Gate) → drop (lineSize l) r ≡ gateLines hs ++ x
@@ -466,33 +466,33 @@ joined r l ls g b c x hs q =
     ∙ sym (append-assoc (gateText g) (lineFeed ∷ []) (gateLines hs ++ x))
     ∙ sym (append-assoc (gateLine g) (gateLines hs) x)
 
-module _ (n : ℕ) (lines-high : n ≤ maxLines) where
-  pub walked : (ls : List Line) (gs : List Gate) (at : ℕ) (r : List ℕ) → linesOf r ≡ ls → length gs ≤ maxGates → Walked n gs at r (readFrom n gs at ls)
+module _ (n first : ℕ) (lines-high : n ≤ maxLines) where
+  pub walked : (ls : List Line) (gs : List Gate) (at : ℕ) (r : List ℕ) → linesOf r ≡ ls → length gs ≤ maxGates → Walked n first gs at r (readFrom n first gs at ls)
   unfolding readFrom allValid gateLines
   walked [] gs at r e few =
-      let o : length gs + 0 + 1 ≡ length gs + 1 = omega arith in
-      subst (λ (k : ℕ). Walked n gs at r (refused wrongForm k)) o
-      (stopped [] r refl refl (omega arith) 1 (subst (λ (l : Line). LineOffence n (length gs + 0 + 1) l 1) (sym (ap firstLine e)) (no-line n (length gs + 0 + 1))))
+      let o : length gs + 0 ≡ length gs = omega arith in
+      subst (λ (k : ℕ). Walked n first gs at r (refused wrongForm (k + first))) o
+      (stopped [] r refl refl (omega arith) 1 (subst (λ (l : Line). LineOffence n (length gs + 0 + first) (length gs + 0) l 1) (sym (ap firstLine e)) (no-line n (length gs + 0 + first) (length gs + 0))))
   walked (l ∷ ls) gs at r e few =
       either (isEnd l)
       (λ z.
       let (d, b) = and-parts (l .ended) (same (l .bytes) endWord) z in
       let c = cut (cut-first r (ap (λ (x : List Line). firstLine x .ended) e ∙ d)) in
-      subst (Walked n gs at r) (sym (cond-true (isEnd l) _ _ z))
-      (subst (λ (k : ℕ). Walked n gs at r (served (record { lines = n; gates = gs; taken = at + k })))
+      subst (Walked n first gs at r) (sym (cond-true (isEnd l) _ _ z))
+      (subst (λ (k : ℕ). Walked n first gs at r (served (record { lines = n; gates = gs; taken = at + k })))
       (sym (ap (λ (x : List ℕ). length x + 1) (same-true (l .bytes) endWord b)))
-      (subst (λ (x : List Gate). Walked n gs at r (served (record { lines = n; gates = x; taken = at + 4 }))) (append-nil gs)
+      (subst (λ (x : List Gate). Walked n first gs at r (served (record { lines = n; gates = x; taken = at + 4 }))) (append-nil gs)
       (whole-text [] (drop (lineSize l) r)
       (c .text ∙ ap (λ (x : List ℕ). x ++ (lineFeed ∷ drop (lineSize l) r)) (same-true (l .bytes) endWord b)) refl (omega arith)))))
       (λ z.
-      subst (Walked n gs at r) (sym (cond-false (isEnd l) _ _ z))
-      (go (gateOn n (length gs + 1) l) (gate-found n (length gs + 1) lines-high l z)
+      subst (Walked n first gs at r) (sym (cond-false (isEnd l) _ _ z))
+      (go (gateOn n (length gs + first) (length gs) l) (gate-found n (length gs + first) (length gs) lines-high l z)
       (λ g m c. walked ls (gs ++ (g ∷ [])) (at + lineSize l) (drop (lineSize l) r) (c .later) (omega (arith, length-append gs (g ∷ []))))))
     where
       cut : Cut r (firstLine (linesOf r)) (laterLines (linesOf r)) → Cut r l ls
       cut c = subst (λ (x : List Line). Cut r (firstLine x) (laterLines x)) e c
 
-      onward : (g : Gate) → valid n g ≡ true → l .bytes ≡ gateText g → Cut r l ls → (o : Outcome Reading) → Walked n (gs ++ (g ∷ [])) (at + lineSize l) (drop (lineSize l) r) o → Walked n gs at r o
+      onward : (g : Gate) → valid n g ≡ true → l .bytes ≡ gateText g → Cut r l ls → (o : Outcome Reading) → Walked n first (gs ++ (g ∷ [])) (at + lineSize l) (drop (lineSize l) r) o → Walked n first gs at r o
       onward g v b c o (whole-text hs rest q w m) =
           let k : length (gs ++ (g ∷ [])) ≡ length gs + 1 = length-append gs (g ∷ []) in
           let s : lineSize l ≡ length (gateText g) + 1 = ap (λ (x : List ℕ). length x + 1) b in
@@ -501,25 +501,25 @@ module _ (n : ℕ) (lines-high : n ≤ maxLines) where
           let a2 = length-append (gateLine g ++ gateLines hs) endLine in
           let a3 = length-append (gateLine g) (gateLines hs) in
           let t : at + length (gateLines (g ∷ hs) ++ endLine) ≡ at + lineSize l + length (gateLines hs ++ endLine) = omega arith in
-          subst (λ (x : List Gate). Walked n gs at r (served (record { lines = n; gates = x; taken = at + lineSize l + length (gateLines hs ++ endLine) })))
+          subst (λ (x : List Gate). Walked n first gs at r (served (record { lines = n; gates = x; taken = at + lineSize l + length (gateLines hs ++ endLine) })))
           (sym (append-assoc gs (g ∷ []) hs))
-          (subst (λ (x : ℕ). Walked n gs at r (served (record { lines = n; gates = gs ++ (g ∷ hs); taken = x }))) t
+          (subst (λ (x : ℕ). Walked n first gs at r (served (record { lines = n; gates = gs ++ (g ∷ hs); taken = x }))) t
           (whole-text (g ∷ hs) rest (joined r l ls g b c (endLine ++ rest) hs q) (both v w) (omega arith)))
       onward g v b c o (stopped hs rest q w m number x) =
           let k : length (gs ++ (g ∷ [])) ≡ length gs + 1 = length-append gs (g ∷ []) in
-          let p : length gs + length (g ∷ hs) + 1 ≡ length (gs ++ (g ∷ [])) + length hs + 1 = omega arith in
-          subst (λ (y : ℕ). Walked n gs at r (refused number y)) p
+          let p : length gs + length (g ∷ hs) ≡ length (gs ++ (g ∷ [])) + length hs = omega arith in
+          subst (λ (y : ℕ). Walked n first gs at r (refused number (y + first))) p
           (stopped (g ∷ hs) rest (joined r l ls g b c rest hs q) (both v w) (omega arith) number
-          (subst (λ (y : ℕ). LineOffence n y (firstLine (linesOf rest)) number) (sym p) x))
+          (subst (λ (y : ℕ). LineOffence n (y + first) y (firstLine (linesOf rest)) number) (sym p) x))
 
-      go : (o : Outcome Gate) → GateFound n (length gs + 1) l o
-          → ((g : Gate) → length gs + 1 ≤ maxGates → Cut r l ls → Walked n (gs ++ (g ∷ [])) (at + lineSize l) (drop (lineSize l) r) (readFrom n (gs ++ (g ∷ [])) (at + lineSize l) ls))
-          → Walked n gs at r (andThen o (λ g. readFrom n (gs ++ (g ∷ [])) (at + lineSize l) ls))
+      go : (o : Outcome Gate) → GateFound n (length gs + first) (length gs) l o
+          → ((g : Gate) → length gs < maxGates → Cut r l ls → Walked n first (gs ++ (g ∷ [])) (at + lineSize l) (drop (lineSize l) r) (readFrom n first (gs ++ (g ∷ [])) (at + lineSize l) ls))
+          → Walked n first gs at r (andThen o (λ g. readFrom n first (gs ++ (g ∷ [])) (at + lineSize l) ls))
       go o (good g v b d m) more =
           let c = cut (cut-first r (ap (λ (x : List Line). firstLine x .ended) e ∙ d)) in
-          onward g v b c (readFrom n (gs ++ (g ∷ [])) (at + lineSize l) ls) (more g m c)
+          onward g v b c (readFrom n first (gs ++ (g ∷ [])) (at + lineSize l) ls) (more g m c)
       go o (bad number x) more =
-          let p : length gs + 0 + 1 ≡ length gs + 1 = omega arith in
-          subst (λ (k : ℕ). Walked n gs at r (refused number k)) p
+          let p : length gs + 0 ≡ length gs = omega arith in
+          subst (λ (k : ℕ). Walked n first gs at r (refused number (k + first))) p
           (stopped [] r refl refl (omega arith) number
-          (subst (λ (y : ℕ). LineOffence n y (firstLine (linesOf r)) number) (sym p) (subst (λ (y : Line). LineOffence n (length gs + 1) y number) (sym (ap firstLine e)) x)))
+          (subst (λ (y : ℕ). LineOffence n (y + first) y (firstLine (linesOf r)) number) (sym p) (subst (λ (y : Line). LineOffence n (length gs + first) (length gs) y number) (sym (ap firstLine e)) x)))

@@ -6,7 +6,7 @@ use Prim.Native.Nat.{ℕ, _+_, _≤_, _<_}
 use native.Mathlib.Omega.{arith}
 use lib.Dec.{eqb, ltb}
 use lib.ListN.{length, length-append}
-use borrow.Author.Tests.{le-leb, lt-ltb, ltb-true}
+use borrow.Author.Tests.{lt-ltb, ltb-true}
 use Rattle.bits.proofs.Bools.{and-parts, both}
 use Rattle.circuit.specs.declared.gate.Gate.{Gate}
 use Rattle.circuit.specs.Gate.{maxLines, maxGates, valid, Control, controlsOf}
@@ -101,38 +101,38 @@ module _ (n : ℕ) (lines-high : n ≤ maxLines) where
   unfolding closedGate
   closed-good i t cs a r = simp (a, r)
 
-  pub gate-read : (g : Gate) (i : ℕ) → valid n g ≡ true → i ≤ maxGates → gateOn n i (record { bytes = gateText g; ended = true }) ≡ served g
+  pub gate-read : (g : Gate) (i count : ℕ) → valid n g ≡ true → count < maxGates → gateOn n i count (record { bytes = gateText g; ended = true }) ≡ served g
   unfolding gateFields
-  gate-read g i v few =
+  gate-read g i count v few =
       let w = controls-within n g v maxLines in
       let t = valid-facts n g v .target-below in
       let m = valid-more n maxLines g lines-high v in
-      ap (gateFields n i true) (gate-fields (g .target) (controlsOf g) t w)
+      ap (gateFields n i count true) (gate-fields (g .target) (controlsOf g) t w)
       ∙ demand-met _ _ _ _ (same-self gateWord)
-      ∙ demand-met _ _ _ _ (le-leb i maxGates few)
+      ∙ demand-met _ _ _ _ (lt-ltb count maxGates few)
       ∙ then-served _ _ (g .target) (line-text n i (g .target) t (omega arith))
       ∙ then-served _ _ (controlsOf g) (controls-text n i [] (controlsOf g) w (omega arith))
       ∙ closed-good i (g .target) (controlsOf g) (target-apart g m) (controls-rising g)
       ∙ ap served (gate-controls g m)
 
   -- the gate lines of a cascade
-  pub gates-read : (hs gs : List Gate) (at : ℕ) (r : List ℕ) → allValid n hs ≡ true → length gs + length hs ≤ maxGates
-      → readFrom n gs at (linesOf (gateLines hs ++ r)) ≡ readFrom n (gs ++ hs) (at + length (gateLines hs)) (linesOf r)
+  pub gates-read : (first : ℕ) (hs gs : List Gate) (at : ℕ) (r : List ℕ) → allValid n hs ≡ true → length gs + length hs ≤ maxGates
+      → readFrom n first gs at (linesOf (gateLines hs ++ r)) ≡ readFrom n first (gs ++ hs) (at + length (gateLines hs)) (linesOf r)
   unfolding gateLines allValid readFrom same
-  gates-read [] gs at r v few =
+  gates-read first [] gs at r v few =
       let e : at ≡ at + 0 = omega arith in
-      ap₂ (λ (l : List Gate) (k : ℕ). readFrom n l k (linesOf r)) (sym (append-nil gs)) e
-  gates-read (h ∷ hs) gs at r v few =
+      ap₂ (λ (l : List Gate) (k : ℕ). readFrom n first l k (linesOf r)) (sym (append-nil gs)) e
+  gates-read first (h ∷ hs) gs at r v few =
       let (a, b) = and-parts (valid n h) (allValid n hs) v in
       let k : length (gs ++ (h ∷ [])) ≡ length gs + 1 = length-append gs (h ∷ []) in
       let z : length (gateLine h) ≡ length (gateText h) + 1 = length-append (gateText h) (lineFeed ∷ []) in
       let m : length (gateLine h ++ gateLines hs) ≡ length (gateLine h) + length (gateLines hs) = length-append (gateLine h) (gateLines hs) in
       let e : at + (length (gateText h) + 1) + length (gateLines hs) ≡ at + length (gateLine h ++ gateLines hs) = omega arith in
-      ap (λ (x : List ℕ). readFrom n gs at (linesOf x)) (append-assoc (gateLine h) (gateLines hs) r)
-      ∙ ap (readFrom n gs at) (gate-line h (gateLines hs ++ r) a)
-      ∙ then-served _ _ h (gate-read h (length gs + 1) a (omega arith))
-      ∙ gates-read hs (gs ++ (h ∷ [])) (at + (length (gateText h) + 1)) r b (omega arith)
-      ∙ ap₂ (λ (l : List Gate) (q : ℕ). readFrom n l q (linesOf r)) (append-assoc gs (h ∷ []) hs) e
+      ap (λ (x : List ℕ). readFrom n first gs at (linesOf x)) (append-assoc (gateLine h) (gateLines hs) r)
+      ∙ ap (readFrom n first gs at) (gate-line h (gateLines hs ++ r) a)
+      ∙ then-served _ _ h (gate-read h (length gs + first) (length gs) a (omega arith))
+      ∙ gates-read first hs (gs ++ (h ∷ [])) (at + (length (gateText h) + 1)) r b (omega arith)
+      ∙ ap₂ (λ (l : List Gate) (q : ℕ). readFrom n first l q (linesOf r)) (append-assoc gs (h ∷ []) hs) e
 
 -- ---- the header and `end`
 
@@ -161,16 +161,16 @@ header-read n low high =
 
 -- a text that starts with a header and gate lines
 pub start-read : (n : ℕ) (gs : List Gate) (r : List ℕ) → FileCascade n gs
-    → reading (headerLine n ++ (gateLines gs ++ r)) ≡ readFrom n gs (length (headerLine n) + length (gateLines gs)) (linesOf r)
+    → reading (headerLine n ++ (gateLines gs ++ r)) ≡ readFrom n 1 gs (length (headerLine n) + length (gateLines gs)) (linesOf r)
 unfolding reading
 start-read n gs r c =
     let x : List ℕ = gateLines gs ++ r in
     let z : length (numberText n ++ (lineFeed ∷ [])) ≡ length (numberText n) + 1 = length-append (numberText n) (lineFeed ∷ []) in
     let e : lineSize (record { bytes = headerText n; ended = true }) ≡ length (headerLine n) = omega arith in
-    ap (λ (ls : List Line). andThen (headerOn (firstLine ls)) (λ n. readFrom n [] (lineSize (firstLine ls)) (laterLines ls))) (header-line n x (c .lines-high))
+    ap (λ (ls : List Line). andThen (headerOn (firstLine ls)) (λ n. readFrom n 1 [] (lineSize (firstLine ls)) (laterLines ls))) (header-line n x (c .lines-high))
     ∙ then-served _ _ n (header-read n (c .lines-low) (c .lines-high))
-    ∙ ap (λ (k : ℕ). readFrom n [] k (linesOf x)) e
-    ∙ gates-read n (c .lines-high) gs [] (length (headerLine n)) r (c .gates) (omega arith)
+    ∙ ap (λ (k : ℕ). readFrom n 1 [] k (linesOf x)) e
+    ∙ gates-read n (c .lines-high) 1 gs [] (length (headerLine n)) r (c .gates) (omega arith)
 
 -- the text of a cascade, followed by anything
 pub text-read : (n : ℕ) (gs : List Gate) (rest : List ℕ) → FileCascade n gs
@@ -182,5 +182,5 @@ text-read n gs rest c =
     let e : length (headerLine n) + length (gateLines gs) + 4 ≡ length (textOf n gs) = omega arith in
     ap reading (append-assoc (headerLine n) (gateLines gs ++ endLine) rest ∙ ap (λ (x : List ℕ). headerLine n ++ x) (append-assoc (gateLines gs) endLine rest))
     ∙ start-read n gs (endLine ++ rest) c
-    ∙ ap (readFrom n gs (length (headerLine n) + length (gateLines gs))) (lines-cut endWord rest refl)
+    ∙ ap (readFrom n 1 gs (length (headerLine n) + length (gateLines gs))) (lines-cut endWord rest refl)
     ∙ ap (λ (k : ℕ). served (record { lines = n; gates = gs; taken = k })) e

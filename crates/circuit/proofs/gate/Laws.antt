@@ -1,6 +1,6 @@
 -- The laws of a gate: what its two tests say as facts, firing by lines, the new state digit by digit, and that a gate is its own inverse. Assumes nothing.
 use mathlib.Core.Path.{_≡_, refl, sym, ap, ap₂, _∙_, subst}
-use mathlib.Core.Bool.{Bool, true, false, _&&_, _||_, xor, false≢true}
+use mathlib.Core.Bool.{cond, Bool, true, false, _&&_, _||_, xor, false≢true}
 use Prim.Native.Nat.{ℕ, _+_, _-_, _*_, _/_, _%_, _^_, _<_, _≤_}
 use native.Mathlib.Nat.{lt-of-lt-of-le, le-of-lt, mod-lt, div-eq-of-lt, zero-mul, one-mul}
 use native.Mathlib.Omega.{arith}
@@ -12,7 +12,7 @@ use mir.Val.{boolByte}
 use borrow.Author.Tests.{ltb-true, leb-true, leb-false, eqb-true, lt-ltb, eq-eqb}
 use Rattle.circuit.specs.declared.gate.Gate.{Gate}
 use Rattle.bits.specs.Digits.{bit, linesIn}
-use Rattle.circuit.specs.Gate.{maxLines, notGate, fires, valid, inverted, apply, controlCount}
+use Rattle.circuit.specs.Gate.{maxLines, notGate, fires, valid, inverted, apply, toggled, controlCount}
 use Rattle.circuit.specs.Laws.{FiresByLines, ValidByLines}
 use Rattle.bits.proofs.Bools.{and-parts, both, not-held, either, same-test, cond-true, cond-false, and-apart}
 use Rattle.bits.proofs.Digits.{bit-and, bit-or, bit-xor, bit-pow, bit-none, bits-equal, bit-above, below-of-bits, lines-ones, ones-both}
@@ -236,15 +236,22 @@ pub inverted-idle : (g : Gate) (s : ℕ) → fires g s ≡ false → inverted g 
 unfolding inverted
 inverted-idle g s e = cond-false _ _ _ e
 
--- the same by the bit of firing, shifted to the target
-pub inverted-shifted : (g : Gate) (s : ℕ) (t : Bool) → g .target < maxLines → t ≡ fires g s → bitXor s ((boolByte t * 2 ^ g .target) % 2 ^ maxLines) ≡ inverted g s
-inverted-shifted g s true h e =
-    ap (bitXor s) (shl-exact 1 (g .target) maxLines (lit< tt) (omega arith) ∙ one-mul (2 ^ g .target)) ∙ sym (inverted-fired g s (sym e))
-inverted-shifted g s false h e = ap (bitXor s) (ap (λ (x : ℕ). x % 2 ^ maxLines) (zero-mul (2 ^ g .target))) ∙ xor-zero-r s ∙ sym (inverted-idle g s (sym e))
+-- the bit of a test, shifted to line k
+pub shifted : (s k : ℕ) (t : Bool) → k < maxLines → bitXor s ((boolByte t * 2 ^ k) % 2 ^ maxLines) ≡ cond t (bitXor s (2 ^ k)) s
+shifted s k true h = ap (bitXor s) (shl-exact 1 k maxLines (lit< tt) (omega arith) ∙ one-mul (2 ^ k))
+shifted s k false h = ap (bitXor s) (ap (λ (x : ℕ). x % 2 ^ maxLines) (zero-mul (2 ^ k))) ∙ xor-zero-r s
 
 pub apply-gate : (g : Gate) (s : ℕ) → valid maxLines g ≡ true → apply g s ≡ inverted g s
 unfolding apply
 apply-gate g s v = cond-true _ _ _ v
+
+-- of a gate that was tested
+pub toggled-apply : (g : Gate) (s : ℕ) → valid maxLines g ≡ true → toggled g s ≡ apply g s
+unfolding toggled inverted
+toggled-apply g s v =
+    let h = valid-facts maxLines g v .target-below in
+    let k : g .target % maxLines ≡ g .target = omega arith in
+    ap₂ (λ (t : Bool) (l : ℕ). cond t (bitXor s (2 ^ l)) s) (fires-gate g s v) k ∙ sym (apply-gate g s v)
 
 pub apply-none : (g : Gate) (s : ℕ) → valid maxLines g ≡ false → apply g s ≡ s
 unfolding apply

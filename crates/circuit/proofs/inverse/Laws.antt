@@ -1,6 +1,6 @@
 -- The laws of the inverse: its words one gate at a time, its validity, and what its call answers and leaves. Assumes nothing.
-use mathlib.Core.Path.{_≡_, refl, sym, ap, subst, _∙_}
-use mathlib.Core.Bool.{true}
+use mathlib.Core.Path.{_≡_, refl, sym, ap, _∙_, subst}
+use mathlib.Core.Bool.{Bool, true, cond}
 use mathlib.Core.List.{List, [], _∷_, _++_, reverse, reverse-cons}
 use Prim.Native.Nat.{ℕ, _+_, _-_, _*_, _/_, _≤_, _<_}
 use native.Mathlib.Omega.{arith}
@@ -17,7 +17,7 @@ use Rattle.circuit.specs.Gate.{maxGates, valid, apply}
 use Rattle.circuit.specs.Outcome.{Outcome, served, refused, written, Untouched, Yields}
 use Rattle.circuit.specs.Refusal.{noRoom}
 use Rattle.circuit.specs.Words.{gateAt, gateWords, gatesOf, wordsOf, allValid, checkOutcome, Cascade}
-use Rattle.circuit.specs.Inverse.{inverse, inverseOutcome, inverseBuffer}
+use Rattle.circuit.specs.Inverse.{inverse, putInverse, inverseOutcome, inverseBuffer}
 use Rattle.circuit.specs.Run.{run}
 use Rattle.circuit.specs.Laws.{InverseRefused, inverse-words, short, InverseStands}
 use Rattle.circuit.proofs.gate.Laws.{apply-twice}
@@ -55,6 +55,13 @@ back-turn ws first out last j at g some here room was is put =
     lent-over (tailBack ws j) (gateWords g) first out last at was (omega arith) (omega arith) put
     ∙ ap (λ (l : List ℕ). over l first)
     (sym (back-more ws (j - 1) g (omega arith) is ∙ ap (λ (k : ℕ). tailBack ws k ++ gateWords g) up))
+
+-- the inverse is put where it fits, and nothing where it does not
+pub put-fits : (ws out : List ℕ) → length ws / 3 ≤ length out / 3 → putInverse ws out ≡ over (wordsOf (inverse (gatesOf ws))) out
+put-fits ws out h = ap (λ (t : Bool). cond t (over (wordsOf (inverse (gatesOf ws))) out) out) (le-leb _ _ h)
+
+pub put-short : (ws out : List ℕ) → length out / 3 < length ws / 3 → putInverse ws out ≡ out
+put-short ws out h = ap (λ (t : Bool). cond t (over (wordsOf (inverse (gatesOf ws))) out) out) (lt-leb _ _ h)
 
 -- the inverse undoes the run, both ways
 pub run-inverse : (gs : List Gate) (s : ℕ) → run (inverse gs) (run gs s) ≡ s

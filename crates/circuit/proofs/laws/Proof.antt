@@ -1,8 +1,8 @@
 -- `circuit::laws` meets its contract: the record of the laws. Assumes nothing.
-use Rattle.circuit.proofs.gate.Laws.{fires-lines, lines-fires, valid-by-lines, lines-valid, valid-more, apply-bit, apply-none, apply-not, apply-twice, apply-below, count-lines}
+use Rattle.circuit.proofs.gate.Laws.{fires-lines, lines-fires, valid-by-lines, lines-valid, valid-more, apply-bit, apply-none, apply-not, toggled-apply, apply-twice, apply-below, count-lines}
 use Rattle.circuit.proofs.gate.Controls.{controls-count, controls-fire}
 use Rattle.circuit.proofs.words.Laws.{gates-words, words-gates, check-served, served-check, check-refused, refused-check, pair-served, served-pair, pair-refused, refused-pair}
-use Rattle.circuit.proofs.run.Laws.{run-append, run-below, equal-differs, run-fault, fault-run, run-served, served-run}
+use Rattle.circuit.proofs.run.Laws.{run-append, run-tested, run-below, equal-differs, run-fault, fault-run, run-served, served-run}
 use Rattle.circuit.proofs.run.Records.{records-words, records-served, served-records, records-fault, fault-records}
 use Rattle.circuit.proofs.inverse.Laws.{run-inverse, inverse-run, inverse-append, inverse-twice, inverse-valid, inverse-fault, fault-inverse, inverse-served, served-inverse, inverse-stands, inverse-untouched}
 use Rattle.circuit.proofs.file.Laws.{reader, read-served, served-read, read-refused, refused-read, write-served, served-write, write-fault, fault-write, refuses-all}
@@ -21,6 +21,7 @@ returns c =
             apply-line = apply-bit;
             apply-none = apply-none;
             apply-not = apply-not;
+            toggled-apply = toggled-apply;
             apply-twice = apply-twice;
             apply-below = apply-below;
             count-lines = count-lines;
@@ -40,6 +41,7 @@ returns c =
           record {
             run-append = run-append;
             run-below = run-below;
+            run-tested = run-tested;
             run-served = λ n ws s t. (run-served n ws s t, (λ (k, c, h, e). served-run n ws s t k c h e));
             run-refused = λ n ws s number place. (run-fault n ws s number place, fault-run n ws s number place);
             records-served = λ n gs s t. (records-served n gs s t, (λ (c, h, e). served-records n gs s t c h e));

@@ -1,5 +1,5 @@
 -- The laws of a run: one gate at a time over words, of two cascades in a row, of the inverse, and its bound. Assumes nothing.
-use mathlib.Core.Path.{_≡_, sym, ap, _∙_}
+use mathlib.Core.Path.{_≡_, refl, sym, ap, _∙_}
 use mathlib.Core.Logic.{_↔_}
 use mathlib.Core.Bool.{true, false}
 use mathlib.Core.List.{List, [], _∷_, _++_}
@@ -11,26 +11,35 @@ use Rattle.bits.specs.Lists.{fold}
 use Rattle.bits.proofs.Lists.{fold-append}
 use Rattle.bits.proofs.Bools.{and-parts, either}
 use Rattle.circuit.specs.declared.gate.Gate.{Gate}
-use Rattle.circuit.specs.Gate.{maxGates, apply, valid}
+use Rattle.circuit.specs.Gate.{maxLines, maxGates, apply, toggled, valid}
 use Rattle.circuit.specs.Outcome.{Outcome, served, refused, andThen}
 use Rattle.circuit.specs.Refusal.{badState, badLineCount}
 use Rattle.circuit.specs.Words.{gateAt, gatesOf, allValid, lineCountGood, validFrom, sizeOutcome, checkOutcome, Cascade}
-use Rattle.circuit.specs.Run.{run, Equal, Differs, runOutcome}
-use Rattle.circuit.specs.Laws.{RunRefused, run-words, outside}
-use Rattle.circuit.proofs.Outcome.{demand-met, demand-failed, demanded, then-served, then-refused, then-both, then-fails, then-either, last-failed}
-use Rattle.circuit.proofs.gate.Laws.{apply-below}
+use Rattle.circuit.specs.Run.{run, runTested, Equal, Differs, runOutcome}
+use Rattle.circuit.specs.Laws.{run-words, outside, RunRefused}
+use Rattle.circuit.proofs.Outcome.{demand-met, demand-failed, then-served, then-refused, then-both, then-fails, then-either, last-failed, demanded}
+use Rattle.circuit.proofs.gate.Laws.{apply-below, toggled-apply}
 use Rattle.circuit.proofs.words.Laws.{gates-next, gates-end, check-lines, check-gates, gates-refused, gates-sized, check-served, served-check, check-refused, refused-check}
 
--- a turn over the words: gate i acts, and the others after it
-pub run-turn : (ws : List ℕ) (i : ℕ) (g : Gate) (s : ℕ) → i < length ws / 3 → g ≡ gateAt ws i
-    → run (gatesOf (drop (3 * i) ws)) s ≡ run (gatesOf (drop (3 * (i + 1)) ws)) (apply g s)
-unfolding fold
-run-turn ws i g s inside is =
-    ap (λ (gs : List Gate). run gs s) (gates-next ws i inside) ∙ ap (λ (f : Gate). run (gatesOf (drop (3 * (i + 1)) ws)) (apply f s)) (sym is)
+-- a turn over the words: gate i acts, by the rule f, and the others after it
+module _ (f : Gate → ℕ → ℕ) where
+  pub fold-turn : (ws : List ℕ) (i : ℕ) (g : Gate) (s : ℕ) → i < length ws / 3 → g ≡ gateAt ws i
+      → fold f (gatesOf (drop (3 * i) ws)) s ≡ fold f (gatesOf (drop (3 * (i + 1)) ws)) (f g s)
+  unfolding fold
+  fold-turn ws i g s inside is =
+      ap (λ (gs : List Gate). fold f gs s) (gates-next ws i inside) ∙ ap (λ (h : Gate). fold f (gatesOf (drop (3 * (i + 1)) ws)) (f h s)) (sym is)
 
-pub run-end : (ws : List ℕ) (i s : ℕ) → length ws / 3 ≤ i → run (gatesOf (drop (3 * i) ws)) s ≡ s
-unfolding fold
-run-end ws i s h = ap (λ (gs : List Gate). run gs s) (gates-end ws i h)
+  pub fold-end : (ws : List ℕ) (i s : ℕ) → length ws / 3 ≤ i → fold f (gatesOf (drop (3 * i) ws)) s ≡ s
+  unfolding fold
+  fold-end ws i s h = ap (λ (gs : List Gate). fold f gs s) (gates-end ws i h)
+
+-- of gates that were tested
+pub run-tested : (gs : List Gate) → allValid maxLines gs ≡ true → (s : ℕ) → runTested gs s ≡ run gs s
+unfolding fold allValid
+run-tested [] v s = refl
+run-tested (g ∷ gs) v s =
+    let (a, b) = and-parts (valid maxLines g) (allValid maxLines gs) v in
+    ap (runTested gs) (toggled-apply g s a) ∙ run-tested gs b (apply g s)
 
 -- two cascades in a row
 pub run-append : (a b : List Gate) (s : ℕ) → run (a ++ b) s ≡ run b (run a s)

@@ -65,9 +65,9 @@ laterFields (f ∷ fs) = fs
 abbrev pub headerNext : List ℕ → Outcome HeaderNext
 headerNext r = andThen (headerOn (lineAt r)) (λ n. served (record { lines = n; next = lineSize (lineAt r) }))
 
--- the position after the gate line at a position, with index i
-abbrev pub gateNext : ℕ → ℕ → ℕ → List ℕ → Outcome ℕ
-gateNext n i at r = andThen (gateOn n i (lineAt r)) (λ g. served (at + lineSize (lineAt r)))
+-- the position after the gate line at a position, with index i and after so many gate lines
+abbrev pub gateNext : ℕ → ℕ → ℕ → ℕ → List ℕ → Outcome ℕ
+gateNext n i count at r = andThen (gateOn n i count (lineAt r)) (λ g. served (at + lineSize (lineAt r)))
 
 -- the same after its target, t
 abbrev pub controlsNext : ℕ → ℕ → ℕ → ℕ → List ℕ → Outcome ℕ
@@ -100,6 +100,6 @@ abbrev pub ofHeader : HeaderAnswer → Outcome HeaderNext
 ofHeader (header.Lines n next) = served (record { lines = n; next = next })
 ofHeader (header.Refused r) = refused (r .number) (r .place)
 
--- the counts of the cascade on n lines whose gate lines start at a position
-abbrev pub countsFrom : ℕ → ℕ → List ℕ → Outcome ReadCounts
-countsFrom n start text = andThen (readFrom n [] start (linesOf (drop start text))) (λ c. served (countsOf c))
+-- the counts of the cascade on n lines whose gate lines start at line `first` and at a position
+abbrev pub countsFrom : ℕ → ℕ → ℕ → List ℕ → Outcome ReadCounts
+countsFrom n first start text = andThen (readFrom n first [] start (linesOf (drop start text))) (λ c. served (countsOf c))

@@ -6,9 +6,8 @@ ghost use mathlib.Core.Bool.{cond};
 ghost use mathlib.Core.List.{_∷_, _++_};
 ghost use Prim.Native.Nat.{_+_, _/_, _%_, _<_, _≤_};
 ghost use lib.ListN.{length};
-ghost use Rattle.bits.specs.Digits.{bit};
-ghost use Rattle.circuit.specs.Gate.{maxLines, controlsOf};
-ghost use Rattle.circuit.specs.Text.{tab, plusSign, minusSign, digit, numberText, controlText, controlsText, headerLine, gateText, gateLine, endLine};
+ghost use Rattle.circuit.specs.Gate.{controlsOf};
+ghost use Rattle.circuit.specs.Text.{tab, digit, numberText, controlText, controlsText, headerLine, gateText, gateLine, endLine, plusSign, minusSign};
 ghost use Rattle.circuit.specs.private.Put.{Put, TwoDigits, maskGate};
 
 // The texts 00 to 99.
@@ -81,14 +80,6 @@ fn put_control(out: &mut [u8], k: u64, positive: bool, table: &[u8]) -> usize
     2 + put_number(&mut out[2..], k, table)
 }
 
-// Whether line k stands in the mask.
-fn has(mask: u64, k: u64) -> bool
-    requires { ⌜ k < maxLines ⌝ }
-    ensures { λ r. ⌜ r ≡ bit mask k ⌝ }
-{
-    (mask >> k) % 2 == 1
-}
-
 // Writes the controls of two masks, each after a tab, by rising line.
 fn put_controls(out: &mut [u8], positive: u64, negative: u64, table: &[u8]) -> usize
     requires { ⌜ (TwoDigits (now table)) × (length (controlsText (controlsOf (maskGate positive negative))) ≤ length (now out)) ⌝ }
@@ -98,7 +89,7 @@ fn put_controls(out: &mut [u8], positive: u64, negative: u64, table: &[u8]) -> u
     let mut at = 0;
     while left != 0 {
         let k = crate::gate::lowest(left);
-        at += put_control(&mut out[at..], k, has(positive, k), table);
+        at += put_control(&mut out[at..], k, crate::gate::has(positive, k), table);
         left &= left - 1;
     }
     at

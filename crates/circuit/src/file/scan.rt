@@ -291,15 +291,15 @@ fn controls(text: &[u8], first: usize, n: u64, place: u64, target: u64) -> GateA
     GateAnswer::Next(at + 1)
 }
 
-// The position after the gate line at a position; else 6, 1, 3, 4 or 5.
-pub(crate) fn gate_line(text: &[u8], start: usize, n: u64, place: u64) -> GateAnswer
+// The position after the gate line at a position, after so many gate lines; else 6, 1, 3, 4 or 5.
+pub(crate) fn gate_line(text: &[u8], start: usize, n: u64, place: u64, gates: usize) -> GateAnswer
     requires { ⌜ (start ≤ length (now text)) × (n ≤ maxLines) ⌝ }
-    ensures { λ r. ⌜ ofGate r ≡ gateNext n place start (drop start (now (text .entry))) ⌝ }
+    ensures { λ r. ⌜ ofGate r ≡ gateNext n place gates start (drop start (now (text .entry))) ⌝ }
 {
     if !starts(text, start, b"g\t") {
         return GateAnswer::Refused(Refusal::wrong_form(place));
     }
-    if (Gate::MAX_GATES as u64) < place {
+    if Gate::MAX_GATES <= gates {
         return GateAnswer::Refused(Refusal::too_many_gates(place));
     }
     match line(text, start + 2, n, place) {

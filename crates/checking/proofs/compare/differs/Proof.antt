@@ -4,7 +4,7 @@ use borrow.Author.Needs.{needs}
 use borrow.Author.Tests.{not-true, not-false}
 use Rattle.circuit.specs.Words.{ofPair}
 use Rattle.circuit.proofs.Outcome.{why}
-use Rattle.checking.proofs.compare.Laws.{differs-refused, differs-outside, differs-made}
+use Rattle.checking.proofs.compare.Laws.{pair-gates, differs-refused, differs-outside, differs-made}
 use Rattle.checking.proofs.compare.differs.Statement.{statement}
 use Rattle.checking.proofs.compare.differs.Tie as tie
 
@@ -32,7 +32,9 @@ returns c =
     (sym (b .below .ensures) ∙ not-true _ (c .before .if1 .taken)))
 
 outputs-differ-requires : tie.Need-outputs-differ-requires
-outputs-differ-requires c κs = search needs
+outputs-differ-requires c κs =
+    let t = c .before .before in
+    pair-gates _ _ _ _ _ (sym (t .before .before .check-pair .ensures) ∙ ap ofPair (t .enum-told .given .1))
 
 returns-2 : tie.Need-returns-2
 returns-2 c =

@@ -21,14 +21,14 @@ loop-holds c =
     let e : a .count ≡ a .count - 0 = omega arith in
     (omega arith, ap (lowestFrom (gatesOf (a .a .now)) (gatesOf (a .b .now)) 0) e)
 
-tested-differ-requires : tie.Need-tested-differ-requires Inv-loop μ-loop
-tested-differ-requires c κs = let s = c .before .before .before .before in (s .pre .0, s .pre .1)
+outputs-differ-requires : tie.Need-outputs-differ-requires Inv-loop μ-loop
+outputs-differ-requires c κs = let s = c .before .before .before .before in (s .pre .0, s .pre .1)
 
 returns : tie.Need-returns Inv-loop μ-loop
 returns c =
     let d = c .before in
     let l = d .before .before in
-    sym (ap served (l .loop .inv .1 ∙ lowest-here _ _ (l .loop .x) _ (omega arith) (sym (d .tested-differ .ensures) ∙ c .if1 .taken)))
+    sym (ap served (l .loop .inv .1 ∙ lowest-here _ _ (l .loop .x) _ (omega arith) (sym (d .outputs-differ .ensures) ∙ c .if1 .taken)))
 
 add-x : tie.Need-add-x Inv-loop μ-loop
 add-x c = omega arith
@@ -40,11 +40,11 @@ loop-again : tie.Need-loop-again Inv-loop μ-loop
 loop-again c =
     let d = c .before in
     let l = d .before .before in
-    (omega arith, l .loop .inv .1 ∙ lowest-next _ _ (l .loop .x) _ (omega arith) (sym (d .tested-differ .ensures) ∙ c .if1 .left))
+    (omega arith, l .loop .inv .1 ∙ lowest-next _ _ (l .loop .x) _ (omega arith) (sym (d .outputs-differ .ensures) ∙ c .if1 .left))
 
 returns-2 : tie.Need-returns-2 Inv-loop μ-loop
 returns-2 c = let l = c .before in sym (ap served (l .loop .inv .1 ∙ lowest-none _ _ (l .loop .x) _ (omega arith)))
 
 pub lowest-difference-spec : {M : Type 1} → statement M
 lowest-difference-spec =
-    tie.close (tie.spec Inv-loop μ-loop loop-holds tested-differ-requires returns add-x loop-less loop-again returns-2)
+    tie.close (tie.spec Inv-loop μ-loop loop-holds outputs-differ-requires returns add-x loop-less loop-again returns-2)

@@ -1,8 +1,8 @@
 -- `checking::emitter::put_controls` meets its contract. The loop's invariant: what is due for the lines before i stands, and `left` has the others. Assumes nothing.
-use mathlib.Core.Path.{ap, _∙_}
+use mathlib.Core.Path.{_≡_, ap, _∙_}
 use mathlib.Core.Logic.{⊎-elim}
 use mathlib.Core.Bool.{Bool, false, not}
-use Prim.Native.Nat.{_+_, _*_, _-_, _≤_, _<_}
+use Prim.Native.Nat.{_+_, _*_, _-_, _%_, _≤_, _<_}
 use native.Mathlib.Nat.{eq-zero-or-pos}
 use native.Mathlib.Omega.{arith}
 use lib.Bits.{and-le-r}
@@ -13,6 +13,7 @@ use borrow.Rule.Slice.PartMut.{same-len-mid}
 use mir.Syntax.{w16}
 use mir.Val.{toZ, ofZ}
 use Rattle.bits.specs.Digits.{bit}
+use Rattle.circuit.specs.Gate.{maxLines}
 use Rattle.checking.specs.Stored.{wordLimit}
 use Rattle.checking.specs.private.Emitter.{literalWord, byLine}
 use Rattle.checking.proofs.emitter.Signed.{literal-kept}
@@ -75,7 +76,7 @@ shared-slice-read-v : tie.Need-shared-slice-read-v Inv-loop μ-loop
 shared-slice-read-v c = omega (arith, line-in (c .before), start (c .before .before .before) .pre .0 .long)
 
 has-requires : tie.Need-has-requires Inv-loop μ-loop
-has-requires c κs = omega (arith, line-in (c .before), start (c .before .before .before) .pre .0 .lines)
+has-requires c κs = search needs
 
 literal-requires-2 : tie.Need-literal-requires-2 Inv-loop μ-loop
 literal-requires-2 c κs = variable-small (c .before .before)
@@ -140,15 +141,17 @@ loop-again c =
     let s = start l in
     let line = low .lowest .result in
     let v = byLine (s .args .current .now) line in
+    let below : line % maxLines ≡ line = omega (arith, line-in low, s .pre .0 .lines) in
+    let sign = h .has .ensures ∙ ap (bit (s .args .positive)) below in
     let o = set (l .loop .out) (l .loop .i) (kept (two .literal2 .result)) in
     let at = s .args .k + 4 * l .loop .i in
     walk-on _ _ _ _ _ _ _ _ _ _ (s .pre .0 .lines) (s .pre .1 .0) (s .pre .1 .1 .1) (l .loop .inv) (some (low .before)) line (low .lowest .ensures) (four .put-4 .last .0)
     (kept (two .literal2 .result)) _ _
     (literal-kept (two .literal2 .result) (not (bit (s .args .positive) line)) v (variable-small low)
-    (two .literal2 .ensures ∙ ap (λ (b : Bool). literalWord (not b) v) (h .has .ensures)))
+    (two .literal2 .ensures ∙ ap (λ (b : Bool). literalWord (not b) v) sign))
     (literal-kept (l .before .literal .result) false (s .args .p) (s .pre .1 .1 .0) (l .before .literal .ensures))
     (literal-kept (three .literal3 .result) (bit (s .args .positive) line) v (variable-small low)
-    (three .literal3 .ensures ∙ ap (λ (b : Bool). literalWord b v) (h .has .ensures)))
+    (three .literal3 .ensures ∙ ap (λ (b : Bool). literalWord b v) sign))
     (four .put-4 .ensures)
     (same-len-mid at (length o - at) o (four .put-4 .last .0) (four .put-4 .kept .0))
 

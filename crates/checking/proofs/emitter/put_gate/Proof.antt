@@ -1,8 +1,8 @@
 -- `checking::emitter::put_gate` meets its contract. Assumes nothing.
-use mathlib.Core.Path.{sym, ap, ap₂, _∙_}
+use mathlib.Core.Path.{_≡_, sym, ap, ap₂, _∙_}
 use mathlib.Core.Bool.{Bool, true, false}
 use mathlib.Core.List.{List, [], _∷_}
-use Prim.Native.Nat.{_+_, _<_}
+use Prim.Native.Nat.{_+_, _%_, _<_}
 use native.Mathlib.Omega.{arith}
 use lib.IntN.{ℤ, pos}
 use lib.ListN.{length}
@@ -10,6 +10,7 @@ use borrow.Author.Needs.{needs}
 use mir.Syntax.{w16}
 use mir.Val.{toZ, ofZ}
 use Rattle.bits.specs.Digits.{bit}
+use Rattle.circuit.specs.Gate.{maxLines}
 use Rattle.bits.specs.Lists.{over}
 use Rattle.checking.specs.Clauses.{plus, minus}
 use Rattle.checking.specs.Stored.{wordLimit}
@@ -106,9 +107,7 @@ shared-slice-read-literal c =
     omega (arith, line-in low, start (low .before .before .before) .pre .currents .long)
 
 has-requires : tie.Need-has-requires
-has-requires c κs =
-    let low = c .before .before .before .before in
-    omega (arith, line-in low, start (low .before .before .before) .pre .currents .lines)
+has-requires c κs = search needs
 
 literal-requires-5 : tie.Need-literal-requires-5
 literal-requires-5 c κs = variable-small (c .before .before .before .before .before)
@@ -135,6 +134,7 @@ returns-2 c =
     let line = low .lowest .result in
     let w = written-one _ _ _ _ _ (s .pre) _ (k .control-count .ensures) (low .before .if2 .taken) line (low .lowest .ensures) in
     let v = byLine (s .args .current .now) line in
+    let below : line % maxLines ≡ line = omega (arith, line-in low, s .pre .currents .lines) in
     record {
       answer = sym (ap length w);
       buffer =
@@ -143,7 +143,7 @@ returns-2 c =
           (literal-kept (two .before .literal3 .result) false (s .args .used + 1) (omega (arith, s .pre .few)) (two .before .literal3 .ensures))
           (literal-kept (two .literal4 .result) true (byLine (s .args .current .now) (s .args .g .target)) (v-small k) (two .literal4 .ensures))
           ∙ ap (λ (x : ℤ). over (pos 1 ∷ pos 3 ∷ minus (s .args .used + 1) ∷ plus (byLine (s .args .current .now) (s .args .g .target)) ∷ x ∷ []) o)
-          (literal-kept (last .literal5 .result) (bit (s .args .g .positive) line) v (variable-small low) (last .literal5 .ensures ∙ ap (λ (b : Bool). literalWord b v) (h .has .ensures)))
+          (literal-kept (last .literal5 .result) (bit (s .args .g .positive) line) v (variable-small low) (last .literal5 .ensures ∙ ap (λ (b : Bool). literalWord b v) (h .has .ensures ∙ ap (bit (s .args .g .positive)) below)))
           ∙ ap (λ (l : List ℤ). over l o) (sym w);
     }
 

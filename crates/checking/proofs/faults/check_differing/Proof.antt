@@ -25,14 +25,14 @@ abbrev μ-loop : tie.MeasureT-loop
 loop-holds : tie.Need-loop-holds Inv-loop μ-loop
 loop-holds c = (omega arith, refl)
 
-mul-tested-differ : tie.Need-mul-tested-differ Inv-loop μ-loop
-mul-tested-differ c = search needs
+mul-outputs-differ : tie.Need-mul-outputs-differ Inv-loop μ-loop
+mul-outputs-differ c = search needs
 
-shared-slice-read-tested-differ : tie.Need-shared-slice-read-tested-differ Inv-loop μ-loop
-shared-slice-read-tested-differ c = search needs
+shared-slice-read-outputs-differ : tie.Need-shared-slice-read-outputs-differ Inv-loop μ-loop
+shared-slice-read-outputs-differ c = search needs
 
-tested-differ-requires : tie.Need-tested-differ-requires Inv-loop μ-loop
-tested-differ-requires c κs = let s = c .before .before .before .before .before .before in (s .pre .0, s .pre .1)
+outputs-differ-requires : tie.Need-outputs-differ-requires Inv-loop μ-loop
+outputs-differ-requires c κs = let s = c .before .before .before .before .before .before in (s .pre .0, s .pre .1)
 
 agreeing-state-requires : tie.Need-agreeing-state-requires Inv-loop μ-loop
 agreeing-state-requires c κs = search needs
@@ -42,7 +42,7 @@ returns c =
     let d = c .before .before in
     let l = d .before .before .before in
     why (c .agreeing-state .ensures)
-    ∙ sym (l .loop .inv .1 ∙ each-fails _ agreeingState _ (l .loop .i) _ (omega arith) refl (sym (d .tested-differ .ensures) ∙ not-true _ (c .before .if1 .taken)))
+    ∙ sym (l .loop .inv .1 ∙ each-fails _ agreeingState _ (l .loop .i) _ (omega arith) refl (sym (d .outputs-differ .ensures) ∙ not-true _ (c .before .if1 .taken)))
 
 add-i : tie.Need-add-i Inv-loop μ-loop
 add-i c = omega arith
@@ -54,7 +54,7 @@ loop-again : tie.Need-loop-again Inv-loop μ-loop
 loop-again c =
     let d = c .before in
     let l = d .before .before .before in
-    (omega arith, l .loop .inv .1 ∙ each-next _ agreeingState _ (l .loop .i) _ (omega arith) refl (sym (d .tested-differ .ensures) ∙ not-false _ (c .if1 .left)))
+    (omega arith, l .loop .inv .1 ∙ each-next _ agreeingState _ (l .loop .i) _ (omega arith) refl (sym (d .outputs-differ .ensures) ∙ not-false _ (c .if1 .left)))
 
 returns-2 : tie.Need-returns-2 Inv-loop μ-loop
 returns-2 c = let l = c .before in sym (l .loop .inv .1 ∙ each-end _ agreeingState _ (l .loop .i) (omega arith))
@@ -66,9 +66,9 @@ check-differing-spec =
     Inv-loop
     μ-loop
     loop-holds
-    mul-tested-differ
-    shared-slice-read-tested-differ
-    tested-differ-requires
+    mul-outputs-differ
+    shared-slice-read-outputs-differ
+    outputs-differ-requires
     agreeing-state-requires
     returns
     add-i

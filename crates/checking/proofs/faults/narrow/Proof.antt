@@ -10,6 +10,7 @@ use lib.Seq.{getD-set-other}
 use borrow.Author.Needs.{needs}
 use Rattle.circuit.specs.Gate.{maxLines}
 use Rattle.circuit.specs.Words.{gatesOf, allValid}
+use Rattle.circuit.proofs.gate.Laws.{toggled-apply}
 use Rattle.circuit.proofs.words.Laws.{gates-length, valid-next, valid-later}
 use Rattle.checking.specs.private.Narrowing.{narrowed}
 use Rattle.checking.proofs.faults.Loops.{twoSet, narrow-turn, narrow-end}
@@ -43,10 +44,7 @@ slice-read-out : tie.Need-slice-read-out Inv-loop μ-loop
 slice-read-out c = search needs
 
 kept-positive-requires : tie.Need-kept-positive-requires Inv-loop μ-loop
-kept-positive-requires c κs =
-    let g = c .before in
-    let l = g .before .before in
-    valid-next maxLines (l .before .before .before .args .words .now) (l .loop .i) _ (omega arith) (g .gate-at .ensures) (l .loop .inv .3)
+kept-positive-requires c κs = search needs
 
 mul-out-2 : tie.Need-mul-out-2 Inv-loop μ-loop
 mul-out-2 c = search needs
@@ -64,10 +62,7 @@ slice-read-out-2 : tie.Need-slice-read-out-2 Inv-loop μ-loop
 slice-read-out-2 c = simp length-set (omega arith)
 
 kept-negative-requires : tie.Need-kept-negative-requires Inv-loop μ-loop
-kept-negative-requires c κs =
-    let g = c .before .before .before in
-    let l = g .before .before in
-    valid-next maxLines (l .before .before .before .args .words .now) (l .loop .i) _ (omega arith) (g .gate-at .ensures) (l .loop .inv .3)
+kept-negative-requires c κs = search needs
 
 add-out-2 : tie.Need-add-out-2 Inv-loop μ-loop
 add-out-2 c = search needs
@@ -78,12 +73,8 @@ mul-out-4 c = search needs
 slice-write-out-2 : tie.Need-slice-write-out-2 Inv-loop μ-loop
 slice-write-out-2 c = simp length-set (omega arith)
 
-after-requires : tie.Need-after-requires Inv-loop μ-loop
-after-requires c κs =
-    let p = c .before .before in
-    let g = p .before .before in
-    let l = g .before .before in
-    valid-next maxLines (l .before .before .before .args .words .now) (l .loop .i) _ (omega arith) (g .gate-at .ensures) (l .loop .inv .3)
+toggle-requires : tie.Need-toggle-requires Inv-loop μ-loop
+toggle-requires c κs = search needs
 
 add-i : tie.Need-add-i Inv-loop μ-loop
 add-i c = omega arith
@@ -110,7 +101,7 @@ loop-again c =
       l .loop .inv .4
           ∙ narrow-turn ws out i _ (omega arith) (omega arith) (g .gate-at .ensures) s v w (ap (bitAnd (getD out (2 * i) 0)) (p .kept-positive .ensures))
           (ap₂ bitAnd (getD-set-other out (2 * i) (2 * i + 1) v 0 (λ e. omega arith)) (n .kept-negative .ensures))
-          ∙ ap (λ (t : ℕ). take (2 * (i + 1)) (twoSet out (2 * i) v w) ++ narrowed (gatesOf (drop (3 * (i + 1)) ws)) t (drop (2 * (i + 1)) (twoSet out (2 * i) v w))) (sym (c .after .ensures)),
+          ∙ ap (λ (t : ℕ). take (2 * (i + 1)) (twoSet out (2 * i) v w) ++ narrowed (gatesOf (drop (3 * (i + 1)) ws)) t (drop (2 * (i + 1)) (twoSet out (2 * i) v w))) (sym (c .toggle .ensures ∙ toggled-apply _ s (valid-next maxLines ws i _ (omega arith) (g .gate-at .ensures) (l .loop .inv .3)))),
     )
 
 same-length : tie.Need-same-length Inv-loop μ-loop
@@ -142,7 +133,7 @@ narrow-spec =
     add-out-2
     mul-out-4
     slice-write-out-2
-    after-requires
+    toggle-requires
     add-i
     loop-less
     loop-again

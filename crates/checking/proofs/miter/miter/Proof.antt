@@ -40,20 +40,20 @@ returns c =
 copy-requires : tie.Need-copy-requires
 copy-requires c κs = search needs
 
-mul-inverse : tie.Need-mul-inverse
-mul-inverse c = search needs
+mul-put-inverse : tie.Need-mul-put-inverse
+mul-put-inverse c = search needs
 
-sub-inverse : tie.Need-sub-inverse
-sub-inverse c = search needs
+sub-put-inverse : tie.Need-sub-put-inverse
+sub-put-inverse c = search needs
 
-part-inverse-start : tie.Need-part-inverse-start
-part-inverse-start c = search needs
+part-put-inverse-start : tie.Need-part-put-inverse-start
+part-put-inverse-start c = search needs
 
-part-inverse-end : tie.Need-part-inverse-end
-part-inverse-end c = search needs
+part-put-inverse-end : tie.Need-part-put-inverse-end
+part-put-inverse-end c = search needs
 
-inverse-requires : tie.Need-inverse-requires
-inverse-requires c κs = search needs
+put-inverse-requires : tie.Need-put-inverse-requires
+put-inverse-requires c κs = search needs
 
 add-t14 : tie.Need-add-t14
 add-t14 c =
@@ -79,7 +79,7 @@ returns-3 c =
     let g = e .before .before in
     let a = g .before .before .before .before .before .before .args in
     miter-told _ _ _ _ _ _ (served _) _ refl (miter-made _ _ _ _ _ _ (good g) (e .if1 .left))
-    (miter-written (a .na) (a .a .now) (a .nb) (a .b .now) _ (good g) (a .out .now) (p .copy .last .1 .0) (i .inverse .last .1 .1 .0) (e .if1 .left) (p .copy .ensures) (i .inverse .ensures .buffer))
+    (miter-written (a .na) (a .a .now) (a .nb) (a .b .now) _ (good g) (a .out .now) (p .copy .last .1 .0) (i .put-inverse .last .1 .0) (e .if1 .left) (p .copy .ensures) (i .put-inverse .ensures))
 
 pub miter-spec : {M : Type 1} → statement M
 miter-spec =
@@ -92,11 +92,11 @@ miter-spec =
     no-room-requires
     returns
     copy-requires
-    mul-inverse
-    sub-inverse
-    part-inverse-start
-    part-inverse-end
-    inverse-requires
+    mul-put-inverse
+    sub-put-inverse
+    part-put-inverse-start
+    part-put-inverse-end
+    put-inverse-requires
     add-t14
     returns-2
     same-length

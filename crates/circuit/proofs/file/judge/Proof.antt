@@ -11,13 +11,13 @@ use Rattle.circuit.proofs.file.judge.Statement.{statement}
 use Rattle.circuit.proofs.file.judge.Tie as tie
 
 abbrev Inv-loop : tie.InvT-loop
-Inv-loop text n start at₀ gates₀ at gates = Judging n text start at gates
+Inv-loop text n first start at₀ gates₀ at gates = Judging n first text start at gates
 
 abbrev μ-loop : tie.MeasureT-loop
-μ-loop text n start at₀ gates₀ at gates = length text - at
+μ-loop text n first start at₀ gates₀ at gates = length text - at
 
 loop-holds : tie.Need-loop-holds Inv-loop μ-loop
-loop-holds c = let p = c .before .pre in judging-start _ _ _ (p .1) (p .0)
+loop-holds c = let p = c .before .pre in judging-start _ _ _ _ (p .2) (p .1)
 
 ends-requires : tie.Need-ends-requires Inv-loop μ-loop
 ends-requires c κs = search needs
@@ -37,7 +37,7 @@ returns c =
     let g = w .before .before in
     let t = g .before in
     let l = t .before .before in
-    sym (judging-refused _ _ _ _ _ (l .loop .inv) (sym (t .before .ends .ensures) ∙ not-true _ (t .if1 .taken)) _ _ (sym (g .gate-line .ensures) ∙ ap ofGate (w .why .given .1)))
+    sym (judging-refused _ _ _ _ _ _ (l .loop .inv) (sym (t .before .ends .ensures) ∙ not-true _ (t .if1 .taken)) _ _ (sym (g .gate-line .ensures) ∙ ap ofGate (w .why .given .1)))
 
 enum-known-next : tie.Need-enum-known-next Inv-loop μ-loop
 enum-known-next c = search needs
@@ -51,7 +51,7 @@ loop-less c =
     let g = w .before .before in
     let t = g .before in
     let l = t .before .before in
-    let s = judging-step _ _ _ _ _ (l .loop .inv) (sym (t .before .ends .ensures) ∙ not-true _ (t .if1 .taken)) _ (sym (g .gate-line .ensures) ∙ ap ofGate (w .next .given .1)) in
+    let s = judging-step _ _ _ _ _ _ (l .loop .inv) (sym (t .before .ends .ensures) ∙ not-true _ (t .if1 .taken)) _ (sym (g .gate-line .ensures) ∙ ap ofGate (w .next .given .1)) in
     omega (arith, s .onward, s .inside)
 
 loop-again : tie.Need-loop-again Inv-loop μ-loop
@@ -60,17 +60,17 @@ loop-again c =
     let g = w .before .before in
     let t = g .before in
     let l = t .before .before in
-    judging-turn _ _ _ _ _ (l .loop .inv) (sym (t .before .ends .ensures) ∙ not-true _ (t .if1 .taken)) _ (sym (g .gate-line .ensures) ∙ ap ofGate (w .next .given .1))
+    judging-turn _ _ _ _ _ _ (l .loop .inv) (sym (t .before .ends .ensures) ∙ not-true _ (t .if1 .taken)) _ (sym (g .gate-line .ensures) ∙ ap ofGate (w .next .given .1))
 
-add-t14 : tie.Need-add-t14 Inv-loop μ-loop
-add-t14 c =
+add-t15 : tie.Need-add-t15 Inv-loop μ-loop
+add-t15 c =
     let l = c .before .before in
-    omega (arith, judging-end _ _ _ _ _ (l .loop .inv) (sym (c .before .ends .ensures) ∙ not-false _ (c .if1 .left)) .1)
+    omega (arith, judging-end _ _ _ _ _ _ (l .loop .inv) (sym (c .before .ends .ensures) ∙ not-false _ (c .if1 .left)) .1)
 
 returns-2 : tie.Need-returns-2 Inv-loop μ-loop
 returns-2 c =
     let l = c .before .before in
-    sym (judging-end _ _ _ _ _ (l .loop .inv) (sym (c .before .ends .ensures) ∙ not-false _ (c .if1 .left)) .0)
+    sym (judging-end _ _ _ _ _ _ (l .loop .inv) (sym (c .before .ends .ensures) ∙ not-false _ (c .if1 .left)) .0)
 
 pub judge-spec : {M : Type 1} → statement M
 judge-spec =
@@ -88,5 +88,5 @@ judge-spec =
     add-gates
     loop-less
     loop-again
-    add-t14
+    add-t15
     returns-2)

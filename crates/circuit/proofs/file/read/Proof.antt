@@ -42,7 +42,7 @@ enum-known-lines : tie.Need-enum-known-lines
 enum-known-lines c = search needs
 
 judge-requires : tie.Need-judge-requires
-judge-requires c κs = let s = started (c .before) in (s .inside, s .high)
+judge-requires c κs = let s = started (c .before) in (s .some, s .inside, s .high)
 
 enum-known-why-2 : tie.Need-enum-known-why-2
 enum-known-why-2 c = search needs

@@ -7,7 +7,7 @@ use native.Mathlib.Omega.{arith}
 use lib.Dec.{eqb, ltb}
 use lib.ListN.{length, drop, getD, length-drop}
 use lib.Seq.{drop-drop, drop-append-seam, append-snoc}
-use borrow.Author.Tests.{eqb-true, eq-eqb, ne-eqb, le-leb, lt-leb, ltb-true, ltb-false}
+use borrow.Author.Tests.{eqb-true, eq-eqb, ne-eqb, le-leb, lt-leb, lt-ltb, le-ltb, ltb-true, ltb-false}
 use Rattle.bits.proofs.Bools.{either, and-parts, not-held, refuted, same-test, or-none}
 use Rattle.circuit.specs.declared.gate.Gate.{Gate}
 use Rattle.circuit.specs.declared.file.scan.Seen.{Seen}
@@ -345,11 +345,11 @@ word-starts w r t fs e =
 
 -- ---- a gate line from its start
 
-pub gate-other : (n i at : ℕ) (r : List ℕ) → startsWith (103 ∷ 9 ∷ []) r ≡ false → gateNext n i at r ≡ refused wrongForm i
+pub gate-other : (n i count at : ℕ) (r : List ℕ) → startsWith (103 ∷ 9 ∷ []) r ≡ false → gateNext n i count at r ≡ refused wrongForm i
 unfolding gateFields
-gate-other n i at r e = then-refused _ _ wrongForm i (go (fieldsOf (lineAt r .bytes)) refl)
+gate-other n i count at r e = then-refused _ _ wrongForm i (go (fieldsOf (lineAt r .bytes)) refl)
   where
-    go : (fs : List (List ℕ)) → fieldsOf (lineAt r .bytes) ≡ fs → gateFields n i (lineAt r .ended) fs ≡ refused wrongForm i
+    go : (fs : List (List ℕ)) → fieldsOf (lineAt r .bytes) ≡ fs → gateFields n i count (lineAt r .ended) fs ≡ refused wrongForm i
     go [] q = refl
     go (f ∷ []) q = refl
     go (f ∷ t ∷ fs) q =
@@ -369,27 +369,27 @@ module _ (r : List ℕ) (starts : startsWith (103 ∷ 9 ∷ []) r ≡ true) wher
   gate-parts : fieldsOf (lineAt r .bytes) ≡ gateWord ∷ fieldAt (drop 2 r) ∷ laterFields (fieldsOf (lineAt (drop (length (fieldAt (drop 2 r))) (drop 2 r)) .bytes))
   gate-parts = gate-word .fields ∙ ap (λ (fs : List (List ℕ)). gateWord ∷ fs) (parted (drop 2 r) .fields)
 
-  pub gate-many : (n i at : ℕ) → maxGates < i → gateNext n i at r ≡ refused tooManyGates i
+  pub gate-many : (n i count at : ℕ) → maxGates ≤ count → gateNext n i count at r ≡ refused tooManyGates i
   unfolding gateFields
-  gate-many n i at h =
+  gate-many n i count at h =
       then-refused _ _ tooManyGates i
-      (ap (gateFields n i (lineAt r .ended)) gate-parts ∙ demand-met {A = Gate} _ _ _ _ (same-self gateWord) ∙ demand-failed {A = Gate} _ _ _ _ (lt-leb i maxGates h))
+      (ap (gateFields n i count (lineAt r .ended)) gate-parts ∙ demand-met {A = Gate} _ _ _ _ (same-self gateWord) ∙ demand-failed {A = Gate} _ _ _ _ (le-ltb count maxGates h))
 
-  module _ (n i at : ℕ) (few : i ≤ maxGates) where
-    gate-few : gateOn n i (lineAt r)
+  module _ (n i count at : ℕ) (few : count < maxGates) where
+    gate-few : gateOn n i count (lineAt r)
         ≡ andThen (lineOf n i (fieldAt (drop 2 r))) (λ k.
         andThen (controlsFrom n i [] (laterFields (fieldsOf (lineAt (drop (length (fieldAt (drop 2 r))) (drop 2 r)) .bytes)))) (closedGate i (lineAt r .ended) k))
     unfolding gateFields
     gate-few =
-        ap (gateFields n i (lineAt r .ended)) gate-parts
+        ap (gateFields n i count (lineAt r .ended)) gate-parts
         ∙ demand-met {A = Gate} _ _ _ _ (same-self gateWord)
-        ∙ demand-met {A = Gate} _ _ _ _ (le-leb i maxGates few)
+        ∙ demand-met {A = Gate} _ _ _ _ (lt-ltb count maxGates few)
 
-    pub gate-refused : (number place : ℕ) → lineOf n i (fieldAt (drop 2 r)) ≡ refused number place → gateNext n i at r ≡ refused number place
+    pub gate-refused : (number place : ℕ) → lineOf n i (fieldAt (drop 2 r)) ≡ refused number place → gateNext n i count at r ≡ refused number place
     gate-refused number place e = then-refused _ _ number place (gate-few ∙ then-refused _ _ number place e)
 
     pub gate-target : (k : ℕ) → lineOf n i (fieldAt (drop 2 r)) ≡ served k → (rest : List ℕ) → rest ≡ drop (length (fieldAt (drop 2 r))) (drop 2 r) → (next : ℕ)
-        → next ≡ at + 2 + length (fieldAt (drop 2 r)) → gateNext n i at r ≡ controlsNext n i k next rest
+        → next ≡ at + 2 + length (fieldAt (drop 2 r)) → gateNext n i count at r ≡ controlsNext n i k next rest
     gate-target k e rest q next m =
         let p = parted (drop 2 r) in
         let s : lineSize (lineAt r) ≡ 2 + lineSize (lineAt (drop 2 r)) = gate-word .sizes in

@@ -1,4 +1,7 @@
 -- `circuit::gate::above` meets its contract. Assumes nothing.
+use mathlib.Core.Path.{ap, _∙_}
+use Prim.Native.Nat.{_^_}
+use native.Mathlib.Nat.{mod-eq-of-lt}
 use native.Mathlib.Omega.{arith}
 use lib.Pow.{pow-lt, pow-mono, pow-pos}
 use borrow.Author.Needs.{needs}
@@ -14,7 +17,7 @@ wrapping-sub-u64-requires c κs = search needs
 returns : tie.Need-returns
 returns c =
     let l = c .before in
-    omega (arith, c .wrapping-sub-u64 .ensures, l .line .ensures, pow-lt (l .before .if1 .taken), pow-pos (l .before .before .args .n))
+    omega (arith, c .wrapping-sub-u64 .ensures, l .line .ensures ∙ ap (_^_ 2) (mod-eq-of-lt (l .before .if1 .taken)), pow-lt (l .before .if1 .taken), pow-pos (l .before .before .args .n))
 
 returns-2 : tie.Need-returns-2
 returns-2 c = omega (arith, pow-mono (c .if1 .left))

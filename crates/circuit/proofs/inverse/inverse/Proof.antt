@@ -7,8 +7,7 @@ use Rattle.circuit.specs.Outcome.{served, refused}
 use Rattle.circuit.specs.Refusal.{noRoom}
 use Rattle.circuit.specs.Words.{ofCount, checkOutcome}
 use Rattle.circuit.proofs.Outcome.{why}
-use Rattle.circuit.proofs.words.Laws.{check-served}
-use Rattle.circuit.proofs.inverse.Laws.{inverse-refused, inverse-short, inverse-made, inverse-told}
+use Rattle.circuit.proofs.inverse.Laws.{put-fits, inverse-refused, inverse-short, inverse-made, inverse-told}
 use Rattle.circuit.proofs.inverse.inverse.Statement.{statement}
 use Rattle.circuit.proofs.inverse.inverse.Tie as tie
 
@@ -35,10 +34,8 @@ returns c =
     let g = c .before .before in
     inverse-told _ _ _ _ (refused noRoom 0) _ (why (c .no-room .ensures)) (inverse-short _ _ _ _ (good g) (c .before .if1 .taken)) refl
 
-put-reversed-requires : tie.Need-put-reversed-requires
-put-reversed-requires c κs =
-    let k = check-served _ _ _ _ (good (c .before .before)) in
-    (omega (arith, k .size), omega arith)
+put-inverse-requires : tie.Need-put-inverse-requires
+put-inverse-requires c κs = search needs
 
 returns-2 : tie.Need-returns-2
 returns-2 c =
@@ -54,7 +51,7 @@ returns-3 : tie.Need-returns-3
 returns-3 c =
     let p = c .before .before in
     let e = p .before .before in
-    inverse-told _ _ _ _ (served (e .before .before .gates .given .0 .0)) _ refl (inverse-made _ _ _ _ (good (e .before)) (e .if1 .left)) (p .put-reversed .ensures)
+    inverse-told _ _ _ _ (served (e .before .before .gates .given .0 .0)) _ refl (inverse-made _ _ _ _ (good (e .before)) (e .if1 .left)) (p .put-inverse .ensures ∙ put-fits _ _ (omega arith))
 
 pub inverse-spec : {M : Type 1} → statement M
 inverse-spec =
@@ -65,7 +62,7 @@ inverse-spec =
     enum-known-gates
     no-room-requires
     returns
-    put-reversed-requires
+    put-inverse-requires
     returns-2
     same-length
     returns-3)

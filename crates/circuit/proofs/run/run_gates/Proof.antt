@@ -5,13 +5,14 @@ use native.Mathlib.Omega.{arith}
 use lib.ListN.{drop}
 use borrow.Author.Needs.{needs}
 use borrow.Author.Tests.{not-true, not-false}
+use Rattle.circuit.specs.Gate.{apply}
 use Rattle.circuit.specs.Outcome.{served}
 use Rattle.circuit.specs.Words.{gatesOf, validFrom}
 use Rattle.circuit.specs.Run.{run}
 use Rattle.circuit.proofs.Outcome.{why, then-served, then-refused}
-use Rattle.circuit.proofs.gate.Laws.{valid-more, apply-gate}
+use Rattle.circuit.proofs.gate.Laws.{valid-more, toggled-apply}
 use Rattle.circuit.proofs.words.Laws.{next-good, next-bad, none-left}
-use Rattle.circuit.proofs.run.Laws.{run-turn, run-end}
+use Rattle.circuit.proofs.run.Laws.{fold-turn, fold-end}
 use Rattle.circuit.proofs.run.run_gates.Statement.{statement}
 use Rattle.circuit.proofs.run.run_gates.Tie as tie
 
@@ -44,9 +45,8 @@ returns c =
     ∙ sym (then-refused _ _ _ _
     (l .loop .inv .1 ∙ next-bad _ _ _ _ (omega arith) (v .before .gate-at .ensures) (sym (v .valid .ensures) ∙ not-true _ (c .before .if1 .taken))))
 
-invert-requires : tie.Need-invert-requires Inv-loop μ-loop
-invert-requires c κs =
-    valid-more _ _ _ (c .before .before .before .before .before .before .pre) (sym (c .before .valid .ensures) ∙ not-false _ (c .if1 .left))
+toggle-requires : tie.Need-toggle-requires Inv-loop μ-loop
+toggle-requires c κs = search needs
 
 add-i : tie.Need-add-i Inv-loop μ-loop
 add-i c = omega arith
@@ -63,15 +63,15 @@ loop-again c =
       omega arith,
       l .loop .inv .1 ∙ next-good _ _ _ _ (omega arith) (v .before .gate-at .ensures) good,
       l .loop .inv .2
-          ∙ run-turn (l .before .before .args .words .now) (l .loop .i) _ (l .loop .s) (omega arith) (v .before .gate-at .ensures)
-          ∙ ap (run _) (apply-gate _ (l .loop .s) (valid-more _ _ _ (l .before .before .pre) good) ∙ sym (c .invert .ensures)),
+          ∙ fold-turn apply (l .before .before .args .words .now) (l .loop .i) _ (l .loop .s) (omega arith) (v .before .gate-at .ensures)
+          ∙ ap (run _) (sym (c .toggle .ensures ∙ toggled-apply _ (l .loop .s) (valid-more _ _ _ (l .before .before .pre) good))),
     )
 
 returns-2 : tie.Need-returns-2 Inv-loop μ-loop
 returns-2 c =
     let l = c .before in
     sym (then-served _ _ _ (l .loop .inv .1 ∙ none-left _ _ _ (omega arith))
-    ∙ ap served (l .loop .inv .2 ∙ run-end (l .before .before .args .words .now) (l .loop .i) _ (omega arith)))
+    ∙ ap served (l .loop .inv .2 ∙ fold-end apply (l .before .before .args .words .now) (l .loop .i) _ (omega arith)))
 
 pub run-gates-spec : {M : Type 1} → statement M
 run-gates-spec =
@@ -84,7 +84,7 @@ run-gates-spec =
     valid-requires
     no-gate-requires
     returns
-    invert-requires
+    toggle-requires
     add-i
     loop-less
     loop-again

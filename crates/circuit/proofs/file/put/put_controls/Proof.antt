@@ -1,12 +1,14 @@
 -- `circuit::file::put::put_controls` meets its contract. The loop's invariant: the controls on the lines that are not left stand at the buffer's start. Assumes nothing.
+use mathlib.Core.Path.{ap, _∙_}
 use mathlib.Core.Logic.{⊎-elim}
 use mathlib.Core.List.{_∷_}
 use Prim.Native.Nat.{_+_, _-_, _<_, _≤_}
-use native.Mathlib.Nat.{eq-zero-or-pos}
+use native.Mathlib.Nat.{eq-zero-or-pos, mod-eq-of-lt}
 use native.Mathlib.Omega.{arith}
 use lib.Bits.{or-lt, and-le-r}
 use lib.ListN.{length}
 use borrow.Author.Needs.{needs}
+use Rattle.bits.specs.Digits.{bit}
 use Rattle.circuit.specs.Gate.{maxLines}
 use Rattle.circuit.proofs.gate.Controls.{controlOn}
 use Rattle.circuit.specs.Text.{tab, controlText}
@@ -50,7 +52,7 @@ part-put-control-end : tie.Need-part-put-control-end Inv-loop μ-loop
 part-put-control-end c = search needs
 
 has-requires : tie.Need-has-requires Inv-loop μ-loop
-has-requires c κs = below (c .before)
+has-requires c κs = search needs
 
 put-control-requires : tie.Need-put-control-requires Inv-loop μ-loop
 put-control-requires c κs =
@@ -73,7 +75,7 @@ loop-again : tie.Need-loop-again Inv-loop μ-loop
 loop-again c =
     let p = c .before .before in
     let w = p .before .before .before in
-    putting-on _ _ _ _ _ _ (w .before .before .loop .inv) (some (w .before)) (w .lowest .result) (w .lowest .ensures) _ (p .before .has .ensures) _ _ (p .put-control .ensures) (p .put-control .kept .0)
+    putting-on _ _ _ _ _ _ (w .before .before .loop .inv) (some (w .before)) (w .lowest .result) (w .lowest .ensures) _ (p .before .has .ensures ∙ ap (bit _) (mod-eq-of-lt (below w))) _ _ (p .put-control .ensures) (p .put-control .kept .0)
 
 same-length : tie.Need-same-length Inv-loop μ-loop
 same-length c = c .before .loop .inv .written .same

@@ -67,7 +67,7 @@ wrong-form-requires c κs = search needs
 returns : tie.Need-returns
 returns c =
     let s = c .before .before in
-    why (c .wrong-form .ensures) ∙ sym (gate-other _ _ _ _ (sym (s .starts .ensures) ∙ not-true _ (c .before .if1 .taken)))
+    why (c .wrong-form .ensures) ∙ sym (gate-other _ _ _ _ _ (sym (s .starts .ensures) ∙ not-true _ (c .before .if1 .taken)))
 
 too-many-gates-requires : tie.Need-too-many-gates-requires
 too-many-gates-requires c κs = search needs
@@ -75,7 +75,7 @@ too-many-gates-requires c κs = search needs
 returns-2 : tie.Need-returns-2
 returns-2 c =
     let e = c .before .before in
-    why (c .too-many-gates .ensures) ∙ sym (gate-many _ (word e) _ _ _ (c .before .if2 .taken))
+    why (c .too-many-gates .ensures) ∙ sym (gate-many _ (word e) _ _ _ _ (c .before .if2 .taken))
 
 add-line : tie.Need-add-line
 add-line c = search needs
@@ -109,7 +109,7 @@ returns-3 c =
     let e₂ = ln .before in
     let e = e₂ .before in
     let a = start e .args in
-    sym (gate-refused _ (word e) _ _ _ (e₂ .if2 .left) _ _
+    sym (gate-refused _ (word e) _ _ _ _ (e₂ .if2 .left) _ _
     (ap (λ (x : List ℕ). lineOf (a .n) (a .place) (fieldAt x)) (drop-drop 2 (a .start) (a .text .now)) ∙ sym (ln .line .ensures .0) ∙ ap ofLine (w .why .given .1)))
 
 returns-4 : tie.Need-returns-4
@@ -117,7 +117,7 @@ returns-4 c =
     let t = c .before .before in
     let e₂ = t .before .before .before in
     let e = e₂ .before in
-    c .controls .ensures ∙ sym (gate-target _ (word e) _ _ _ (e₂ .if2 .left) _ (target t) _ (after t) _ (next t))
+    c .controls .ensures ∙ sym (gate-target _ (word e) _ _ _ _ (e₂ .if2 .left) _ (target t) _ (after t) _ (next t))
 
 pub gate-line-spec : {M : Type 1} → statement M
 gate-line-spec =

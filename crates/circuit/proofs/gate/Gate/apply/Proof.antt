@@ -1,21 +1,21 @@
 -- `circuit::gate::Gate::apply` meets its contract. Assumes nothing.
 use mathlib.Core.Path.{sym, _∙_}
 use borrow.Author.Needs.{needs}
-use Rattle.circuit.proofs.gate.Laws.{apply-gate, apply-none}
+use Rattle.circuit.proofs.gate.Laws.{toggled-apply, apply-none}
 use Rattle.circuit.proofs.gate.Gate.apply.Statement.{statement}
 use Rattle.circuit.proofs.gate.Gate.apply.Tie as tie
 
 valid-requires : tie.Need-valid-requires
 valid-requires c κs = search needs
 
-invert-requires : tie.Need-invert-requires
-invert-requires c κs = sym (c .before .valid .ensures) ∙ c .if1 .taken
+toggle-requires : tie.Need-toggle-requires
+toggle-requires c κs = search needs
 
 returns : tie.Need-returns
 returns c =
     let v = c .before .before in
     let a = v .before .args in
-    c .invert .ensures ∙ sym (apply-gate (a .self) (a .state) (sym (v .valid .ensures) ∙ c .before .if1 .taken))
+    c .toggle .ensures ∙ (toggled-apply (a .self) (a .state) (sym (v .valid .ensures) ∙ c .before .if1 .taken))
 
 returns-2 : tie.Need-returns-2
 returns-2 c =
@@ -24,4 +24,4 @@ returns-2 c =
     sym (apply-none (a .self) (a .state) (sym (v .valid .ensures) ∙ c .if1 .left))
 
 pub apply-spec : {M : Type 1} → statement M
-apply-spec = tie.close (tie.spec valid-requires invert-requires returns returns-2)
+apply-spec = tie.close (tie.spec valid-requires toggle-requires returns returns-2)

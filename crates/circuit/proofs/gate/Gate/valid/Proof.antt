@@ -1,7 +1,7 @@
 -- `circuit::gate::Gate::valid` meets its contract. Assumes nothing.
 use mathlib.Core.Path.{_≡_, sym, ap, _∙_}
 use mathlib.Core.Bool.{true}
-use Prim.Native.Nat.{ℕ, _^_, _<_}
+use Prim.Native.Nat.{ℕ, _%_, _^_, _<_}
 use native.Mathlib.Omega.{arith}
 use lib.Dec.{eqb, ltb}
 use lib.Bits.{bitAnd, bitOr, or-lt}
@@ -9,7 +9,7 @@ use borrow.Author.Needs.{needs}
 use borrow.Author.Tests.{lt-ltb, not-true, not-false}
 use Rattle.bits.proofs.Bools.{refuted}
 use Rattle.circuit.specs.declared.gate.Gate.{Gate}
-use Rattle.circuit.specs.Gate.{valid}
+use Rattle.circuit.specs.Gate.{maxLines, valid}
 use Rattle.circuit.proofs.gate.Laws.{not-valid, valid-last, both-below}
 use Rattle.circuit.proofs.gate.Gate.valid.Statement.{statement}
 use Rattle.circuit.proofs.gate.Gate.valid.Tie as tie
@@ -45,13 +45,14 @@ returns-4 c =
     c .clear .ensures ∙ last (a .n) (a .self) (omega arith) (sym (e .before .below .ensures) ∙ not-false _ (e .if2 .left)) (c .before .before .if3 .left)
 
 line-requires : tie.Need-line-requires
-line-requires c κs = omega arith
+line-requires c κs = search needs
 
 returns-5 : tie.Need-returns-5
 returns-5 c =
     let e = c .before .before .before in
     let a = e .before .before .before .args in
-    ap (λ (x : ℕ). eqb (bitAnd (bitOr (a .self .positive) (a .self .negative)) x) 0) (c .line .ensures)
+    let k : a .self .target % maxLines ≡ a .self .target = omega arith in
+    ap (λ (x : ℕ). eqb (bitAnd (bitOr (a .self .positive) (a .self .negative)) x) 0) (c .line .ensures ∙ ap (_^_ 2) k)
     ∙ last (a .n) (a .self) (omega arith) (sym (e .before .below .ensures) ∙ not-false _ (e .if2 .left)) (c .before .before .if3 .left)
 
 pub valid-spec : {M : Type 1} → statement M

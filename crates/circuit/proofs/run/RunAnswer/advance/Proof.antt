@@ -5,7 +5,7 @@ use borrow.Author.Tests.{not-true, not-false}
 use Rattle.circuit.specs.Outcome.{served}
 use Rattle.circuit.specs.Run.{ofRun}
 use Rattle.circuit.proofs.Outcome.{why, demand-met, demand-failed, then-served, then-refused}
-use Rattle.circuit.proofs.gate.Laws.{valid-more, apply-gate}
+use Rattle.circuit.proofs.gate.Laws.{valid-more, toggled-apply}
 use Rattle.circuit.proofs.run.RunAnswer.advance.Statement.{statement}
 use Rattle.circuit.proofs.run.RunAnswer.advance.Tie as tie
 
@@ -28,9 +28,8 @@ returns c =
     ∙ sym (then-served _ _ _ (ap ofRun (v .before .before .self2 .given .1))
     ∙ demand-failed _ _ _ _ (sym (v .valid .ensures) ∙ not-true _ (c .before .if1 .taken)))
 
-invert-requires : tie.Need-invert-requires
-invert-requires c κs =
-    valid-more _ _ _ (c .before .before .before .before .before .pre) (sym (c .before .valid .ensures) ∙ not-false _ (c .if1 .left))
+toggle-requires : tie.Need-toggle-requires
+toggle-requires c κs = search needs
 
 returns-2 : tie.Need-returns-2
 returns-2 c = sym (then-refused _ _ _ _ (ap ofRun (c .before .self .given .1)))
@@ -41,7 +40,7 @@ returns-3 c =
     let v = e .before in
     sym (then-served _ _ _ (ap ofRun (v .before .before .self2 .given .1))
     ∙ demand-met _ _ _ _ (sym (v .valid .ensures) ∙ not-false _ (e .if1 .left))
-    ∙ ap served (apply-gate _ _ (valid-more _ _ _ (v .before .before .before .before .pre) (sym (v .valid .ensures) ∙ not-false _ (e .if1 .left))) ∙ sym (c .invert .ensures)))
+    ∙ ap served (sym (c .toggle .ensures ∙ toggled-apply _ _ (valid-more _ _ _ (v .before .before .before .before .pre) (sym (v .valid .ensures) ∙ not-false _ (e .if1 .left))))))
 
 pub advance-spec : {M : Type 1} → statement M
 advance-spec =
@@ -52,6 +51,6 @@ advance-spec =
     valid-requires
     no-gate-requires
     returns
-    invert-requires
+    toggle-requires
     returns-2
     returns-3)

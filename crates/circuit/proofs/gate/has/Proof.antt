@@ -1,9 +1,9 @@
--- `circuit::file::put::has` meets its contract. Assumes nothing.
+-- `circuit::gate::has` meets its contract. Assumes nothing.
 use mathlib.Core.Path.{refl}
 use Rattle.bits.specs.Digits.{bit}
 use borrow.Author.Needs.{needs}
-use Rattle.circuit.proofs.file.put.has.Statement.{statement}
-use Rattle.circuit.proofs.file.put.has.Tie as tie
+use Rattle.circuit.proofs.gate.has.Statement.{statement}
+use Rattle.circuit.proofs.gate.has.Tie as tie
 
 shr-result : tie.Need-shr-result
 shr-result c = search needs
