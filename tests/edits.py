@@ -42,12 +42,12 @@ pub fn limited(x: u64) -> u64
 }
 
 FALSE = "the two sides are `1` and `2`"
-DOUBLE = "# refused: proofs/double/Proof.antt returns\nfile: src/lib.rt\nold:     x + x\nnew:     x + 1\n"
-TRIPLE = "# refused: proofs/triple/Proof.antt returns\nfile: src/lib.rt\nold:     x * 3\nnew:     x * 4\n"
-LIMITED = "# refused: demo::limited returns\nfile: src/lib.rt\nold: if x < LIMIT {\nnew: if x <= LIMIT {\n"
+DOUBLE = "# wrong: x = 2\n# refused: proofs/double/Proof.antt returns\nfile: src/lib.rt\nold:     x + x\nnew:     x + 1\n"
+TRIPLE = "# wrong: x = 1\n# refused: proofs/triple/Proof.antt returns\nfile: src/lib.rt\nold:     x * 3\nnew:     x * 4\n"
+LIMITED = "# wrong: x = 7\n# refused: demo::limited returns\nfile: src/lib.rt\nold: if x < LIMIT {\nnew: if x <= LIMIT {\n"
 LAW = "# refused: proofs/Laws.antt even\nfile: specs/Rules.antt\nold: twice x = 2 * x\nnew: twice x = 3 * x\n"
-CONTRACT = "# refused: proofs/double/Proof.antt returns\nfile: src/lib.rt\nold: ⌜ r ≡ twice x ⌝\nnew: ⌜ r ≡ thrice x ⌝\n"
-CONSTANT = "# refused: demo::limited returns\nfile: src/lib.rt\nold: LIMIT: u64 = 7;\nnew: LIMIT: u64 = 8;\n"
+CONTRACT = "# wrong: x = 1\n# refused: proofs/double/Proof.antt returns\nfile: src/lib.rt\nold: ⌜ r ≡ twice x ⌝\nnew: ⌜ r ≡ thrice x ⌝\n"
+CONSTANT = "# wrong: x = 7\n# refused: demo::limited returns\nfile: src/lib.rt\nold: LIMIT: u64 = 7;\nnew: LIMIT: u64 = 8;\n"
 
 
 def group(**edits):
@@ -91,6 +91,8 @@ CASES = [
     ("an edit of a contract beside one of a caller", group(one=CONTRACT, two=LIMITED), AT_DOUBLE + AT_LIMITED, 1, "one reaches demo::limited, which two names"),
     ("an edit of a constant beside one of another function", group(one=CONSTANT, two=TRIPLE), AT_LIMITED + AT_TRIPLE, 0, "2 refused"),
     ("an edit that does not reach the place that it names", group(one=DOUBLE.replace("proofs/double/Proof.antt", "proofs/Laws.antt"), two=TRIPLE), AT_LAW + AT_TRIPLE, 1, "does not reach proofs/Laws.antt"),
+    ("an edit of the code that does not say where it is wrong", DOUBLE.replace("# wrong: x = 2\n", ""), AT_DOUBLE, 1, "has no line '# wrong: INPUT'"),
+    ("an edit of a definition needs no such line", LAW, AT_LAW, 0, "1 refused"),
     ("an edit of two functions", group(one=DOUBLE + "old:     x * 3\nnew:     x * 4\n", two=TRIPLE), AT_DOUBLE + AT_TRIPLE, 1, "they can't share a check"),
 ]
 

@@ -16,7 +16,7 @@ use Rattle.circuit.specs.Words.{gatesOf, wordsOf, allValid, checkOutcome
 use Rattle.circuit.specs.Run.{run, runTested, Equal, Differs, runOutcome, recordsOutcome}
 use Rattle.circuit.specs.Refusal.{badState, noRoom}
 use Rattle.circuit.specs.Inverse.{inverse, inverseOutcome, inverseBuffer}
-use Rattle.circuit.specs.FileLaws.{FileLaws, FileCascade}
+use Rattle.circuit.specs.FileLaws.{FileLaws}
 
 -- every positive control is 1 and every negative one 0, line by line
 pub record FiresByLines (g : Gate) (s : ℕ) : Type 0 where
@@ -90,7 +90,7 @@ pub record CascadeLaws : Type 0 where
   pub run-served : (n : ℕ) (ws : List ℕ) (s t : ℕ) → (runOutcome n ws s ≡ served t) ↔ ((k : ℕ) × (Cascade n ws maxGates k) × (s < 2 ^ n) × (t ≡ run (gatesOf ws) s))
   pub run-refused : (n : ℕ) (ws : List ℕ) (s number place : ℕ) → (runOutcome n ws s ≡ refused number place) ↔ RunRefused n ws s number place
   -- the same of a run over gate records, which has the outcome of the run on their words
-  pub records-served : (n : ℕ) (gs : List Gate) (s t : ℕ) → (recordsOutcome n gs s ≡ served t) ↔ ((FileCascade n gs) × (s < 2 ^ n) × (t ≡ run gs s))
+  pub records-served : (n : ℕ) (gs : List Gate) (s t : ℕ) → (recordsOutcome n gs s ≡ served t) ↔ ((Cascade n (wordsOf gs) maxGates (length gs)) × (s < 2 ^ n) × (t ≡ run gs s))
   pub records-refused : (n : ℕ) (gs : List Gate) (s number place : ℕ) → (recordsOutcome n gs s ≡ refused number place) ↔ RunRefused n (wordsOf gs) s number place
   pub records-words : (n : ℕ) (gs : List Gate) (s : ℕ) → recordsOutcome n gs s ≡ runOutcome n (wordsOf gs) s
   -- the call of the inverse is served exactly for a cascade and a buffer with room, refused exactly by what is wrong, and then leaves its buffer as it was
@@ -110,5 +110,5 @@ pub record CascadeLaws : Type 0 where
 pub record CircuitLaws : Type 0 where
   pub gate : GateLaws
   pub words : WordsLaws
-  pub cascade : CascadeLaws
+  pub cascades : CascadeLaws
   pub file : FileLaws

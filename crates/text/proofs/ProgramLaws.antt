@@ -16,7 +16,7 @@ use Rattle.circuit.proofs.file.Lines.{free, free-append}
 use Rattle.text.specs.Dimacs.{decimal, partedBy, numberRead}
 use Rattle.text.specs.Tomiter.{Verdict, listed, refusedAt, verdict, refusedWord, refusalText, verdictText, tomiterText, tomiterOutcome, tomiterBuffer, WritesText}
 use Rattle.text.specs.BytesTell.{StartsProblem, TextTells, BytesTell}
-use Rattle.text.specs.TextLaws.{ProgramRefused, Written, clauses, refusal, ProgramLaws}
+use Rattle.text.specs.TextLaws.{ProgramRefused, RightText, clauses, refusal, ProgramLaws}
 use Rattle.text.proofs.Reading.{parts-cut, parts-one, decimal-free, number-back}
 use Rattle.text.proofs.Telling.{refusal-starts, listed-fits, text-starts, text-fitting, text-told, dimacs-starts}
 use Rattle.text.proofs.Faults.{refused-exactly}
@@ -80,10 +80,10 @@ refused-text : (input : List ℕ) (number file place : ℕ) → ProgramRefused i
 unfolding tomiterText
 refused-text input number file place f = ap verdictText (refused-exactly input number file place .1 f)
 
-text-written : (input : List ℕ) → Written input (tomiterText input)
+text-written : (input : List ℕ) → RightText input (tomiterText input)
 text-written input = go (verdict input) refl
   where
-    go : (w : Verdict) → verdict input ≡ w → Written input (tomiterText input)
+    go : (w : Verdict) → verdict input ≡ w → RightText input (tomiterText input)
     go (listed v cs) e = let (n, a, b, f) = listed-fits input v cs e in clauses n a b f (text-starts input n a b f) (text-told input n a b f)
     go (refusedAt number file place) e =
         let f = refused-exactly input number file place .0 e in

@@ -47,14 +47,14 @@ pub data ProgramRefused (input : List ℕ) : ℕ → ℕ → ℕ → Type 0 wher
       → input ≡ textOf n a ++ textOf n b → maxWords < length (stored (clausesOf n (miterGates a b))) → ProgramRefused input noRoom 0 0
 
 -- what a text is to an input: clauses that tell on which states the cascades of its two files differ, or the refusal of what is wrong with it
-pub data Written (input text : List ℕ) : Type 0 where
-  clauses : (n : ℕ) (a b : List Gate) → Fitting input n a b → StartsProblem text → TextTells text n a b → Written input text
-  refusal : (number file place : ℕ) → ProgramRefused input number file place → text ≡ refusalText number file place → Written input text
+pub data RightText (input text : List ℕ) : Type 0 where
+  clauses : (n : ℕ) (a b : List Gate) → Fitting input n a b → StartsProblem text → TextTells text n a b → RightText input text
+  refusal : (number file place : ℕ) → ProgramRefused input number file place → text ≡ refusalText number file place → RightText input text
 
 -- of a program, by what it writes for an input
 pub record ProgramLaws (program : List ℕ → List ℕ) : Type 0 where
   -- clauses or a refusal, and nothing else
-  pub writes : (input : List ℕ) → Written input (program input)
+  pub writes : (input : List ℕ) → RightText input (program input)
   -- its text starts `p cnf` exactly for the files of two cascades of that size, and then tells on which states they differ
   pub problem : (input : List ℕ) (n : ℕ) (a b : List Gate) → Fitting input n a b → StartsProblem (program input)
   pub fitting : (input : List ℕ) → StartsProblem (program input) → (n : ℕ) × (a : List Gate) × (b : List Gate) × Fitting input n a b

@@ -37,7 +37,7 @@ returns c =
             pair-served = λ na a nb b c. (pair-served na a nb b c, served-pair na a nb b c);
             pair-refused = pair-refused;
           };
-      cascade =
+      cascades =
           record {
             run-append = run-append;
             run-below = run-below;

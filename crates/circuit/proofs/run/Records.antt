@@ -1,5 +1,5 @@
 -- The laws of a run over gate records: gate by gate it has the outcome of the rules, which is that of a run on the gates' words. Assumes nothing.
-use mathlib.Core.Path.{_≡_, refl, sym, ap, _∙_}
+use mathlib.Core.Path.{_≡_, refl, sym, ap, subst, _∙_}
 use mathlib.Core.Bool.{true, false}
 use mathlib.Core.List.{List, [], _∷_}
 use Prim.Native.Nat.{ℕ, _+_, _/_, _%_, _^_, _<_, _≤_}
@@ -15,10 +15,9 @@ use Rattle.circuit.specs.declared.gate.Gate.{Gate}
 use Rattle.circuit.specs.Gate.{maxLines, maxGates, valid, apply, notGate}
 use Rattle.circuit.specs.Outcome.{Outcome, served, refused, demand, andThen}
 use Rattle.circuit.specs.Refusal.{badState, badLineCount, tooManyGates}
-use Rattle.circuit.specs.Words.{gatesOf, wordsOf, allValid, lineCountGood, validFrom}
+use Rattle.circuit.specs.Words.{gatesOf, wordsOf, lineCountGood, validFrom, Cascade}
 use Rattle.circuit.specs.Run.{run, runOutcome, recordsOutcome}
 use Rattle.circuit.specs.private.Records.{begun, goesOn, advanced, ended}
-use Rattle.circuit.specs.FileLaws.{FileCascade}
 use Rattle.circuit.specs.Laws.{RunRefused}
 use Rattle.circuit.proofs.Outcome.{demand-met, demand-failed, then-refused}
 use Rattle.circuit.proofs.words.Laws.{words-length, gates-words, from-good, from-bad, lines-good, size-good, size-many, gates-sized, check-gates, words-cascade, cascade-count}
@@ -139,21 +138,15 @@ records-words n gs s =
 -- ---- served exactly for a cascade and a state, refused exactly by what is wrong
 
 module _ (n : ℕ) (gs : List Gate) (s : ℕ) where
-  pub records-served : (t : ℕ) → recordsOutcome n gs s ≡ served t → (FileCascade n gs) × (s < 2 ^ n) × (t ≡ run gs s)
+  pub records-served : (t : ℕ) → recordsOutcome n gs s ≡ served t → (Cascade n (wordsOf gs) maxGates (length gs)) × (s < 2 ^ n) × (t ≡ run gs s)
   records-served t e =
       let (k, c, h, f) = run-served n (wordsOf gs) s t (sym (records-words n gs s) ∙ e) in
-      let z = cascade-count n (wordsOf gs) maxGates k c in
-      let back = gates-words gs in (
-        record { lines-low = c .lines-low; lines-high = c .lines-high; few = omega (arith, c .few, ap length back); gates = ap (allValid n) (sym back) ∙ c .gates },
-        h,
-        f ∙ ap (λ (l : List Gate). run l s) back,
-      )
+      let count : k ≡ length gs = sym (cascade-count n (wordsOf gs) maxGates k c) ∙ ap length (gates-words gs) in
+      (subst (Cascade n (wordsOf gs) maxGates) count c, h, f ∙ ap (λ (l : List Gate). run l s) (gates-words gs))
 
-  pub served-records : (t : ℕ) → FileCascade n gs → s < 2 ^ n → t ≡ run gs s → recordsOutcome n gs s ≡ served t
+  pub served-records : (t : ℕ) → Cascade n (wordsOf gs) maxGates (length gs) → s < 2 ^ n → t ≡ run gs s → recordsOutcome n gs s ≡ served t
   served-records t c h e =
-      records-words n gs s
-      ∙ served-run n (wordsOf gs) s t (length gs) (words-cascade n gs maxGates (c .lines-low) (c .lines-high) (c .few) (c .gates)) h
-      (e ∙ ap (λ (l : List Gate). run l s) (sym (gates-words gs)))
+      records-words n gs s ∙ served-run n (wordsOf gs) s t (length gs) c h (e ∙ ap (λ (l : List Gate). run l s) (sym (gates-words gs)))
 
   pub records-fault : (number place : ℕ) → recordsOutcome n gs s ≡ refused number place → RunRefused n (wordsOf gs) s number place
   records-fault number place e = run-refused n (wordsOf gs) s number place .0 (sym (records-words n gs s) ∙ e)
