@@ -3,6 +3,7 @@
 pub mod Decimal
 pub mod Reading
 pub mod Strict
+pub mod Plain
 pub mod Pairs
 pub mod Sizes
 pub mod Telling
