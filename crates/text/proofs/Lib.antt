@@ -3,7 +3,7 @@
 pub mod Decimal
 pub mod Reading
 pub mod Strict
-pub mod Plain
+pub mod PlainClauses
 pub mod Pairs
 pub mod Sizes
 pub mod Telling

@@ -53,16 +53,17 @@ abbrev pub inFile : ℕ → Outcome Reading → (Reading → Files) → Files
 inFile file (served c) more = more c
 inFile file (refused number place) more = faulty number file place
 
--- two cascades: 8
-unfoldable pub bothFiles : Reading → Reading → Files
-bothFiles c d = cond (eqb (c .lines) (d .lines)) (cascades (c .lines) (c .gates) (d .gates)) (faulty lineCountsDiffer 0 0)
+-- the second file beside the first one's cascade: its own refusal, then 8
+unfoldable pub secondFile : ℕ → List Gate → List ℕ → Files
+secondFile n gs second =
+    inFile 2 (wholeFile second) (λ d. cond (eqb n (d .lines)) (cascades n gs (d .gates)) (faulty lineCountsDiffer 0 0))
 
--- more than 262,144 bytes: 10; the first file; the second one; both
+-- more than 262,144 bytes: 10; the first file; the second one
 unfoldable pub filesOf : List ℕ → List ℕ → Files
 filesOf first second =
     cond (leb (length first) maxFile)
     (cond (leb (length second) maxFile)
-    (inFile 1 (wholeFile first) (λ c. inFile 2 (wholeFile second) (λ d. bothFiles c d)))
+    (inFile 1 (wholeFile first) (λ c. secondFile (c .lines) (c .gates) second))
     (faulty noRoom 0 0))
     (faulty noRoom 0 0)
 

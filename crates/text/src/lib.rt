@@ -9,6 +9,7 @@ ghost use Rattle.text.specs.TextLaws.{TextLaws};
 
 mod dimacs;
 mod list;
+mod plain;
 mod program;
 mod put;
 
