@@ -139,6 +139,13 @@ compareText first second = comparisonText (comparison first second)
 
 -- ---- the call on slices
 
+-- a text is written where it fits: 10 where the buffer is shorter
+unfoldable pub fitOutcome : List ℕ → ℕ → Outcome ℕ
+fitOutcome text room = demand (leb (length text) room) noRoom 0 (served (length text))
+
+unfoldable pub fitBuffer : List ℕ → List ℕ → List ℕ
+fitBuffer text out = written (fitOutcome text (length out)) text out
+
 -- the rooms that the caller lends: for the words of the first cascade, of the second, of the miter, and of the clauses
 pub record Rooms : Type 0 where
   pub first : ℕ
@@ -153,7 +160,7 @@ compareOutcome first second rooms room =
     (demand (leb fileWords (rooms .second)) noRoom 0
     (demand (leb miterWords (rooms .miter)) noRoom 0
     (demand (leb maxList (rooms .clauses)) noRoom 0
-    (demand (leb (length (compareText first second)) room) noRoom 0 (served (length (compareText first second)))))))
+    (fitOutcome (compareText first second) room))))
 
 unfoldable pub compareBuffer : List ℕ → List ℕ → Rooms → List ℕ → List ℕ
 compareBuffer first second rooms out = written (compareOutcome first second rooms (length out)) (compareText first second) out

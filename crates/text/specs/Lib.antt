@@ -4,5 +4,6 @@ pub mod Plain
 pub mod Compare
 pub mod Words
 pub mod Answers
+pub mod Comparing
 pub mod Rows
 pub mod TextLaws

@@ -7,8 +7,11 @@ ghost use Rattle.text.specs.Tomiter.{tomiterOutcome, tomiterBuffer};
 ghost use Rattle.text.specs.Answers.{ofText};
 ghost use Rattle.text.specs.TextLaws.{TextLaws};
 
+mod answer;
+mod comparison;
 mod dimacs;
 mod list;
+mod pair;
 mod plain;
 mod program;
 mod put;

@@ -16,8 +16,8 @@ ghost use Rattle.text.specs.Words.{maxVariables, bothOrs, plainRecord, P
 
 // The bytes of a text, and the clauses in it.
 pub struct PlainSizes {
-    bytes: usize,
-    clauses: u64,
+    pub bytes: usize,
+    pub clauses: u64,
 }
 
 // The opposite literal.
