@@ -6,6 +6,7 @@ pub mod Strict
 pub mod PlainClauses
 pub mod Pairs
 pub mod Sizes
+pub mod Rooms
 pub mod Telling
 pub mod Faults
 pub mod StandIns

@@ -153,14 +153,17 @@ pub record Rooms : Type 0 where
   pub miter : ℕ
   pub clauses : ℕ
 
+abbrev pub rooms : ℕ → ℕ → ℕ → ℕ → Rooms
+rooms first second miter clauses = record { first = first; second = second; miter = miter; clauses = clauses }
+
 -- 10 where a room has fewer words than a cascade, a miter or a clause list may have, or the buffer is shorter than the text
 unfoldable pub compareOutcome : List ℕ → List ℕ → Rooms → ℕ → Outcome ℕ
-compareOutcome first second rooms room =
-    demand (leb fileWords (rooms .first)) noRoom 0
-    (demand (leb fileWords (rooms .second)) noRoom 0
-    (demand (leb miterWords (rooms .miter)) noRoom 0
-    (demand (leb maxList (rooms .clauses)) noRoom 0
+compareOutcome first second lent room =
+    demand (leb fileWords (lent .first)) noRoom 0
+    (demand (leb fileWords (lent .second)) noRoom 0
+    (demand (leb miterWords (lent .miter)) noRoom 0
+    (demand (leb maxList (lent .clauses)) noRoom 0
     (fitOutcome (compareText first second) room))))
 
 unfoldable pub compareBuffer : List ℕ → List ℕ → Rooms → List ℕ → List ℕ
-compareBuffer first second rooms out = written (compareOutcome first second rooms (length out)) (compareText first second) out
+compareBuffer first second lent out = written (compareOutcome first second lent (length out)) (compareText first second) out

@@ -7,3 +7,4 @@ pub mod Answers
 pub mod Comparing
 pub mod Rows
 pub mod TextLaws
+pub mod CompareLaws

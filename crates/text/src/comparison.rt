@@ -26,9 +26,6 @@ pub enum ComparedAnswer {
     Refused { why: Refusal, file: u64 },
 }
 
-// The words of the longest clause list.
-const MAX_LIST: u64 = 262144;
-
 // Reduces the gates at the room's start; how many are left.
 fn reduce_gates(n: u64, gates: usize, room: &mut [u64]) -> usize
     requires { ⌜ MiterWords n gates (now room) ⌝ }
@@ -85,7 +82,7 @@ fn list_gates(n: u64, words: &[u64], clauses: &mut [i16]) -> ComparedAnswer
     match checking::clauses::emit(n, words, clauses) {
         SizesAnswer::Refused(why) => ComparedAnswer::Refused { why, file: 0 },
         SizesAnswer::Sizes(totals) => {
-            if MAX_LIST < totals.words {
+            if (crate::MAX_LIST as u64) < totals.words {
                 return ComparedAnswer::Refused {
                     why: Refusal::no_room(),
                     file: 0,

@@ -27,9 +27,6 @@ pub enum FilesAnswer {
     },
 }
 
-// The bytes of the longest file.
-const MAX_FILE: usize = 262144;
-
 // The cascade of a file, which has no byte after its `end`.
 fn read_whole(text: &[u8], room: &mut [u64]) -> WholeAnswer
     requires { ⌜ fileWords ≤ length (now room) ⌝ }
@@ -86,13 +83,13 @@ pub(crate) fn read_files(first: &[u8], second: &[u8], a: &mut [u64], b: &mut [u6
     requires { ⌜ fileWords ≤ length (now b) ⌝ }
     ensures { λ r. ⌜ SaysFiles r (now (a .exit)) (now (b .exit)) (filesOf (now (first .entry)) (now (second .entry))) ⌝ }
 {
-    if MAX_FILE < first.len() {
+    if crate::MAX_FILE < first.len() {
         return FilesAnswer::Refused {
             why: Refusal::no_room(),
             file: 0,
         };
     }
-    if MAX_FILE < second.len() {
+    if crate::MAX_FILE < second.len() {
         return FilesAnswer::Refused {
             why: Refusal::no_room(),
             file: 0,
