@@ -9,5 +9,8 @@ pub mod Sizes
 pub mod Rooms
 pub mod Telling
 pub mod Faults
+pub mod Verdicts
+pub mod Longest
 pub mod StandIns
+pub mod Others
 pub mod Rows

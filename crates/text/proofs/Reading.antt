@@ -30,7 +30,7 @@ unfolding partedBy
 part-over s b r e = cond-true (eqb b s) _ _ e
 
 -- a part is cut off at the byte that ends it
-parts-cut : (s : ℕ) (f r : List ℕ) → free s f ≡ true → partedBy s (f ++ (s ∷ r)) ≡ f ∷ partedBy s r
+pub parts-cut : (s : ℕ) (f r : List ℕ) → free s f ≡ true → partedBy s (f ++ (s ∷ r)) ≡ f ∷ partedBy s r
 unfolding free
 parts-cut s [] r p = part-over s s r (borrow.Author.Tests.eq-eqb s s refl)
 parts-cut s (b ∷ f) r p =
@@ -89,7 +89,7 @@ digits-free s (x ∷ xs) n p =
     let (a, b) = and-parts (isDigit x) (allDigits xs) p in
     both (ap not (ne-eqb x s (λ e. refuted n (sym (ap isDigit e) ∙ a)))) (digits-free s xs n b)
 
-decimal-free : (s k : ℕ) → isDigit s ≡ false → free s (decimal k) ≡ true
+pub decimal-free : (s k : ℕ) → isDigit s ≡ false → free s (decimal k) ≡ true
 decimal-free s k n = digits-free s (decimal k) n (decimal-digits k)
 
 -- ---- a number

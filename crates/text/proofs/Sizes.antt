@@ -97,7 +97,7 @@ line-number n i l _ (laws.LineOffence.no-end _ _ _ _ _) = omega arith
 line-number n i l _ (controlled _ _ _ _ _ _) = omega arith
 line-number n i l _ (not-rising _ _ _ _ _ _ _) = omega arith
 
-fault-small : (text : List ℕ) (number place : ℕ) → FileFault text number place → (number < 100) × (place < 10000)
+pub fault-small : (text : List ℕ) (number place : ℕ) → FileFault text number place → (number < 100) × (place < 10000)
 fault-small text _ _ (header-line number o) = (header-number _ number o, omega arith)
 fault-small text _ _ (later-line n gs rest good starts number o) = (line-number n _ _ number o, omega (arith, good .few))
 

@@ -8,3 +8,4 @@ pub mod Comparing
 pub mod Rows
 pub mod TextLaws
 pub mod CompareLaws
+pub mod Laws

@@ -6,7 +6,7 @@ ghost use Rattle.circuit.specs.Outcome.{Yields};
 ghost use Rattle.text.specs.Tomiter.{tomiterOutcome, tomiterBuffer};
 ghost use Rattle.text.specs.Compare.{rooms, compareOutcome, compareBuffer};
 ghost use Rattle.text.specs.Answers.{ofText};
-ghost use Rattle.text.specs.TextLaws.{TextLaws};
+ghost use Rattle.text.specs.Laws.{Laws};
 
 mod answer;
 mod comparison;
@@ -86,5 +86,5 @@ pub fn compare(
 
 // Has no effect: its contract is the record of this crate's laws.
 pub fn laws()
-    ensures { λ _. ⌜ TextLaws ⌝ }
+    ensures { λ _. ⌜ Laws ⌝ }
 {}

@@ -178,6 +178,11 @@ pub pair-parts : (a b : ℤ) → plainClause (XOR (a ∷ b ∷ [])) ≡ (OR (a �
 unfolding negations
 pair-parts a b = refl
 
+pub triple-is : (a b c : ℤ) → plainClause (XOR (a ∷ b ∷ c ∷ []))
+    ≡ OR (a ∷ b ∷ c ∷ []) ∷ OR (a ∷ negℤ b ∷ negℤ c ∷ []) ∷ OR (negℤ a ∷ b ∷ negℤ c ∷ []) ∷ OR (negℤ a ∷ negℤ b ∷ c ∷ []) ∷ []
+unfolding negations
+triple-is a b c = refl
+
 pub triple-parts : (a b c : ℤ) → plainClause (XOR (a ∷ b ∷ c ∷ [])) ≡ bothOrs a b c ++ bothOrs (negℤ a) b (negℤ c)
 unfolding negations
 triple-parts a b c = ap (λ (k : ℤ). bothOrs a b c ++ (OR (negℤ a ∷ b ∷ negℤ c ∷ []) ∷ OR (negℤ a ∷ negℤ b ∷ k ∷ []) ∷ [])) (sym (negℤ-negℤ c))
