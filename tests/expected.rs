@@ -54,7 +54,8 @@ pub fn sizes_answer(answer: Result<Sizes, Refusal>) -> SizesAnswer {
     }
 }
 
-pub fn step_answer(answer: Result<Option<Found>, Refusal>) -> StepAnswer {
+/// Of a step on so many words; none and a refusal leave the count.
+pub fn step_answer(words: usize, answer: Result<Option<Found>, Refusal>) -> StepAnswer {
     let mut c = StepAnswer {
         number: 0,
         place: 0,
@@ -62,7 +63,7 @@ pub fn step_answer(answer: Result<Option<Found>, Refusal>) -> StepAnswer {
         i: 0,
         j: 0,
         kind: 0,
-        gates: 0,
+        gates: (words / 3) as u64,
     };
     match answer {
         Ok(Some(found)) => {
@@ -85,7 +86,8 @@ pub fn step_answer(answer: Result<Option<Found>, Refusal>) -> StepAnswer {
     c
 }
 
-pub fn reduce_answer(answer: Result<Reduced, Refusal>) -> ReduceAnswer {
+/// Of a reduction of so many words; a refusal leaves the count.
+pub fn reduce_answer(words: usize, answer: Result<Reduced, Refusal>) -> ReduceAnswer {
     match answer {
         Ok(reduced) => ReduceAnswer {
             number: 0,
@@ -97,7 +99,7 @@ pub fn reduce_answer(answer: Result<Reduced, Refusal>) -> ReduceAnswer {
         Err(Refusal { number, place }) => ReduceAnswer {
             number,
             place,
-            gates: 0,
+            gates: (words / 3) as u64,
             pairs: 0,
             merges: 0,
         },

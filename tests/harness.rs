@@ -5,6 +5,7 @@ use crate::capi::Gate;
 use std::collections::BTreeMap;
 use std::fmt::Debug;
 use std::ptr::NonNull;
+use std::sync::atomic::{AtomicU64, Ordering};
 
 // ---- buffers
 
@@ -44,6 +45,19 @@ impl Element for i16 {
     }
 }
 
+/// How often an empty buffer had a pointer to no memory.
+static DANGLING: AtomicU64 = AtomicU64::new(0);
+
+/// A pointer to no memory: null, or aligned and not null, by turns that have no pattern.
+fn dangling<T>() -> *mut T {
+    let turn = DANGLING.fetch_add(1, Ordering::Relaxed);
+    if turn.wrapping_mul(0x9e37_79b9_7f4a_7c15) >> 63 == 0 {
+        std::ptr::null_mut()
+    } else {
+        NonNull::dangling().as_ptr()
+    }
+}
+
 /// A buffer to lend to a call, with guards before and after.
 pub struct Buffer<T> {
     memory: Vec<T>,
@@ -64,8 +78,7 @@ impl<T: Element> Buffer<T> {
         }
     }
 
-    /// The same; but where it is empty and `dangling` is set, the pointer is aligned and belongs to
-    /// no memory.
+    /// The same; but where it is empty and `dangling` is set, the pointer belongs to no memory.
     pub fn placed(contents: &[T], dangling: bool) -> Buffer<T> {
         Buffer {
             dangling: dangling && contents.is_empty(),
@@ -79,7 +92,7 @@ impl<T: Element> Buffer<T> {
 
     pub fn pointer(&mut self) -> *mut T {
         if self.dangling {
-            NonNull::dangling().as_ptr()
+            dangling()
         } else {
             self.memory[GUARDS..].as_mut_ptr()
         }

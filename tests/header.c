@@ -1,7 +1,10 @@
-/* include/cascade.h against the library: the fields of each struct by their places, and rows of
- * document 01. */
+/* include/cascade.h against the library: the fields of each struct by their places, the names of
+ * numbers and limits, null pointers, stack, and rows of document 01. */
+#define _DEFAULT_SOURCE
 #include "cascade.h"
 #include <stdio.h>
+#include <string.h>
+#include <ucontext.h>
 
 #define FIELD(name, field, k) \
     _Static_assert(offsetof(struct cascade_##name, field) == 8 * k, #name ": " #field); \
@@ -147,10 +150,208 @@ static void refusals(void)
     REFUSED(cascade_fault_masks(3, one_control, 3, 3, toffoli, 3, agreeing, 2, out, 12), 12, 1);
 }
 
+/* The longest file: 1,024 gates with 63 controls on 64 lines, targets in turn; twice as many, the
+ * longest clause list; and one more. */
+static uint64_t longest[(CASCADE_MAX_MITER_GATES + 1) * CASCADE_GATE_WORDS];
+
+static void fill_longest(void)
+{
+    for (size_t i = 0; i <= CASCADE_MAX_MITER_GATES; i++) {
+        longest[3 * i] = 0;
+        longest[3 * i + 1] = ~((uint64_t)1 << i % 64);
+        longest[3 * i + 2] = i % 64;
+    }
+}
+
+static void limits(void)
+{
+    static uint8_t text[CASCADE_MAX_TEXT + 1];
+    static int16_t clauses[CASCADE_MAX_CLAUSE_WORDS];
+    static uint64_t words[CASCADE_MAX_GATES * CASCADE_GATE_WORDS];
+    const size_t few = CASCADE_MAX_GATES * CASCADE_GATE_WORDS, many = 2 * few;
+    fill_longest();
+    struct cascade_write_answer write = cascade_write(CASCADE_MAX_LINES, longest, few, text, CASCADE_MAX_TEXT);
+    expect("longest text: number", write.number, CASCADE_SERVED);
+    expect("longest text: bytes", write.written, CASCADE_MAX_TEXT);
+    write = cascade_write(CASCADE_MAX_LINES, longest, few, text, CASCADE_MAX_TEXT - 1);
+    expect("longest text without room", write.number, CASCADE_NO_ROOM);
+    struct cascade_read_answer read = cascade_read(text, CASCADE_MAX_TEXT, words, few);
+    expect("longest text read: gates", read.gates, CASCADE_MAX_GATES);
+    expect("longest text read: words", memcmp(words, longest, sizeof words) == 0, 1);
+    struct cascade_sizes_answer sizes = cascade_emit(CASCADE_MAX_LINES, longest, many, clauses, CASCADE_MAX_CLAUSE_WORDS);
+    expect("longest clause list: number", sizes.number, CASCADE_SERVED);
+    expect("longest clause list: words", sizes.words, CASCADE_MAX_CLAUSE_WORDS);
+    REFUSED(cascade_write(64, longest, few + 3, text, sizeof text), CASCADE_TOO_MANY_GATES, 0);
+    REFUSED(cascade_sizes(64, longest, many + 3), CASCADE_TOO_MANY_GATES, 0);
+    REFUSED(cascade_sizes(CASCADE_MAX_LINES + 1, longest, few), CASCADE_BAD_LINE_COUNT, 0);
+    REFUSED(cascade_sizes(64, longest, 4), CASCADE_BAD_WORD_COUNT, 0);
+    REFUSED(cascade_first_difference(CASCADE_MAX_SWEEP_LINES + 1, longest, 0, CASCADE_MAX_SWEEP_LINES + 1, longest, 0), CASCADE_TOO_WIDE, 0);
+}
+
+/* A file with one line that is wrong, by the number's name. */
+static void file_numbers(void)
+{
+    static const struct {
+        const char *text;
+        uint64_t number;
+        uint64_t place;
+    } files[] = {
+        {"", CASCADE_WRONG_FORM, 0},
+        {"lines\t2\ng 0\nend\n", CASCADE_WRONG_FORM, 1},
+        {"lines\t65\nend\n", CASCADE_BAD_LINE_COUNT, 0},
+        {"lines\t2\ng\t2\nend\n", CASCADE_LINE_OUTSIDE, 1},
+        {"lines\t2\ng\t0\t+0\nend\n", CASCADE_TARGET_CONTROLLED, 1},
+        {"lines\t3\ng\t0\ng\t0\t+2\t-1\nend\n", CASCADE_NOT_RISING, 2},
+    };
+    uint64_t out[12];
+    for (size_t i = 0; i < sizeof files / sizeof *files; i++) {
+        REFUSED(cascade_read((const uint8_t *)files[i].text, strlen(files[i].text), out, 12), files[i].number, files[i].place);
+    }
+}
+
+/* Steps until none, as the header has them. */
+static uint64_t steps(uint64_t lines, uint64_t *words, uint64_t gates)
+{
+    struct cascade_step_answer r;
+    do {
+        r = cascade_step(lines, words, 3 * gates);
+        if (r.number != CASCADE_SERVED)
+            break;
+        gates = r.gates;
+    } while (r.found);
+    return gates;
+}
+
+/* The gate count stands after none and after a refusal. */
+static void counts(void)
+{
+    uint64_t kept[9] = {3, 0, 2, 0, 0, 1, 0, 3, 2};
+    expect("steps until none, three gates", steps(3, kept, 3), 3);
+    expect("steps on too many lines, three gates", steps(65, kept, 3), 3);
+    uint64_t reduced[9] = {3, 0, 2, 3, 0, 2, 1, 0, 2};
+    expect("steps until none, a pair", steps(3, reduced, 3), 1);
+    struct cascade_step_answer step = cascade_step(3, kept, 9);
+    expect("none: found", step.found, 0);
+    expect("none: gates", step.gates, 3);
+    step = cascade_step(2, kept, 9);
+    expect("refused step: number", step.number, CASCADE_NO_GATE);
+    expect("refused step: gates", step.gates, 3);
+    step = cascade_step(3, kept, 8);
+    expect("step on 8 words: gates", step.gates, 2);
+    struct cascade_reduce_answer reduce = cascade_reduce(0, kept, 9);
+    expect("refused reduction: number", reduce.number, CASCADE_BAD_LINE_COUNT);
+    expect("refused reduction: gates", reduce.gates, 3);
+}
+
+/* Each buffer as a null pointer of length 0. */
+static void nulls(void)
+{
+    const uint64_t a[3] = {3, 0, 2};
+    uint64_t out[3];
+    uint8_t text[12];
+    int16_t clauses[16];
+    REFUSED(cascade_read(NULL, 0, out, 3), CASCADE_WRONG_FORM, 0);
+    REFUSED(cascade_read((const uint8_t *)"lines\t3\ng\t0\nend\n", 16, NULL, 0), CASCADE_NO_ROOM, 0);
+    expect("null: read", cascade_read((const uint8_t *)"lines\t3\nend\n", 12, NULL, 0).lines, 3);
+    expect("null: write", cascade_write(3, NULL, 0, text, 12).written, 12);
+    REFUSED(cascade_write(3, a, 3, NULL, 0), CASCADE_NO_ROOM, 0);
+    expect("null: run", cascade_run(3, NULL, 0, 5).state, 5);
+    expect("null: run records", cascade_run_records(3, NULL, 0, 5).state, 5);
+    REFUSED(cascade_inverse(3, NULL, 0, NULL, 0), CASCADE_SERVED, 0);
+    REFUSED(cascade_inverse(3, a, 3, NULL, 0), CASCADE_NO_ROOM, 0);
+    REFUSED(cascade_miter(3, NULL, 0, 3, NULL, 0, NULL, 0), CASCADE_SERVED, 0);
+    expect("null: miter", cascade_miter(3, NULL, 0, 3, a, 3, out, 3).gates, 1);
+    expect("null: miter, second", cascade_miter(3, a, 3, 3, NULL, 0, out, 3).gates, 1);
+    REFUSED(cascade_step(3, NULL, 0), CASCADE_SERVED, 0);
+    REFUSED(cascade_reduce(3, NULL, 0), CASCADE_SERVED, 0);
+    expect("null: sizes", cascade_sizes(1, NULL, 0).words, 6);
+    expect("null: emission", cascade_emit(1, NULL, 0, clauses, 16).words, 6);
+    REFUSED(cascade_emit(1, NULL, 0, NULL, 0), CASCADE_NO_ROOM, 0);
+    expect("null: first difference", cascade_first_difference(3, NULL, 0, 3, a, 3).state, 3);
+    expect("null: differs", cascade_differs(3, NULL, 0, 3, a, 3, 3).differs, 1);
+    expect("null: fewer gates", cascade_fewer_gates(3, a, 3, 3, NULL, 0).second, 1);
+    REFUSED(cascade_fault_masks(3, NULL, 0, 3, a, 3, NULL, 0, NULL, 0), CASCADE_SERVED, 0);
+}
+
+/* Two inputs in the same words. */
+static void overlaps(void)
+{
+    const uint64_t a[9] = {3, 0, 2, 2, 0, 0, 1, 0, 2};
+    uint64_t out[18];
+    expect("a cascade against its own start: gates", cascade_miter(3, a, 9, 3, a, 3, out, 18).gates, 4);
+    expect("a cascade against itself: differs", cascade_first_difference(3, a, 9, 3, a, 9).found, 0);
+    expect("a cascade and its own start: second", cascade_fewer_gates(3, a, 9, 3, a, 6).second, 1);
+}
+
+/* ---- stack */
+
+static uint8_t stack[1 << 16];
+static ucontext_t caller, callee;
+static uint64_t pair[2 * CASCADE_MAX_GATES * CASCADE_GATE_WORDS], states[64], large[CASCADE_MAX_MITER_GATES * CASCADE_GATE_WORDS];
+static uint8_t bytes[CASCADE_MAX_TEXT];
+static int16_t list[CASCADE_MAX_CLAUSE_WORDS];
+
+static uint64_t told;
+static void idle(void) {}
+static void do_read(void) { told |= cascade_read(bytes, CASCADE_MAX_TEXT, large, 3072).number; }
+static void do_write(void) { told |= cascade_write(64, longest, 3072, bytes, CASCADE_MAX_TEXT).number; }
+static void do_run(void) { told |= cascade_run(64, longest, 3072, 7).number; }
+static void do_records(void) { told |= cascade_run_records(64, (const struct cascade_gate *)longest, 1024, 7).number; }
+static void do_inverse(void) { told |= cascade_inverse(64, longest, 3072, large, 6144).number; }
+static void do_miter(void) { told |= cascade_miter(64, longest, 3072, 64, longest + 3072, 3072, large, 6144).number; }
+static void do_step(void) { told |= cascade_step(64, pair, 6144).number; }
+static void do_reduce(void) { told |= cascade_reduce(64, pair, 6144).number; }
+static void do_sizes(void) { told |= cascade_sizes(64, longest, 6144).number; }
+static void do_emit(void) { told |= cascade_emit(64, longest, 6144, list, CASCADE_MAX_CLAUSE_WORDS).number; }
+static const uint64_t small[3] = {3, 0, 2};
+static void do_sweep(void) { told |= cascade_first_difference(3, small, 3, 3, small, 0).number; }
+static void do_differs(void) { told |= cascade_differs(64, longest, 3072, 64, longest, 3069, 0).number; }
+static void do_fewer(void) { told |= cascade_fewer_gates(64, longest, 3072, 64, longest, 3069).number; }
+static void do_faults(void) { told |= cascade_fault_masks(64, longest, 3072, 64, longest, 0, states, 64, large, 2048).number; }
+
+/* The bytes of a stack that a function touches. */
+static size_t touched(void (*function)(void))
+{
+    memset(stack, 0xa5, sizeof stack);
+    getcontext(&callee);
+    callee.uc_stack.ss_sp = stack;
+    callee.uc_stack.ss_size = sizeof stack;
+    callee.uc_link = &caller;
+    makecontext(&callee, function, 0);
+    swapcontext(&caller, &callee);
+    size_t free = 0;
+    while (free < sizeof stack && stack[free] == 0xa5)
+        free++;
+    return sizeof stack - free;
+}
+
+static void stack_use(void)
+{
+    static void (*const calls[])(void) = {do_write, do_read, do_run, do_records, do_inverse, do_miter, do_step, do_reduce, do_sizes, do_emit, do_sweep, do_differs, do_fewer, do_faults};
+    size_t most = 0;
+    memcpy(pair, longest, sizeof pair / 2);
+    for (size_t i = 0; i < CASCADE_MAX_GATES; i++)
+        memcpy(pair + 3 * (2047 - i), longest + 3 * i, 24);
+    size_t own = touched(idle);
+    for (size_t i = 0; i < sizeof calls / sizeof *calls; i++) {
+        size_t used = touched(calls[i]) - own;
+        most = used > most ? used : most;
+    }
+    printf("header: a call used at most %zu bytes of stack\n", most);
+    expect("stack: all calls served", told, CASCADE_SERVED);
+    expect("less than CASCADE_STACK bytes of stack", most > 0 && most < CASCADE_STACK, 1);
+}
+
 int main(void)
 {
     fields();
     refusals();
+    limits();
+    file_numbers();
+    counts();
+    nulls();
+    overlaps();
+    stack_use();
     const uint64_t toffoli[3] = {3, 0, 2};
     uint64_t two[6] = {1, 0, 1, 0, 0, 0};
     uint64_t out[7] = {9, 9, 9, 9, 9, 9, 9};

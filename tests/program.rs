@@ -1,7 +1,8 @@
-//! Runs the built program on two files, good, damaged and too long, and compares every byte that it
-//! writes with the rules; and hands what it writes to CryptoMiniSat, where it is there, and compares
-//! the spelled inputs with a simulation. The argument is the seed, where another than the fixed one
-//! is wanted.
+//! Runs the built program on two files, good, damaged and too long, whole and in pieces, and compares
+//! every byte that it writes with the rules, its exit status and what it says; makes its reads fail;
+//! and hands what it writes to CryptoMiniSat, where it is there, and compares the spelled inputs with
+//! a simulation. The argument is the seed, where another than the fixed one is wanted. The script
+//! ./tomiter has its own test, tests/scripts.
 
 #[allow(dead_code)]
 mod files;
@@ -17,10 +18,10 @@ use random::Random;
 use reference::{Clause, ClauseList};
 use std::collections::BTreeMap;
 use std::io::Write;
-use std::process::{Command, Stdio};
+use std::process::{Command, Output, Stdio};
+use std::time::Duration;
 
 const SEED: u64 = 20_240_601;
-const PROGRAM: &str = "target/bin/tomiter";
 const MOST_BYTES: usize = 65_536;
 const MOST_WORDS: usize = 16_384;
 /// Pairs that the solver gets.
@@ -82,39 +83,66 @@ fn list(input: &[u8]) -> Result<ClauseList, (u64, u64, u64)> {
 
 // ---- the program
 
-fn run(input: &[u8]) -> Vec<u8> {
-    let mut child = Command::new(PROGRAM)
+/// Runs a program on an input that comes in pieces, with a pause before each but the first.
+fn run_in_pieces(program: &[&str], pieces: Vec<Vec<u8>>, pause: Duration) -> Output {
+    let mut child = Command::new(program[0])
+        .args(&program[1..])
         .stdin(Stdio::piped())
         .stdout(Stdio::piped())
+        .stderr(Stdio::piped())
         .spawn()
         .expect("the program is there");
     let mut pipe = child.stdin.take().expect("a pipe");
-    let bytes = input.to_vec();
     let writer = std::thread::spawn(move || {
-        // The program stops reading after 65,537 bytes.
-        let _ = pipe.write_all(&bytes);
+        for (index, piece) in pieces.iter().enumerate() {
+            if index > 0 {
+                std::thread::sleep(pause);
+            }
+            // The program stops reading after 65,537 bytes.
+            let _ = pipe.write_all(piece);
+        }
     });
     let output = child.wait_with_output().expect("the program ends");
     writer.join().expect("the writer ends");
+    output
+}
+
+/// What the program writes. It ends with 0 and says nothing.
+fn run(program: &str, input: &[u8]) -> Vec<u8> {
+    let output = run_in_pieces(&[program], vec![input.to_vec()], Duration::ZERO);
+    assert!(output.status.code() == Some(0) && output.stderr.is_empty(), "{output:?}");
     output.stdout
+}
+
+/// The right text for an input, and its outcome.
+fn answer(input: &[u8]) -> (Vec<u8>, String) {
+    match list(input) {
+        Ok(list) => (dimacs(&list), "served".to_string()),
+        Err((number, file, place)) => (
+            format!("refused\t{number}\t{file}\t{place}\n").into_bytes(),
+            format!("refused {number}, file {file}"),
+        ),
+    }
+}
+
+/// The file of the program, built where it has to be.
+fn program() -> String {
+    let built = Command::new("scripts/build").arg("tomiter").output().expect("scripts/build");
+    assert!(built.status.success(), "{built:?}");
+    String::from_utf8(built.stdout).expect("a file").trim_end().to_string()
 }
 
 /// How often each outcome occurred.
 struct Seen {
+    program: String,
     cases: u64,
     outcomes: BTreeMap<String, u64>,
 }
 
 impl Seen {
     fn check(&mut self, input: &[u8]) {
-        let (text, outcome) = match list(input) {
-            Ok(list) => (dimacs(&list), "served".to_string()),
-            Err((number, file, place)) => (
-                format!("refused\t{number}\t{file}\t{place}\n").into_bytes(),
-                format!("refused {number}, file {file}"),
-            ),
-        };
-        let written = run(input);
+        let (text, outcome) = answer(input);
+        let written = run(&self.program, input);
         if written != text {
             println!("input: {:?}", String::from_utf8_lossy(input));
             println!("written: {:?}", String::from_utf8_lossy(&written));
@@ -189,24 +217,92 @@ fn check_all(random: &mut Random, seen: &mut Seen) {
     }
 }
 
-/// Where nothing can be written, the script says so and fails; where all is written, it is as silent as the program.
-fn check_unwritten() {
-    let script = |out: Stdio| {
-        let mut child = Command::new("./tomiter").stdin(Stdio::piped()).stdout(out).stderr(Stdio::piped()).spawn().expect("the script runs");
-        child.stdin.take().expect("a pipe").write_all(b"lines\t1\nend\nlines\t1\nend\n").expect("the input is taken");
-        child.wait_with_output().expect("the script ends")
+// ---- pieces and errors of reading
+
+/// The request's example: a whole text for any program that reads all of its input.
+const EXAMPLE: &[u8] = b"lines\t2\ng\t1\t+0\nend\nlines\t2\nend\n";
+
+/// The pieces in which an input comes, and the pause before each but the first.
+fn pieces(input: &[u8]) -> Vec<(Vec<Vec<u8>>, Duration)> {
+    let (first, second) = input.split_at(input.len() / 2);
+    let bytes = input.iter().map(|byte| vec![*byte]).collect();
+    vec![
+        (bytes, Duration::ZERO),
+        (vec![first.to_vec(), second.to_vec()], Duration::from_millis(50)),
+        (vec![first.to_vec(), vec![], second.to_vec()], Duration::from_millis(10)),
+    ]
+}
+
+/// Whether a program answers to an input in pieces as it should to the whole.
+fn reads_pieces(program: &[&str], input: &[u8], right: &[u8]) -> bool {
+    pieces(input).into_iter().all(|(pieces, pause)| {
+        let output = run_in_pieces(program, pieces, pause);
+        output.status.code() == Some(0) && output.stderr.is_empty() && output.stdout == right
+    })
+}
+
+/// Inputs byte by byte and in two delayed writes; and a program that stops at a short read does not pass.
+fn check_pieces(program: &str) {
+    let long = long_input(MOST_BYTES);
+    let over = long_input(MOST_BYTES + 1);
+    for input in [EXAMPLE, b"lines\t1\n", &long, &over] {
+        let (right, _) = answer(input);
+        assert!(reads_pieces(&[program], input, &right), "an input in pieces of {} bytes", input.len());
+    }
+    let (right, _) = answer(EXAMPLE);
+    let command = format!("dd bs=65537 count=1 status=none | {program}");
+    assert!(!reads_pieces(&["sh", "-c", &command], EXAMPLE, &right), "a program that stops at a short read passes");
+    println!("program: inputs byte by byte and in delayed writes; a program that stops at a short read is told");
+}
+
+/// The program told that it failed, why, and nothing else.
+fn assert_failed(output: &Output, why: &str, what: &str) {
+    let said = String::from_utf8_lossy(&output.stderr);
+    assert!(output.status.code() == Some(0) && output.stdout == b"failed\n", "{what}: {output:?}");
+    assert_eq!(said, format!("tomiter: standard input: {why}\n"), "{what}");
+}
+
+/// A read that fails at first, in the middle or at the end is told as failed, with its reason; a read that
+/// was interrupted is made again.
+fn check_failed_reads(program: &str) {
+    let directory = std::fs::File::open("/").expect("the root folder");
+    let output = Command::new(program).stdin(directory).output().expect("the program ends");
+    assert_failed(&output, "Is a directory", "a folder");
+    let output = Command::new("sh").args(["-c", "exec \"$0\" <&-", program]).output().expect("the program ends");
+    assert_failed(&output, "Bad file descriptor", "a closed input");
+
+    let reads = |error: i32, good: usize, bad: usize| {
+        let mut child = Command::new(program)
+            .env("LD_PRELOAD", "target/tests/reads.so")
+            .env("READS", format!("{error} {good} {bad}"))
+            .stdin(Stdio::piped())
+            .stdout(Stdio::piped())
+            .stderr(Stdio::piped())
+            .spawn()
+            .expect("the program starts");
+        // Where a read fails, the program may end before it has taken all.
+        let _ = child.stdin.take().expect("a pipe").write_all(EXAMPLE);
+        child.wait_with_output().expect("the program ends")
     };
-    let written = script(Stdio::piped());
-    assert!(written.status.success() && written.stderr.is_empty() && written.stdout.starts_with(b"p cnf 2 2\n"));
-    let full = std::fs::OpenOptions::new().write(true).open("/dev/full").expect("/dev/full");
-    let unwritten = script(full.into());
-    assert!(unwritten.status.code() == Some(1) && !unwritten.stderr.is_empty(), "an unwritten text was not told");
+    const EINTR: i32 = 4;
+    const EIO: i32 = 5;
+    let (right, _) = answer(EXAMPLE);
+    // The second file's `end` and its LF are the last bytes: after all of the input, at its end, and before.
+    for good in [0, 1, EXAMPLE.len() / 2, EXAMPLE.len() - 1, EXAMPLE.len()] {
+        assert_failed(&reads(EIO, good, 1), "Input/output error", "an error of reading");
+        assert_failed(&reads(EINTR, good, 1_001), "Interrupted system call", "a read that is interrupted for ever");
+        for bad in [0, 1, 1_000] {
+            let output = reads(EINTR, good, bad);
+            assert!(output.stdout == right && output.stderr.is_empty(), "{bad} interruptions after {good} bytes: {output:?}");
+        }
+    }
+    println!("program: an error of reading is told, after any number of bytes; an interrupted read is made again");
 }
 
 // ---- the solver
 
 /// Pairs on few lines, of which the second is often the first, or has its gates in another order.
-fn check_solved(random: &mut Random) {
+fn check_solved(program: &str, random: &mut Random) {
     let (mut equal, mut differ) = (0, 0);
     for _ in 0..SOLVED {
         let lines = 1 + random.below(3);
@@ -219,7 +315,7 @@ fn check_solved(random: &mut Random) {
             _ => second = inputs::good_cascade(random, lines, gates).words,
         }
         let text = |words: &[u64]| reference::text_of(lines, &reference::gates_of(words));
-        let written = run(&[text(&first), text(&second)].concat());
+        let written = run(program, &[text(&first), text(&second)].concat());
         let output = |words: &[u64], state| reference::run(lines, words, state).expect("a cascade");
         let states = 0..1 << lines;
         let right: Vec<u64> = states.filter(|state| output(&first, *state) != output(&second, *state)).collect();
@@ -237,11 +333,13 @@ fn main() {
         None => SEED,
     };
     let mut seen = Seen {
+        program: program(),
         cases: 0,
         outcomes: BTreeMap::new(),
     };
     check_all(&mut Random::new(seed), &mut seen);
-    check_unwritten();
+    check_pieces(&seen.program);
+    check_failed_reads(&seen.program);
     for (outcome, count) in &seen.outcomes {
         println!("{outcome}: {count}");
     }
@@ -256,7 +354,7 @@ fn main() {
         }
     }
     if solver::is_there() {
-        check_solved(&mut Random::new(seed));
+        check_solved(&seen.program, &mut Random::new(seed));
     } else {
         println!("****************************************************************");
         println!("program: NO cryptominisat5: the solver was not asked");

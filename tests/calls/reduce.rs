@@ -73,7 +73,7 @@ fn check(case: &Case, counts: &mut Counts) {
     let mut words = Buffer::placed(&case.words, case.dangling);
     let library = call(case.lines, &mut words);
     let mut wanted = case.words.clone();
-    let reference = expected::reduce_answer(reference::reduce(case.lines, &mut wanted));
+    let reference = expected::reduce_answer(case.words.len(), reference::reduce(case.lines, &mut wanted));
     compare(case, "cascade_reduce: answer", library, reference);
     compare_buffer(case, "cascade_reduce: words", &words, &wanted);
     let number = reference.number;
@@ -93,6 +93,7 @@ fn check_chain(case: &Case, after: &[u64], answer: ReduceAnswer) {
         let lines = if pairs % 2 == 0 { case.lines } else { 64 };
         let mut buffer = Buffer::new(&words);
         let step = step::call(lines, &mut buffer);
+        words = buffer.contents()[..3 * step.gates as usize].to_vec();
         if step.found == 0 {
             break;
         }
@@ -101,7 +102,6 @@ fn check_chain(case: &Case, after: &[u64], answer: ReduceAnswer) {
         } else {
             merges += 1;
         }
-        words = buffer.contents()[..3 * step.gates as usize].to_vec();
     }
     let gates = (words.len() / 3) as u64;
     let before = (case.words.len() / 3) as u64;

@@ -93,7 +93,7 @@ fn check(case: &Case, counts: &mut Counts) {
     let mut words = Buffer::placed(&case.words, case.dangling);
     let library = call(case.lines, &mut words);
     let mut wanted = case.words.clone();
-    let reference = expected::step_answer(reference::step(case.lines, &mut wanted));
+    let reference = expected::step_answer(case.words.len(), reference::step(case.lines, &mut wanted));
     compare(case, "cascade_step: answer", library, reference);
     compare_buffer(case, "cascade_step: words", &words, &wanted);
     let number = reference.number;
@@ -112,11 +112,7 @@ fn run_of(words: &[u64], state: u64) -> u64 {
 
 /// The gates that then stand give the same output.
 fn check_run(case: &Case, after: &[u64], answer: StepAnswer) {
-    let gates = if answer.found == 1 {
-        answer.gates as usize
-    } else {
-        case.words.len() / 3
-    };
+    let gates = answer.gates as usize;
     for state in [0, inputs::all_lines(case.lines), case.state] {
         let library = run_of(&after[..3 * gates], state);
         compare(case, "the run is kept", library, run_of(&case.words, state));

@@ -1,6 +1,9 @@
 // cascade_reduce.
 
 use checking::reduce::ReduceAnswer;
+use circuit::gate::Gate;
+ghost use Prim.Native.Nat.{_/_};
+ghost use lib.ListN.{length};
 ghost use Rattle.circuit.specs.Outcome.{Yields};
 ghost use Rattle.checking.specs.Reduce.{reduceOutcome, reduceBuffer};
 ghost use Rattle.capi.specs.Reduce.{reduceAnswer};
@@ -16,8 +19,9 @@ pub struct CascadeReduceAnswer {
 
 #[no_mangle]
 pub extern "C" fn cascade_reduce(lines: u64, words: &mut [u64]) -> CascadeReduceAnswer
-    ensures { λ r. ⌜ Yields r (now (words .exit)) (reduceAnswer (reduceOutcome lines (now (words .entry)))) (reduceBuffer lines (now (words .entry))) ⌝ }
+    ensures { λ r. ⌜ Yields r (now (words .exit)) (reduceAnswer (length (now (words .entry)) / 3) (reduceOutcome lines (now (words .entry)))) (reduceBuffer lines (now (words .entry))) ⌝ }
 {
+    let before = (words.len() / Gate::WORDS) as u64;
     match checking::reduce::reduce(lines, words) {
         ReduceAnswer::Reduced {
             gates,
@@ -33,7 +37,7 @@ pub extern "C" fn cascade_reduce(lines: u64, words: &mut [u64]) -> CascadeReduce
         ReduceAnswer::Refused(why) => CascadeReduceAnswer {
             number: why.number,
             place: why.place,
-            gates: 0,
+            gates: before,
             pairs: 0,
             merges: 0,
         },

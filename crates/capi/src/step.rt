@@ -2,7 +2,10 @@
 
 use checking::step::Kind;
 use checking::step::StepAnswer;
+use circuit::gate::Gate;
 ghost use mathlib.Core.Path.{_≡_};
+ghost use Prim.Native.Nat.{_/_};
+ghost use lib.ListN.{length};
 ghost use Rattle.circuit.specs.Outcome.{Yields};
 ghost use Rattle.checking.specs.Step.{stepOutcome, stepBuffer};
 ghost use Rattle.capi.specs.Step.{kindNumber, stepAnswer};
@@ -31,8 +34,9 @@ fn kind_number(kind: Kind) -> u64
 
 #[no_mangle]
 pub extern "C" fn cascade_step(lines: u64, words: &mut [u64]) -> CascadeStepAnswer
-    ensures { λ r. ⌜ Yields r (now (words .exit)) (stepAnswer (stepOutcome lines (now (words .entry)))) (stepBuffer lines (now (words .entry))) ⌝ }
+    ensures { λ r. ⌜ Yields r (now (words .exit)) (stepAnswer (length (now (words .entry)) / 3) (stepOutcome lines (now (words .entry)))) (stepBuffer lines (now (words .entry))) ⌝ }
 {
+    let before = (words.len() / Gate::WORDS) as u64;
     match checking::step::step(lines, words) {
         StepAnswer::Found { i, j, kind, gates } => CascadeStepAnswer {
             number: 0,
@@ -50,7 +54,7 @@ pub extern "C" fn cascade_step(lines: u64, words: &mut [u64]) -> CascadeStepAnsw
             i: 0,
             j: 0,
             kind: 0,
-            gates: 0,
+            gates: before,
         },
         StepAnswer::Refused(why) => CascadeStepAnswer {
             number: why.number,
@@ -59,7 +63,7 @@ pub extern "C" fn cascade_step(lines: u64, words: &mut [u64]) -> CascadeStepAnsw
             i: 0,
             j: 0,
             kind: 0,
-            gates: 0,
+            gates: before,
         },
     }
 }

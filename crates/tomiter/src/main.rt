@@ -1,7 +1,8 @@
-// Reads two cascade files from standard input, one after the other, and writes the clauses that tell whether they differ, or a refusal. Says on standard error where it could not write all.
+// Reads two cascade files from standard input, one after the other, and writes the clauses that tell whether they differ, or a refusal. Where the input could not be read, writes `failed`. Says on standard error why it could not read or not write all.
 
 use libc::STDIN_FILENO;
 use libc::STDOUT_FILENO;
+use streams::Reading;
 use text::TextAnswer;
 ghost use Prim.Native.Nat.{_≤_};
 ghost use lib.ListN.{length};
@@ -22,12 +23,19 @@ fn answer(out: &mut [u8], input: &[u8]) -> usize
     }
 }
 
+// Writes what the program answers to an input.
+fn respond(input: &[u8]) {
+    let mut out = [0u8; text::MAX_TEXT];
+    let size = answer(&mut out, input);
+    if !io::write_all(STDOUT_FILENO, &out[..size]) {
+        os::fail(b"tomiter: standard output");
+    }
+}
+
 fn main() {
     let mut input = [0u8; INPUT];
-    let taken = io::read_full(STDIN_FILENO, &mut input);
-    let mut out = [0u8; text::MAX_TEXT];
-    let size = answer(&mut out, &input[..taken]);
-    if !io::write_all(STDOUT_FILENO, &out[..size]) {
-        os::fail(b"tomiter");
+    match streams::read_all(STDIN_FILENO, &mut input) {
+        Reading::Bytes(taken) => respond(&input[..taken]),
+        Reading::Failed => streams::fail(b"tomiter: standard input"),
     }
 }

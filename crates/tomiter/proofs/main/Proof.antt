@@ -1,45 +1,29 @@
--- `tomiter::main` meets its contract. Assumes nothing.
-use mathlib.Core.Path.{sym, ap}
-use mathlib.Core.List.{List}
-use Prim.Native.Nat.{ℕ, _≤_}
-use native.Mathlib.Omega.{arith}
-use lib.ListN.{length, drop, length-append}
-use lib.Seq.{length-take-le}
-use Rattle.circuit.specs.Put.{Put}
+-- `tomiter::main` is safe and ends. Assumes nothing.
+use Rattle.streams.proofs.Inside.{counted}
 use borrow.Author.Needs.{needs}
 use Rattle.tomiter.proofs.main.Statement.{statement}
 use Rattle.tomiter.proofs.main.Tie as tie
 
--- what was put stands inside the buffer
-inside : (r : ℕ) (last new first : List ℕ) → Put r last new first → r ≤ length last
-inside r last new first p = omega (arith, p .count, ap length (p .buffer), length-append new (drop (length new) first))
+slice-aggregate-read-all : tie.Need-slice-aggregate-read-all
+slice-aggregate-read-all c = search needs
 
-slice-aggregate-read-full : tie.Need-slice-aggregate-read-full
-slice-aggregate-read-full c = search needs
+read-all-requires : tie.Need-read-all-requires
+read-all-requires c κs = search needs
 
-read-full-requires : tie.Need-read-full-requires
-read-full-requires c κs = search needs
-
-slice-aggregate-answer : tie.Need-slice-aggregate-answer
-slice-aggregate-answer c = search needs
+enum-known-taken : tie.Need-enum-known-taken
+enum-known-taken c = search needs
 
 array-share-prefix-input : tie.Need-array-share-prefix-input
-array-share-prefix-input c = search needs
+array-share-prefix-input c = counted _ _ _ (c .before .taken .given .1) (c .before .before .before .before .read-all .ensures) .0
 
-slice-aggregate-answer-2 : tie.Need-slice-aggregate-answer-2
-slice-aggregate-answer-2 c = search needs
+slice-aggregate-respond : tie.Need-slice-aggregate-respond
+slice-aggregate-respond c = counted _ _ _ (c .before .before .taken .given .1) (c .before .before .before .before .before .read-all .ensures) .1
 
-answer-requires : tie.Need-answer-requires
-answer-requires c κs = search needs
+respond-requires : tie.Need-respond-requires
+respond-requires c κs = search needs
 
-array-share-prefix-out : tie.Need-array-share-prefix-out
-array-share-prefix-out c = inside _ _ _ _ (c .before .answer .ensures)
-
-slice-aggregate-write-all : tie.Need-slice-aggregate-write-all
-slice-aggregate-write-all c = sym (length-take-le _ _ (inside _ _ _ _ (c .before .before .answer .ensures)))
-
-write-all-requires : tie.Need-write-all-requires
-write-all-requires c κs = search needs
+enum-told : tie.Need-enum-told
+enum-told c = search needs
 
 slice-aggregate-fail : tie.Need-slice-aggregate-fail
 slice-aggregate-fail c = search needs
@@ -57,15 +41,13 @@ pub main-spec : {M : Type 1} → statement M
 main-spec =
     tie.close
     (tie.spec
-    slice-aggregate-read-full
-    read-full-requires
-    slice-aggregate-answer
+    slice-aggregate-read-all
+    read-all-requires
+    enum-known-taken
     array-share-prefix-input
-    slice-aggregate-answer-2
-    answer-requires
-    array-share-prefix-out
-    slice-aggregate-write-all
-    write-all-requires
+    slice-aggregate-respond
+    respond-requires
+    enum-told
     slice-aggregate-fail
     fail-requires
     returns

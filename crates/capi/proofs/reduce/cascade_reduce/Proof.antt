@@ -22,7 +22,7 @@ returns : tie.Need-returns
 returns c =
     let f = c .before in
     let y = f .before .before .before .before .reduce .ensures in
-    record { answer = ap reduceAnswer (sym (ap ofReduce (f .gates .given .1)) ∙ y .answer); buffer = y .buffer }
+    record { answer = ap (reduceAnswer _) (sym (ap ofReduce (f .gates .given .1)) ∙ y .answer); buffer = y .buffer }
 
 same-length-2 : tie.Need-same-length-2
 same-length-2 c = search needs
@@ -31,7 +31,7 @@ returns-2 : tie.Need-returns-2
 returns-2 c =
     let w = c .before in
     let y = w .before .before .before .before .reduce .ensures in
-    record { answer = ap reduceAnswer (sym (ap ofReduce (w .why .given .1)) ∙ y .answer); buffer = y .buffer }
+    record { answer = ap (reduceAnswer _) (sym (ap ofReduce (w .why .given .1)) ∙ y .answer); buffer = y .buffer }
 
 pub cascade-reduce-spec : {M : Type 1} → statement M
 cascade-reduce-spec =

@@ -32,7 +32,7 @@ returns c =
     let g = f .i .given .0 in
     let y = f .before .before .before .before .step .ensures in
     let answer : ℕ → CascadeStepAnswer = λ k. record { number = 0; place = 0; found = 1; i = g .0; j = g .1 .0; kind = k; gates = g .1 .1 .1 .0 } in
-    record { answer = ap answer (c .kind-number .ensures) ∙ ap stepAnswer (sym (ap ofStep (f .i .given .1)) ∙ y .answer); buffer = y .buffer }
+    record { answer = ap answer (c .kind-number .ensures) ∙ ap (stepAnswer _) (sym (ap ofStep (f .i .given .1)) ∙ y .answer); buffer = y .buffer }
 
 same-length-2 : tie.Need-same-length-2
 same-length-2 c = search needs
@@ -40,7 +40,7 @@ same-length-2 c = search needs
 returns-2 : tie.Need-returns-2
 returns-2 c =
     let y = c .before .before .before .before .step .ensures in
-    record { answer = ap stepAnswer (sym (ap ofStep (c .enum-told .given .1)) ∙ y .answer); buffer = y .buffer }
+    record { answer = ap (stepAnswer _) (sym (ap ofStep (c .enum-told .given .1)) ∙ y .answer); buffer = y .buffer }
 
 same-length-3 : tie.Need-same-length-3
 same-length-3 c = search needs
@@ -49,7 +49,7 @@ returns-3 : tie.Need-returns-3
 returns-3 c =
     let w = c .before in
     let y = w .before .before .before .before .step .ensures in
-    record { answer = ap stepAnswer (sym (ap ofStep (w .why .given .1)) ∙ y .answer); buffer = y .buffer }
+    record { answer = ap (stepAnswer _) (sym (ap ofStep (w .why .given .1)) ∙ y .answer); buffer = y .buffer }
 
 pub cascade-step-spec : {M : Type 1} → statement M
 cascade-step-spec =

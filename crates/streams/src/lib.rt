@@ -1,0 +1,45 @@
+// Reading standard input to its end, where an error is told apart from the end, and telling that a program failed.
+
+ghost use Rattle.streams.specs.Reading.{Inside};
+
+// So many bytes at the buffer's start, or an error, whose reason errno has.
+pub enum Reading {
+    Bytes(usize),
+    Failed,
+}
+
+// How often a read that a signal interrupted is made again.
+const MAX_AGAIN: usize = 1000;
+
+// Reads until the buffer is full or the input ends.
+pub fn read_all(fd: i32, buf: &mut [u8]) -> Reading
+    ensures { λ r. ⌜ Inside r (now (buf .exit)) ⌝ }
+{
+    let mut done = 0;
+    let mut again = MAX_AGAIN;
+    while done < buf.len() {
+        let got = libc::read(fd, &mut buf[done..]);
+        if got < 0 {
+            if again == 0 {
+                return Reading::Failed;
+            }
+            if os::errno() != libc::EINTR {
+                return Reading::Failed;
+            }
+            again -= 1;
+        } else {
+            let more = io::count(got, &buf[done..]);
+            if more == 0 {
+                return Reading::Bytes(done);
+            }
+            done += more;
+        }
+    }
+    Reading::Bytes(done)
+}
+
+// What failed and errno's text as a line on standard error, and the line `failed` on standard output.
+pub fn fail(what: &[u8]) {
+    os::fail(what);
+    io::write_all(libc::STDOUT_FILENO, b"failed\n");
+}
