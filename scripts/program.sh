@@ -3,8 +3,8 @@
 # ignore the signals of a failed write, and find the script's own file, `self`, with its links followed.
 #
 #   fail REASON         the line `failed` on standard output, the reason on standard error; exits with 2
-#   capture NAME        builds crates/NAME where it has to be, and runs it on standard input; its text
-#                       is then in $work/text. It fails where the program was ended
+#   capture NAME WORDS.. builds crates/NAME where it has to be, and runs it on standard input with these
+#                       arguments; its text is then in $work/text. It fails where the program was ended
 #   give FILE STATUS    hands the text in FILE out and exits with STATUS, or with 2 where it can't be written
 #
 # $work is a folder of its own, which goes when the script ends.
@@ -25,9 +25,10 @@ fail() { # REASON
     exit 2
 }
 
-capture() { # NAME
+capture() { # NAME WORDS..
     program=$(sh "$root/scripts/build" "$1" </dev/null) || fail "there is no program to run"
-    "$program" >"$work/text" || fail "the program ended with status $?"
+    shift
+    "$program" "$@" >"$work/text" || fail "the program ended with status $?"
 }
 
 give() { # FILE STATUS

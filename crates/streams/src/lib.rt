@@ -43,3 +43,27 @@ pub fn fail(what: &[u8]) {
     os::fail(what);
     io::write_all(libc::STDOUT_FILENO, b"failed\n");
 }
+
+// Reads the file that an argument names until the buffer is full or the file ends. Tells where that failed, by the file's name.
+pub fn read_argument(i: usize, buf: &mut [u8]) -> Reading
+    ensures { λ r. ⌜ Inside r (now (buf .exit)) ⌝ }
+{
+    let mut name = io::buffer();
+    let size = os::arg(i, &mut name);
+    if os::errno() != 0 {
+        fail(b"the name of a file");
+        return Reading::Failed;
+    }
+    let fd = os::open_read(&name[..size]);
+    if fd < 0 {
+        fail(&name[..size]);
+        return Reading::Failed;
+    }
+    match read_all(fd, buf) {
+        Reading::Bytes(done) => Reading::Bytes(done),
+        Reading::Failed => {
+            fail(&name[..size]);
+            Reading::Failed
+        }
+    }
+}

@@ -1,7 +1,7 @@
 -- The laws of a number in decimal. Assumes nothing.
 use mathlib.Core.Path.{_≡_, refl, sym, ap, ap₂, _∙_}
 use mathlib.Core.List.{List, [], _∷_, _++_, append-assoc}
-use Prim.Native.Nat.{ℕ, zero, suc, _+_, _/_, _%_, _≤_, _<_}
+use Prim.Native.Nat.{ℕ, zero, suc, _+_, _/_, _%_, _^_, _≤_, _<_}
 use native.Mathlib.Omega.{arith}
 use lib.Dec.{ltb}
 use lib.ListN.{length, length-append}
@@ -63,3 +63,12 @@ decimal-hundreds k h =
 pub hundreds-length : (k : ℕ) → 100 ≤ k → length (decimal k) ≡ length (decimal (k / 100)) + 2
 hundreds-length k h =
     ap length (decimal-hundreds k h) ∙ length-append (decimal (k / 100)) (digit (k % 100 / 10) ∷ digit (k % 100 % 10) ∷ [])
+
+-- a number below 10 ^ d has at most d digits
+pub decimal-few : (d k : ℕ) → k < 10 ^ suc d → length (decimal k) ≤ suc d
+decimal-few zero k h = omega (arith, ap length (decimal-short k (omega arith)))
+decimal-few (suc d) k h =
+    either (ltb k 10)
+    (λ t. omega (arith, ap length (decimal-short k (ltb-true k 10 t))))
+    (λ t.
+    omega (arith, ap length (decimal-long k (ltb-false k 10 t)), length-append (decimal (k / 10)) (digit (k % 10) ∷ []), decimal-few d (k / 10) (omega arith)))

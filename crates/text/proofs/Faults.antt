@@ -58,11 +58,11 @@ as-told input a b c number file place f e =
 
 -- a text that was read is the cascade's text and what is left
 module _ (rest : List ℕ) (d : Reading) (r : reading rest ≡ served d) where
-  cut : rest ≡ textOf (d .lines) (d .gates) ++ drop (d .taken) rest
+  pub cut : rest ≡ textOf (d .lines) (d .gates) ++ drop (d .taken) rest
   cut = sym (take-append-drop (d .taken) rest) ∙ ap (λ (l : List ℕ). l ++ drop (d .taken) rest) (reader .read-text rest d r .1)
 
   -- nothing is left only where all was taken
-  taken-all : drop (d .taken) rest ≡ [] → d .taken ≡ length rest
+  pub taken-all : drop (d .taken) rest ≡ [] → d .taken ≡ length rest
   taken-all z =
       let text : List ℕ = textOf (d .lines) (d .gates) in
       let s : served d ≡ served (record { lines = d .lines; gates = d .gates; taken = length text }) =

@@ -3,10 +3,15 @@
 pub mod Decimal
 pub mod Reading
 pub mod Strict
+pub mod PlainClauses
 pub mod Pairs
 pub mod Sizes
+pub mod Rooms
 pub mod Telling
 pub mod Faults
 pub mod ProgramLaws
+pub mod Verdicts
+pub mod Longest
 pub mod StandIns
+pub mod Others
 pub mod Rows

@@ -23,28 +23,17 @@ use Rattle.checking.specs.Stored.{storedClause, stored}
 use Rattle.checking.proofs.clauses.Laws.{clause-laws}
 use Rattle.text.specs.Dimacs.{blank, decimal, literalText, literalsText, closing, clauseText, clausesText, headerText, dimacsOf}
 use Rattle.text.specs.Tomiter.{maxInput, maxWords, maxText, Verdict, listed, refusedAt, ofFile, listVerdict, pairVerdict, secondVerdict, verdict, refusalText, verdictText, tomiterText, tomiterOutcome}
-use Rattle.text.proofs.Decimal.{decimal-short, decimal-long}
+use Rattle.text.proofs.Decimal.{decimal-few}
 use Rattle.text.proofs.Pairs.{Listable, listable}
 use Rattle.text.proofs.program.Laws.{fits}
 
--- ---- digits
-
--- a number below 10 ^ d has at most d digits
-pub decimal-few : (d k : ℕ) → k < 10 ^ suc d → length (decimal k) ≤ suc d
-decimal-few zero k h = omega (arith, ap length (decimal-short k (omega arith)))
-decimal-few (suc d) k h =
-    either (ltb k 10)
-    (λ t. omega (arith, ap length (decimal-short k (ltb-true k 10 t))))
-    (λ t.
-    omega (arith, ap length (decimal-long k (ltb-false k 10 t)), length-append (decimal (k / 10)) (digit (Prim.Native.Nat._%_ k 10) ∷ []), decimal-few d (k / 10) (omega arith)))
-
 -- ---- the text of a clause list
 
-literal-few : (v : ℕ) (l : ℤ) → v ≤ 4224 → variableOf l ≤ v → length (literalText l) ≤ 5
+pub literal-few : (v : ℕ) (l : ℤ) → v ≤ 4224 → variableOf l ≤ v → length (literalText l) ≤ 5
 literal-few v (pos i) h s = omega (arith, decimal-few 3 i (omega arith))
 literal-few v (negsuc i) h s = omega (arith, decimal-few 3 (suc i) (omega arith))
 
-literals-few : (v : ℕ) (ls : List ℤ) → v ≤ 4224 → LiteralsWithin v ls → length (literalsText ls) ≤ 6 * length ls
+pub literals-few : (v : ℕ) (ls : List ℤ) → v ≤ 4224 → LiteralsWithin v ls → length (literalsText ls) ≤ 6 * length ls
 unfolding literalsText
 literals-few v [] h w = omega arith
 literals-few v (l ∷ ls) h w =
@@ -60,7 +49,7 @@ clauses-few v [] h w = omega arith
 clauses-few v (c ∷ cs) h w =
     omega (arith, clause-few v c h (w .0), clauses-few v cs h (w .1), length-append (clauseText c) (clausesText cs), length-append (storedClause c) (stored cs))
 
-count-few : (cs : List Clause) → length cs ≤ length (stored cs)
+pub count-few : (cs : List Clause) → length cs ≤ length (stored cs)
 unfolding stored
 count-few [] = omega arith
 count-few (OR ls ∷ cs) = omega (arith, count-few cs, length-append ls (stored cs))
@@ -108,7 +97,7 @@ line-number n i count l _ (laws.LineOffence.no-end _ _ _ _ _) = omega arith
 line-number n i count l _ (controlled _ _ _ _ _ _) = omega arith
 line-number n i count l _ (not-rising _ _ _ _ _ _ _) = omega arith
 
-fault-small : (text : List ℕ) (number place : ℕ) → FileRefused text number place → (number < 100) × (place < 10000)
+pub fault-small : (text : List ℕ) (number place : ℕ) → FileRefused text number place → (number < 100) × (place < 10000)
 fault-small text _ _ (header-line number o) = (header-number _ number o, omega arith)
 fault-small text _ _ (later-line n gs rest good starts number o) = (line-number n _ _ _ number o, omega (arith, good .few))
 

@@ -27,18 +27,18 @@ use Rattle.text.proofs.Reading.{text-back}
 use Rattle.text.proofs.Telling.{fitting-verdict, fitting-tells, refusal-starts}
 
 -- the cascades NOT and nothing on one line
-abbrev once : List Gate
+abbrev pub once : List Gate
 once = notGate 0 ∷ []
 
-once-runs : run once 0 ≡ 1
+pub once-runs : run once 0 ≡ 1
 unfolding fold apply valid inverted fires
 once-runs = refl
 
-none-good : FileCascade 1 []
+pub none-good : FileCascade 1 []
 unfolding allValid
 none-good = record { lines-low = omega arith; lines-high = omega arith; few = omega arith; gates = refl }
 
-once-good : FileCascade 1 once
+pub once-good : FileCascade 1 once
 unfolding allValid valid
 once-good = record { lines-low = omega arith; lines-high = omega arith; few = omega arith; gates = refl }
 

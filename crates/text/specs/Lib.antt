@@ -1,7 +1,11 @@
 pub mod Dimacs
 pub mod BytesTell
 pub mod Tomiter
+pub mod Plain
+pub mod Compare
 pub mod Answers
 pub mod Rows
 pub mod TextLaws
 pub mod private
+pub mod CompareLaws
+pub mod Laws

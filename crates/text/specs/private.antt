@@ -1,3 +1,4 @@
 -- What only the contracts of private functions cite.
 pub mod Words
 pub mod Lists
+pub mod Comparing

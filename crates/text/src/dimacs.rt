@@ -10,7 +10,7 @@ ghost use Rattle.text.specs.Dimacs.{blank, literalText, literalsText, cl
 ghost use Rattle.text.specs.private.Words.{signText, kindText, recordText, wordsText, Stores};
 
 // The variable of a literal, and the number that a word holds.
-fn magnitude(word: i16) -> u64
+pub(crate) fn magnitude(word: i16) -> u64
     ensures { λ r. ⌜ r ≡ variableOf word ⌝ }
 {
     if word < 0 {
@@ -74,7 +74,7 @@ fn put_kind(out: &mut [u8], kind: i16) -> usize
 }
 
 // Writes literals and what closes their clause.
-fn put_closed(out: &mut [u8], literals: &[i16]) -> usize
+pub(crate) fn put_closed(out: &mut [u8], literals: &[i16]) -> usize
     requires { ⌜ length (literalsText (now literals)) + 2 ≤ length (now out) ⌝ }
     ensures { λ r. ⌜ Put r (now (out .exit)) (literalsText (now (literals .entry)) ++ closing) (now (out .entry)) ⌝ }
 {
@@ -109,7 +109,7 @@ fn put_clauses(out: &mut [u8], words: &[i16]) -> usize
 }
 
 // Writes the header.
-fn put_header(out: &mut [u8], variables: u64, clauses: u64) -> usize
+pub(crate) fn put_header(out: &mut [u8], variables: u64, clauses: u64) -> usize
     requires { ⌜ length (headerText variables clauses) ≤ length (now out) ⌝ }
     ensures { λ r. ⌜ Put r (now (out .exit)) (headerText variables clauses) (now (out .entry)) ⌝ }
 {

@@ -1,12 +1,19 @@
 // The text of a clause list, and the program's whole job on slices.
 
 use circuit::refusal::Refusal;
-ghost use Rattle.text.specs.Tomiter.{WritesText};
+ghost use Rattle.text.specs.Tomiter.{WritesText, tomiterOutcome, tomiterBuffer};
+ghost use lib.ListN.{length};
+ghost use Rattle.circuit.specs.Outcome.{Yields};
+ghost use Rattle.text.specs.Compare.{rooms, compareOutcome, compareBuffer};
 ghost use Rattle.text.specs.Answers.{ofText};
-ghost use Rattle.text.specs.TextLaws.{TextLaws};
+ghost use Rattle.text.specs.Laws.{Laws};
 
+mod answer;
+mod comparison;
 mod dimacs;
 mod list;
+mod pair;
+mod plain;
 mod program;
 mod put;
 
@@ -20,6 +27,17 @@ pub enum TextAnswer {
 pub const MAX_INPUT: usize = 65536;
 
 pub const MAX_TEXT: usize = 98321;
+
+// The bytes of the longest file of a comparison, the words of a file's cascade, of a miter and of the longest clause list, and the bytes of the longest text.
+pub const MAX_FILE: usize = 262144;
+
+pub const FILE_WORDS: usize = 3072;
+
+pub const MITER_WORDS: usize = 6144;
+
+pub const MAX_LIST: usize = 262144;
+
+pub const MAX_COMPARED: usize = 4194322;
 
 // What the program writes for an input of two cascade files, at the buffer's start; else 10.
 pub fn tomiter(input: &[u8], out: &mut [u8]) -> TextAnswer
@@ -37,7 +55,36 @@ pub fn tomiter(input: &[u8], out: &mut [u8]) -> TextAnswer
     TextAnswer::Bytes(size)
 }
 
+// Compares the cascades of two files and writes the verdict, or clauses for a solver, at the start of `out`; else 10.
+// The words of the cascades, of their miter and of its clauses stand in the rooms that follow; what these hold afterwards is no answer.
+pub fn compare(
+    first: &[u8],
+    second: &[u8],
+    out: &mut [u8],
+    a: &mut [u64],
+    b: &mut [u64],
+    miter: &mut [u64],
+    clauses: &mut [i16],
+) -> TextAnswer
+    ensures { λ r. ⌜ Yields (ofText r) (now (out .exit)) (compareOutcome (now (first .entry)) (now (second .entry)) (rooms (length (now (a .entry))) (length (now (b .entry))) (length (now (miter .entry))) (length (now (clauses .entry)))) (length (now (out .entry)))) (compareBuffer (now (first .entry)) (now (second .entry)) (rooms (length (now (a .entry))) (length (now (b .entry))) (length (now (miter .entry))) (length (now (clauses .entry)))) (now (out .entry))) ⌝ }
+{
+    if a.len() < FILE_WORDS {
+        return TextAnswer::Refused(Refusal::no_room());
+    }
+    if b.len() < FILE_WORDS {
+        return TextAnswer::Refused(Refusal::no_room());
+    }
+    if miter.len() < MITER_WORDS {
+        return TextAnswer::Refused(Refusal::no_room());
+    }
+    if clauses.len() < MAX_LIST {
+        return TextAnswer::Refused(Refusal::no_room());
+    }
+    let answer = crate::comparison::compare_files(first, second, a, b, miter, clauses);
+    crate::answer::fit_answer(out, answer, clauses)
+}
+
 // Has no effect: its contract is the record of this crate's laws.
 pub fn laws()
-    ensures { λ _. ⌜ TextLaws ⌝ }
+    ensures { λ _. ⌜ Laws ⌝ }
 {}

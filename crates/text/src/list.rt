@@ -18,11 +18,6 @@ pub enum ListAnswer {
     Refused { why: Refusal, file: u64 },
 }
 
-// The words of a file's cascade and of a miter, at most.
-const FILE_WORDS: usize = 3072;
-
-const MITER_WORDS: usize = 6144;
-
 // The clause list of two cascades; else 8 or 10.
 fn list_pair(na: u64, a: &[u64], nb: u64, b: &[u64], clauses: &mut [i16]) -> ListAnswer
     requires { ⌜ FileWords na (now a) ⌝ }
@@ -30,7 +25,7 @@ fn list_pair(na: u64, a: &[u64], nb: u64, b: &[u64], clauses: &mut [i16]) -> Lis
     requires { ⌜ length (now clauses) ≡ maxWords ⌝ }
     ensures { λ r. ⌜ Delivers r (now (clauses .exit)) (pairVerdict na (gatesOf (now (a .entry))) nb (gatesOf (now (b .entry)))) ⌝ }
 {
-    let mut room = [0u64; MITER_WORDS];
+    let mut room = [0u64; crate::MITER_WORDS];
     match checking::miter::miter(na, a, nb, b, &mut room) {
         CountAnswer::Refused(why) => ListAnswer::Refused { why, file: 0 },
         CountAnswer::Gates(gates) => {
@@ -49,7 +44,7 @@ fn list_second(n: u64, a: &[u64], text: &[u8], clauses: &mut [i16]) -> ListAnswe
     requires { ⌜ length (now clauses) ≡ maxWords ⌝ }
     ensures { λ r. ⌜ Delivers r (now (clauses .exit)) (secondVerdict n (gatesOf (now (a .entry))) (now (text .entry))) ⌝ }
 {
-    let mut b = [0u64; FILE_WORDS];
+    let mut b = [0u64; crate::FILE_WORDS];
     match circuit::file::read(text, &mut b) {
         ReadAnswer::Refused(why) => ListAnswer::Refused { why, file: 2 },
         ReadAnswer::Cascade {
@@ -78,7 +73,7 @@ pub(crate) fn list(input: &[u8], clauses: &mut [i16]) -> ListAnswer
             file: 0,
         };
     }
-    let mut a = [0u64; FILE_WORDS];
+    let mut a = [0u64; crate::FILE_WORDS];
     match circuit::file::read(input, &mut a) {
         ReadAnswer::Refused(why) => ListAnswer::Refused { why, file: 1 },
         ReadAnswer::Cascade {

@@ -12,8 +12,8 @@ ghost use Rattle.text.specs.Tomiter.{maxText, refusalText, tomiterText};
 // The words of the clause buffer.
 const CLAUSE_WORDS: usize = 16384;
 
-// Writes a refusal's file and place, each after a tab, and an LF.
-fn put_place(out: &mut [u8], file: u64, place: u64) -> usize
+// Writes two numbers, each after a tab, and an LF: a refusal's file and place, or two outputs.
+pub(crate) fn put_place(out: &mut [u8], file: u64, place: u64) -> usize
     requires { ⌜ length (decimal file) + length (decimal place) + 3 ≤ length (now out) ⌝ }
     ensures { λ r. ⌜ Put r (now (out .exit)) ((tab ∷ decimal file) ++ ((tab ∷ decimal place) ++ (lineFeed ∷ []))) (now (out .entry)) ⌝ }
 {
@@ -22,7 +22,7 @@ fn put_place(out: &mut [u8], file: u64, place: u64) -> usize
 }
 
 // Writes a refusal.
-fn put_refusal(out: &mut [u8], number: u64, file: u64, place: u64) -> usize
+pub(crate) fn put_refusal(out: &mut [u8], number: u64, file: u64, place: u64) -> usize
     requires { ⌜ length (refusalText number file place) ≤ length (now out) ⌝ }
     ensures { λ r. ⌜ Put r (now (out .exit)) (refusalText number file place) (now (out .entry)) ⌝ }
 {

@@ -20,7 +20,7 @@ use Rattle.checking.specs.Stored.{stored, FitsWord, AllFit, wordLimit}
 use Rattle.checking.proofs.clauses.Gates.{Within, controls-within, new-named}
 use Rattle.checking.proofs.clauses.Forced.{Inside, inside-upFrom, used-more, length-upFrom}
 
-within-append : (m : ℕ) (xs ys : List Clause) → ClausesWithin m xs → ClausesWithin m ys → ClausesWithin m (xs ++ ys)
+pub within-append : (m : ℕ) (xs ys : List Clause) → ClausesWithin m xs → ClausesWithin m ys → ClausesWithin m (xs ++ ys)
 within-append m [] ys a b = b
 within-append m (x ∷ xs) ys a b = (a .0, within-append m xs ys (a .1) b)
 
@@ -28,7 +28,7 @@ minus-size : (v : ℕ) → variableOf (minus v) ≡ v
 minus-size zero = refl
 minus-size (suc v) = refl
 
-neg-size : (l : ℤ) → variableOf (negℤ l) ≡ variableOf l
+pub neg-size : (l : ℤ) → variableOf (negℤ l) ≡ variableOf l
 neg-size (pos zero) = refl
 neg-size (pos (suc v)) = refl
 neg-size (negsuc i) = refl

@@ -19,12 +19,12 @@ use Rattle.text.specs.private.Words.{recordText, readText, wordsText, St
 
 -- ---- literals
 
-literals-next : (ls : List ℤ) (i : ℕ) → i < length ls → literalsText (drop i ls) ≡ (literalText (getD ls i (pos 0)) ++ (blank ∷ [])) ++ literalsText (drop (i + 1) ls)
+pub literals-next : (ls : List ℤ) (i : ℕ) → i < length ls → literalsText (drop i ls) ≡ (literalText (getD ls i (pos 0)) ++ (blank ∷ [])) ++ literalsText (drop (i + 1) ls)
 unfolding literalsText
 literals-next ls i h =
     ap literalsText (drop-cons ls i (pos 0) h) ∙ ap (λ (n : ℕ). (literalText (getD ls i (pos 0)) ++ (blank ∷ [])) ++ literalsText (drop n ls)) (sym (add-one i))
 
-literals-end : (ls : List ℤ) (i : ℕ) → length ls ≤ i → literalsText (drop i ls) ≡ []
+pub literals-end : (ls : List ℤ) (i : ℕ) → length ls ≤ i → literalsText (drop i ls) ≡ []
 unfolding literalsText
 literals-end ls i h = ap literalsText (drop-of-length-le ls h)
 

@@ -15,14 +15,14 @@ use Rattle.bits.proofs.Lists.{over-length}
 use Rattle.circuit.specs.declared.gate.Gate.{Gate}
 use Rattle.circuit.specs.declared.refusal.Refusal.{Refusal}
 use Rattle.circuit.specs.Gate.{maxGates, maxMiterGates}
-use Rattle.circuit.specs.Outcome.{Outcome, served, refused, demand, andThen, written}
+use Rattle.circuit.specs.Outcome.{Outcome, served, refused, demand, andThen, before, then, fails, written}
 use Rattle.circuit.specs.Refusal.{wrongForm, lineCountsDiffer, noRoom}
-use Rattle.circuit.specs.Words.{gatesOf, wordsOf, Cascade, differ}
+use Rattle.circuit.specs.Words.{gatesOf, wordsOf, Cascade}
 use Rattle.circuit.proofs.Outcome.{never, demand-met, demand-failed, then-served}
-use Rattle.circuit.proofs.words.Laws.{gates-words, words-length, served-check, refused-pair}
+use Rattle.circuit.proofs.words.Laws.{gates-words, words-length, served-check, pair-refused}
 use Rattle.circuit.specs.Text.{textOf}
 use Rattle.circuit.specs.File.{Reading, reading, ReadCounts, gatesRead, readOutcome, readBuffer}
-use Rattle.circuit.specs.FileLaws.{ReadRefused, wrong, short}
+use Rattle.circuit.specs.FileLaws.{ReadRefused}
 use Rattle.circuit.proofs.file.Laws.{reader, read-served, read-refused}
 use Rattle.checking.specs.declared.clauses.Totals.{Totals}
 use Rattle.checking.specs.Miter.{miterGates, miterOutcome, miterBuffer}
@@ -36,6 +36,7 @@ use Rattle.text.specs.declared.list.ListAnswer.{ListAnswer}
 use Rattle.text.specs.declared.list.ListAnswer.the-variants as list
 use Rattle.text.specs.Tomiter.{maxInput, maxWords, Verdict, listed, refusedAt, ofFile, listVerdict, pairVerdict, secondVerdict, verdict}
 use Rattle.text.specs.private.Lists.{FileWords, Delivers}
+use Rattle.text.specs.private.Lists.{FileWords, ListStands, Delivers}
 
 -- the same verdict, said in another way
 pub says-as : (r : ListAnswer) (buffer : List ℤ) (v w : Verdict) → v ≡ w → Delivers r buffer w → Delivers r buffer v
@@ -51,7 +52,7 @@ says-refusal why file buffer v number place e f =
 
 -- ---- the clause list
 
-module _ (n : ℕ) (ws : List ℕ) (k : ℕ) (c : Cascade n ws maxMiterGates k) (room : ℕ) (long : room ≡ maxWords) where
+module _ (n : ℕ) (ws : List ℕ) (k : ℕ) (c : Cascade n ws maxMiterGates k) where
   abbrev gs : List Gate
   gs = gatesOf ws
 
@@ -61,11 +62,30 @@ module _ (n : ℕ) (ws : List ℕ) (k : ℕ) (c : Cascade n ws maxMiterGates k) 
   sums : sizesOf n gs ≡ totals (variablesOf n gs) (length cs) (length (stored cs))
   sums = clause-laws .sizes-list n gs (c .lines-high) (c .gates)
 
-  emit-is : emitOutcome n ws room ≡ demand (leb (length (stored cs)) maxWords) noRoom 0 (served (totals (variablesOf n gs) (length cs) (length (stored cs))))
+  pub emit-is : (room : ℕ)
+      → emitOutcome n ws room ≡ demand (leb (length (stored cs)) room) noRoom 0 (served (totals (variablesOf n gs) (length cs) (length (stored cs))))
   unfolding emitOutcome sizesOutcome
-  emit-is =
+  emit-is room =
       ap (λ (o : Outcome Totals). andThen o (λ t. demand (leb (t .words) room) noRoom 0 (served t))) (then-served _ _ k (served-check n ws maxMiterGates k c))
-      ∙ ap₂ (λ (t : Totals) (m : ℕ). demand (leb (t .words) m) noRoom 0 (served t)) sums long
+      ∙ ap (λ (t : Totals). demand (leb (t .words) room) noRoom 0 (served t)) sums
+
+  -- a served emission: its totals, and the list at the buffer's start
+  pub emit-stands : (t : Totals) (buffer out : List ℤ) → emitOutcome n ws (length out) ≡ served t → buffer ≡ emitBuffer n ws out → ListStands t buffer (variablesOf n gs) cs
+  unfolding emitBuffer
+  emit-stands t buffer out o b =
+      either (leb (length (stored cs)) (length out))
+      (λ x.
+      let f : t ≡ totals (variablesOf n gs) (length cs) (length (stored cs)) = let g = sym o ∙ emit-is (length out) ∙ demand-met _ _ _ _ x in cc in
+      let w : t .words ≡ length (stored cs) = ap (λ (y : Totals). y .words) f in
+      let is : buffer ≡ over (stored cs) out = b ∙ ap (λ (x : Outcome Totals). written x (stored cs) out) o in
+      let r : length (stored cs) ≤ length out = leb-true (length (stored cs)) (length out) x in
+      record {
+        variables-are = ap (λ (y : Totals). y .variables) f;
+        count = ap (λ (y : Totals). y .clauses) f;
+        inside = omega (arith, ap length is, over-length (stored cs) out r);
+        words = ap₂ take w is ∙ take-append-seam (stored cs) (drop (length (stored cs)) out);
+      })
+      (λ x. absurd (never o (emit-is (length out) ∙ demand-failed _ _ _ _ x)))
 
   list-short : leb (length (stored cs)) maxWords ≡ false → listVerdict n gs ≡ refusedAt noRoom 0 0
   unfolding listVerdict
@@ -75,30 +95,21 @@ module _ (n : ℕ) (ws : List ℕ) (k : ℕ) (c : Cascade n ws maxMiterGates k) 
   unfolding listVerdict
   list-fits t = cond-true (leb (length (stored cs)) maxWords) _ _ t
 
-  pub list-bad : (why : Refusal) (buffer : List ℤ) → emitOutcome n ws room ≡ refused (why .number) (why .place) → Delivers (list.Refused why 0) buffer (listVerdict n gs)
-  list-bad why buffer e =
-      either (leb (length (stored cs)) maxWords)
-      (λ t. absurd (never (emit-is ∙ demand-met _ _ _ _ t) e))
-      (λ t. says-refusal why 0 buffer (listVerdict n gs) noRoom 0 (list-short t) (sym e ∙ emit-is ∙ demand-failed _ _ _ _ t))
+  module _ (room : ℕ) (long : room ≡ maxWords) where
+    emit-at : emitOutcome n ws room ≡ demand (leb (length (stored cs)) maxWords) noRoom 0 (served (totals (variablesOf n gs) (length cs) (length (stored cs))))
+    emit-at = emit-is room ∙ ap (λ (m : ℕ). demand (leb (length (stored cs)) m) noRoom 0 (served (totals (variablesOf n gs) (length cs) (length (stored cs))))) long
 
-  pub list-good : (t : Totals) (buffer out : List ℤ) → length out ≡ room → emitOutcome n ws (length out) ≡ served t → buffer ≡ emitBuffer n ws out → Delivers (list.Listed t) buffer (listVerdict n gs)
-  unfolding emitBuffer
-  list-good t buffer out size o b =
-      let e : emitOutcome n ws room ≡ served t = ap (emitOutcome n ws) (sym size) ∙ o in
-      either (leb (length (stored cs)) maxWords)
-      (λ x.
-      let f : t ≡ totals (variablesOf n gs) (length cs) (length (stored cs)) = let g = sym e ∙ emit-is ∙ demand-met _ _ _ _ x in cc in
-      let w : t .words ≡ length (stored cs) = ap (λ (y : Totals). y .words) f in
-      let is : buffer ≡ over (stored cs) out = b ∙ ap (λ (x : Outcome Totals). written x (stored cs) out) o in
-      let r : length (stored cs) ≤ maxWords = leb-true (length (stored cs)) maxWords x in
-      says-as (list.Listed t) buffer _ _ (list-fits x)
-      (record {
-        variables-are = ap (λ (y : Totals). y .variables) f;
-        count = ap (λ (y : Totals). y .clauses) f;
-        inside = omega (arith, ap length is, over-length (stored cs) out (omega arith));
-        words = ap₂ take w is ∙ take-append-seam (stored cs) (drop (length (stored cs)) out);
-      }))
-      (λ x. absurd (never e (emit-is ∙ demand-failed _ _ _ _ x)))
+    pub list-bad : (why : Refusal) (buffer : List ℤ) → emitOutcome n ws room ≡ refused (why .number) (why .place) → Delivers (list.Refused why 0) buffer (listVerdict n gs)
+    list-bad why buffer e =
+        either (leb (length (stored cs)) maxWords)
+        (λ t. absurd (never (emit-at ∙ demand-met _ _ _ _ t) e))
+        (λ t. says-refusal why 0 buffer (listVerdict n gs) noRoom 0 (list-short t) (sym e ∙ emit-at ∙ demand-failed _ _ _ _ t))
+
+    pub list-good : (t : Totals) (buffer out : List ℤ) → length out ≡ room → emitOutcome n ws (length out) ≡ served t → buffer ≡ emitBuffer n ws out → Delivers (list.Listed t) buffer (listVerdict n gs)
+    list-good t buffer out size o b =
+        either (leb (length (stored cs)) maxWords)
+        (λ x. says-as (list.Listed t) buffer _ _ (list-fits x) (emit-stands t buffer out o b))
+        (λ x. absurd (never (ap (emitOutcome n ws) (sym size) ∙ o) (emit-at ∙ demand-failed _ _ _ _ x)))
 
 -- ---- two cascades
 
@@ -106,20 +117,21 @@ module _ (n : ℕ) (ws : List ℕ) (k : ℕ) (c : Cascade n ws maxMiterGates k) 
 pub record Mitered (na : ℕ) (a : List ℕ) (nb : ℕ) (b buffer : List ℕ) (gates : ℕ) : Type 0 where
   pub inside : 3 * gates ≤ length buffer
   pub cascade : Cascade na (take (3 * gates) buffer) maxMiterGates gates
+  pub gates-are : gatesOf (take (3 * gates) buffer) ≡ miterGates (gatesOf a) (gatesOf b)
   pub verdict-is : pairVerdict na (gatesOf a) nb (gatesOf b) ≡ listVerdict na (gatesOf (take (3 * gates) buffer))
 
-module _ (na : ℕ) (a : List ℕ) (nb : ℕ) (b : List ℕ) (wa : FileWords na a) (wb : FileWords nb b) (room : ℕ) (long : room ≡ 6144) where
+module _ (na : ℕ) (a : List ℕ) (nb : ℕ) (b : List ℕ) (wa : FileWords na a) (wb : FileWords nb b) (room : ℕ) (long : 6144 ≤ room) where
   fits : length a + length b ≤ room
   fits = let x = wa .cascade in let y = wb .cascade in omega (arith, x .size, x .few, y .size, y .few)
 
-  miter-made : na ≡ nb → miterOutcome na a nb b room ≡ served (wa .count + wb .count)
+  pub miter-made : na ≡ nb → miterOutcome na a nb b room ≡ served (wa .count + wb .count)
   miter-made e =
       miter-laws .miter-served na a nb b room (wa .count + wb .count) .1
       (record { first = wa .count; second = wb .count; first-good = wa .cascade; second-good = wb .cascade; lines = e; fits = fits; count = refl })
 
   miter-differs : (na ≡ nb → ⊥) → miterOutcome na a nb b room ≡ refused lineCountsDiffer 0
   miter-differs h =
-      miter-refused na a nb b room lineCountsDiffer 0 (refused-pair na a nb b lineCountsDiffer 0 (differ (wa .count) (wb .count) (wa .cascade) (wb .cascade) h))
+      miter-refused na a nb b room lineCountsDiffer 0 (pair-refused na a nb b lineCountsDiffer 0 .1 (then (wa .count) (wa .cascade) (then (wb .count) (wb .cascade) (fails h))))
 
   pair-differs : (na ≡ nb → ⊥) → pairVerdict na (gatesOf a) nb (gatesOf b) ≡ refusedAt lineCountsDiffer 0 0
   unfolding pairVerdict
@@ -136,7 +148,7 @@ module _ (na : ℕ) (a : List ℕ) (nb : ℕ) (b : List ℕ) (wa : FileWords na 
       (λ t. absurd (never (miter-made (eqb-true na nb t)) e))
       (λ t. says-refusal why 0 buffer _ lineCountsDiffer 0 (pair-differs (eqb-false na nb t)) (sym e ∙ miter-differs (eqb-false na nb t)))
 
-  pub mitered : (gates : ℕ) (buffer out : List ℕ) → length out ≡ room → miterOutcome na a nb b (length out) ≡ served gates → buffer ≡ miterBuffer na a nb b out → length buffer ≡ 6144
+  pub mitered : (gates : ℕ) (buffer out : List ℕ) → length out ≡ room → miterOutcome na a nb b (length out) ≡ served gates → buffer ≡ miterBuffer na a nb b out → 6144 ≤ length buffer
       → Mitered na a nb b buffer gates
   mitered gates buffer out size e is l =
       let s = miter-laws .miter-served na a nb b (length out) gates .0 e in
@@ -146,6 +158,7 @@ module _ (na : ℕ) (a : List ℕ) (nb : ℕ) (b : List ℕ) (wa : FileWords na 
       record {
         inside = omega (arith, s .count, x .few, y .few);
         cascade = subst (λ (ws : List ℕ). Cascade na (take (3 * gates) ws) maxMiterGates gates) (sym is) (m .cascade);
+        gates-are = ap (λ (ws : List ℕ). gatesOf (take (3 * gates) ws)) is ∙ m .gates;
         verdict-is =
             pair-listed (s .lines)
             ∙ ap (listVerdict na) (sym (ap (λ (ws : List ℕ). gatesOf (take (3 * gates) ws)) is ∙ m .gates));
@@ -167,13 +180,13 @@ pub record FileRead (text : List ℕ) (lines gates taken : ℕ) (buffer : List �
 abbrev counts : ℕ → ℕ → ℕ → ReadCounts
 counts lines gates taken = record { lines = lines; gates = gates; taken = taken }
 
-module _ (text : List ℕ) (room : ℕ) (long : room ≡ 3072) where
+module _ (text : List ℕ) (room : ℕ) (long : 3072 ≤ room) where
   pub file-bad : (number place : ℕ) → readOutcome text room ≡ refused number place → reading text ≡ refused number place
-  file-bad number place e = faulty number place (read-refused text room number place e)
+  file-bad number place e = faulty number place (read-refused text room number place .0 e)
     where
       faulty : (number place : ℕ) → ReadRefused text room number place → reading text ≡ refused number place
-      faulty number place (wrong _ _ f) = reader .read-refused text number place .1 f
-      faulty number place (short n gs rest good starts less) = absurd (omega (arith, good .few))
+      faulty number place (before f) = reader .read-refused text number place .1 f
+      faulty _ _ (then c good (fails less)) = absurd (omega (arith, good .good .few))
 
   pub file-read : (lines gates taken : ℕ) (buffer out : List ℕ) → length out ≡ room → readOutcome text (length out) ≡ served (counts lines gates taken) → buffer ≡ readBuffer text out
       → FileRead text lines gates taken buffer

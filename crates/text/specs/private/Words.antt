@@ -1,12 +1,17 @@
 -- For the contracts of the functions that write the clauses of stored words.
 use mathlib.Core.Path.{_≡_}
 use mathlib.Core.List.{List, [], _∷_, _++_}
-use Prim.Native.Nat.{ℕ, zero, suc}
-use lib.IntN.{ℤ, pos, negsuc}
-use Rattle.circuit.specs.Text.{minusSign}
-use Rattle.checking.specs.Clauses.{Clause}
+use Prim.Native.Nat.{ℕ, zero, suc, _≤_}
+use lib.IntN.{ℤ, pos, negsuc, negℤ}
+use Rattle.circuit.specs.Text.{minusSign, minusSign}
+use Rattle.checking.specs.Clauses.{Clause, OR, XOR}
 use Rattle.checking.specs.Stored.{stored, ReadBack, clausesRead, badRecord, clausesIn}
+use lib.ListN.{length}
+use Rattle.checking.specs.Satisfaction.{LiteralsWithin, ClausesWithin}
+use Rattle.text.specs.declared.plain.PlainSizes.{PlainSizes}
 use Rattle.text.specs.Dimacs.{xorSign, literalsText, closing, clausesText}
+use Rattle.text.specs.Plain.{plainClause, plainClauses}
+use Rattle.text.specs.Compare.{maxList}
 
 -- the sign of a literal
 abbrev pub signText : ℤ → List ℕ
@@ -36,3 +41,73 @@ wordsText ws = readText (clausesIn ws)
 pub record Stores (ws : List ℤ) : Type 0 where
   pub clauses : List Clause
   pub words : ws ≡ stored clauses
+
+-- ---- the same clauses as OR clauses alone
+
+-- the clauses that words store, in a list
+abbrev pub readClauses : ReadBack → List Clause
+readClauses (clausesRead cs) = cs
+readClauses (badRecord i) = []
+
+unfoldable pub storedIn : List ℤ → List Clause
+storedIn ws = readClauses (clausesIn ws)
+
+-- the plain clauses of a kind word and literals
+abbrev pub plainRecord : ℤ → List ℤ → List Clause
+plainRecord (pos zero) ls = plainClause (OR ls)
+plainRecord (pos (suc zero)) ls = plainClause (XOR ls)
+plainRecord (pos (suc (suc k))) ls = plainClause (OR ls)
+plainRecord (negsuc i) ls = plainClause (OR ls)
+
+-- the OR of three literals, and of the first and the opposite of the others: half of an XOR's plain clauses
+abbrev pub bothOrs : ℤ → ℤ → ℤ → List Clause
+bothOrs a b c = OR (a ∷ b ∷ c ∷ []) ∷ OR (a ∷ negℤ b ∷ negℤ c ∷ []) ∷ []
+
+-- two or three literals
+abbrev pub TwoOrThree : List ℤ → Type 0
+TwoOrThree [] = ⊥
+TwoOrThree (a ∷ []) = ⊥
+TwoOrThree (a ∷ b ∷ []) = Unit {0}
+TwoOrThree (a ∷ b ∷ c ∷ []) = Unit {0}
+TwoOrThree (a ∷ b ∷ c ∷ d ∷ ls) = ⊥
+
+-- an XOR has two or three literals
+abbrev pub ShortRecord : ℤ → List ℤ → Type 0
+ShortRecord (pos zero) ls = Unit {0}
+ShortRecord (pos (suc zero)) ls = TwoOrThree ls
+ShortRecord (pos (suc (suc k))) ls = Unit {0}
+ShortRecord (negsuc i) ls = Unit {0}
+
+abbrev pub ShortClause : Clause → Type 0
+ShortClause (OR ls) = Unit {0}
+ShortClause (XOR ls) = TwoOrThree ls
+
+abbrev pub AllShort : List Clause → Type 0
+AllShort [] = Unit {0}
+AllShort (c ∷ cs) = ShortClause c × AllShort cs
+
+-- no clause list has more variables
+abbrev pub maxVariables : ℕ
+maxVariables = 4224
+
+-- a record whose plain clauses are written
+pub record Plainable (kind : ℤ) (ls : List ℤ) : Type 0 where
+  pub short : ShortRecord kind ls
+  pub few : length ls ≤ maxList
+  pub within : LiteralsWithin maxVariables ls
+
+-- the words store such clauses, and are no more than a list may have
+pub record StoresPlain (ws : List ℤ) : Type 0 where
+  pub clauses : List Clause
+  pub words : ws ≡ stored clauses
+  pub short : AllShort clauses
+  pub within : ClausesWithin maxVariables clauses
+  pub few : length ws ≤ maxList
+
+-- the text of the plain clauses that words store
+abbrev pub plainText : List ℤ → List ℕ
+plainText ws = clausesText (plainClauses (storedIn ws))
+
+-- the bytes and the clauses of that text
+abbrev pub plainSizes : List ℤ → PlainSizes
+plainSizes ws = record { bytes = length (plainText ws); clauses = length (plainClauses (storedIn ws)) }

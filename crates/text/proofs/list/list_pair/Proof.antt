@@ -17,7 +17,7 @@ made : (c : tie.After-gates)
 made c =
     let s = c .before .before .before .before .before .before .before in
     let m = c .before .before .before .miter in
-    mitered _ _ _ _ (s .pre .0) (s .pre .1 .0) 6144 refl (c .gates .given .0 .0) (m .last .1 .1 .1 .1 .0) _ refl (sym (m .ensures .answer) ∙ ap ofCount (c .gates .given .1)) (m .ensures .buffer) (m .kept .1 .1 .1 .1 .0)
+    mitered _ _ _ _ (s .pre .0) (s .pre .1 .0) 6144 (omega arith) (c .gates .given .0 .0) (m .last .1 .1 .1 .1 .0) _ refl (sym (m .ensures .answer) ∙ ap ofCount (c .gates .given .1)) (m .ensures .buffer) (omega (arith, m .kept .1 .1 .1 .1 .0))
 
 slice-aggregate-miter : tie.Need-slice-aggregate-miter
 slice-aggregate-miter c = search needs
@@ -53,7 +53,7 @@ returns : tie.Need-returns
 returns c =
     let s = c .before .before .before .before .before .before .before .before in
     let m = c .before .before .before .before .miter in
-    pair-bad _ _ _ _ (s .pre .0) (s .pre .1 .0) 6144 refl (c .before .why .given .0 .0) _ (sym (m .ensures .answer) ∙ ap ofCount (c .before .why .given .1))
+    pair-bad _ _ _ _ (s .pre .0) (s .pre .1 .0) 6144 (omega arith) (c .before .why .given .0 .0) _ (sym (m .ensures .answer) ∙ ap ofCount (c .before .why .given .1))
 
 same-length : tie.Need-same-length
 same-length c = search needs

@@ -20,7 +20,7 @@ whole : (c : tie.After-header)
     → FileRead (c .before .before .before .before .before .before .before .args .text .now) (c .header .given .0 .0 .lines) (c .header .given .0 .1 .0) (c .header .given .0 .1 .1 .0) (c .before .before .before .read .last .1 .0)
 whole c =
     let r = c .before .before .before .read in
-    file-read _ 3072 refl _ _ _ (r .last .1 .0) _ refl (sym (r .ensures .answer) ∙ ap ofRead (c .header .given .1)) (r .ensures .buffer)
+    file-read _ 3072 (omega arith) _ _ _ (r .last .1 .0) _ refl (sym (r .ensures .answer) ∙ ap ofRead (c .header .given .1)) (r .ensures .buffer)
 
 slice-aggregate-read : tie.Need-slice-aggregate-read
 slice-aggregate-read c = search needs
@@ -63,7 +63,7 @@ returns-2 : tie.Need-returns-2
 returns-2 c =
     let r = c .before .before .before .before .read in
     let x = c .before .why .given .0 .0 in
-    says-refusal {A = ℕ} x 2 _ _ (x .number) (x .place) (second-bad _ _ _ (x .number) (x .place) (file-bad _ 3072 refl (x .number) (x .place) (sym (r .ensures .answer) ∙ ap ofRead (c .before .why .given .1)))) refl
+    says-refusal {A = ℕ} x 2 _ _ (x .number) (x .place) (second-bad _ _ _ (x .number) (x .place) (file-bad _ 3072 (omega arith) (x .number) (x .place) (sym (r .ensures .answer) ∙ ap ofRead (c .before .why .given .1)))) refl
 
 same-length : tie.Need-same-length
 same-length c = search needs

@@ -1,0 +1,122 @@
+-- No text that is written for two files is longer than `maxCompared`. Assumes nothing.
+use mathlib.Core.Path.{_≡_, refl, sym, ap, subst, _∙_}
+use mathlib.Core.List.{List, [], _∷_, _++_}
+use Prim.Native.Nat.{ℕ, suc, _+_, _*_, _^_, _≤_, _<_}
+use native.Mathlib.Nat.{le-trans}
+use native.Mathlib.Omega.{arith}
+use lib.Dec.{eqb, leb}
+use lib.ListN.{length, length-append}
+use lib.Pow.{pow-mono}
+use borrow.Author.Tests.{leb-true, le-leb}
+use Rattle.bits.proofs.Bools.{either, cond-true, cond-false}
+use Rattle.circuit.specs.declared.gate.Gate.{Gate}
+use Rattle.circuit.specs.Outcome.{served}
+use Rattle.circuit.specs.Run.{run, Differs}
+use Rattle.circuit.specs.FileLaws.{FileRefused}
+use Rattle.circuit.proofs.Outcome.{demand-met}
+use Rattle.circuit.proofs.run.Laws.{run-below}
+use Rattle.checking.specs.Compare.{maxSweepLines, Difference, none, lowest, lowestFrom}
+use Rattle.checking.specs.Compare as sweep
+use Rattle.checking.specs.Clauses.{Clause, clausesOf, variablesOf}
+use Rattle.checking.specs.Stored.{stored}
+use Rattle.checking.proofs.compare.Laws.{sweep-says}
+use Rattle.checking.proofs.clauses.Laws.{clause-laws}
+use Rattle.text.specs.Dimacs.{headerText, clausesText, dimacsOf}
+use Rattle.text.specs.Plain.{plainClauses}
+use Rattle.text.specs.Tomiter.{refusalText}
+use Rattle.text.specs.Compare.{maxList, maxCompared, fileWords, miterWords, Files, cascades, faulty, filesOf, Comparison, gatesLeft, sweptAs, listAs, compared, comparedFiles, comparison, differText, comparisonText, compareText, fitOutcome, Rooms, compareOutcome}
+use Rattle.text.specs.CompareLaws.{TwoFiles, FilesFault, first-long, second-long, first-file, after-first, second-file, after-second, lines-differ, list-long}
+use Rattle.text.proofs.Decimal.{decimal-few}
+use Rattle.text.proofs.Sizes.{fault-small}
+use Rattle.text.proofs.Rooms.{rooms-good}
+use Rattle.text.proofs.Verdicts.{Judged, judged, valid, lines, kept, left-few}
+use Rattle.text.proofs.plain.Laws.{plain-few}
+use Rattle.text.proofs.comparison.Laws.{list-short, list-within}
+use Rattle.text.proofs.answer.Laws.{digits-few, differ-long, refusal-long, header-long}
+
+-- ---- refusals
+
+fault-few : (first second : List ℕ) (number file place : ℕ) → FilesFault first second number file place → (number < 100) × (file < 10) × (place < 10000)
+fault-few first second _ _ _ (first-long _) = (omega arith, omega arith, omega arith)
+fault-few first second _ _ _ (second-long _ _) = (omega arith, omega arith, omega arith)
+fault-few first second _ _ _ (first-file number place _ _ f) = let (a, b) = fault-small first number place f in (a, omega arith, b)
+fault-few first second _ _ _ (after-first n a rest _ _ good _ _) = (omega arith, omega arith, omega (arith, good .few))
+fault-few first second _ _ _ (second-file n a number place _ _ _ _ f) = let (x, y) = fault-small second number place f in (x, omega arith, y)
+fault-few first second _ _ _ (after-second n a m b rest _ _ _ _ good _ _) = (omega arith, omega arith, omega (arith, good .few))
+fault-few first second _ _ _ (lines-differ n a m b _ _ _ _ _ _ _) = (omega arith, omega arith, omega arith)
+fault-few first second _ _ _ (list-long n a b _ _ _ _) = (omega arith, omega arith, omega arith)
+
+refusal-few : (number file place : ℕ) → number < 100 → file < 10 → place < 10000 → length (refusalText number file place) ≤ maxCompared
+refusal-few number file place a b c =
+    omega (arith, refusal-long number file place, decimal-few 1 number a, decimal-few 0 file b, decimal-few 3 place c)
+
+dimacs-long : (v : ℕ) (ps : List Clause) → length (dimacsOf v ps) ≡ length (headerText v (length ps)) + length (clausesText ps)
+unfolding dimacsOf
+dimacs-long v ps = length-append (headerText v (length ps)) (clausesText ps)
+
+-- ---- two cascades
+
+module _ (first second : List ℕ) (n : ℕ) (a b : List Gate) (t : TwoFiles first second n a b) where
+  abbrev gl : List Gate
+  gl = gatesLeft a b
+
+  abbrev cs : List Clause
+  cs = clausesOf n gl
+
+  below : (k : ℕ) → k < 2 ^ n → k < 2 ^ 64
+  below k h = omega (arith, pow-mono {i = n} {j = 64} (lines first second n a b t))
+
+  difference-few : (d : Difference) → sweep.Says n a b (served d) → length (comparisonText (sweptAs a b d)) ≤ maxCompared
+  difference-few none s = omega arith
+  difference-few (lowest x) s =
+      let h = s .0 .state in
+      omega (arith, differ-long x (run a x) (run b x), digits-few x (below x h), digits-few (run a x) (below _ (run-below n a (t .first-good .gates) x h)), digits-few (run b x) (below _ (run-below n b (t .second-good .gates) x h)))
+
+  header-few : (v m : ℕ) → v ≤ 4224 → m ≤ maxList → length (headerText v m) ≤ 18
+  header-few v m h l = omega (arith, header-long v m, decimal-few 3 v (omega arith), decimal-few 5 m (omega arith), decimal-few 0 0 (omega arith))
+
+  list-few : length (comparisonText (listAs n gl)) ≤ maxCompared
+  unfolding listAs
+  list-few =
+      either (leb (length (stored cs)) maxList)
+      (λ u.
+      let (x, y) = plain-few cs (list-short n gl) (list-within n gl (lines first second n a b t) (left-few first second n a b t) (kept first second n a b t .good)) in
+      let few = leb-true (length (stored cs)) maxList u in
+      let v = clause-laws .variables-few n gl (lines first second n a b t) (left-few first second n a b t) in
+      subst (λ (c : Comparison). length (comparisonText c) ≤ maxCompared) (sym (cond-true (leb (length (stored cs)) maxList) _ _ u))
+      (omega (arith, x, few, header-few (variablesOf n gl) (length (plainClauses cs)) v (omega (arith, y)), dimacs-long (variablesOf n gl) (plainClauses cs))))
+      (λ u.
+      subst (λ (c : Comparison). length (comparisonText c) ≤ maxCompared) (sym (cond-false (leb (length (stored cs)) maxList) _ _ u))
+      (refusal-few 10 0 0 (omega arith) (omega arith) (omega arith)))
+
+  pair-few : length (comparisonText (compared n a b)) ≤ maxCompared
+  unfolding compared
+  pair-few =
+      either (eqb (length gl) 0)
+      (λ u. subst (λ (c : Comparison). length (comparisonText c) ≤ maxCompared) (sym (cond-true (eqb (length gl) 0) _ _ u)) (omega arith))
+      (λ u.
+      either (leb n maxSweepLines)
+      (λ v.
+      subst (λ (c : Comparison). length (comparisonText c) ≤ maxCompared)
+      (sym (cond-false (eqb (length gl) 0) _ _ u ∙ cond-true (leb n maxSweepLines) _ _ v)) (difference-few (lowestFrom a b 0 (2 ^ n)) (sweep-says a b n)))
+      (λ v.
+      subst (λ (c : Comparison). length (comparisonText c) ≤ maxCompared)
+      (sym (cond-false (eqb (length gl) 0) _ _ u ∙ cond-false (leb n maxSweepLines) _ _ v)) list-few))
+
+-- ---- every text
+
+files-few : (first second : List ℕ) (f : Files) → Judged first second f → length (comparisonText (comparedFiles f)) ≤ maxCompared
+files-few first second (cascades n a b) t = pair-few first second n a b t
+files-few first second (faulty number file place) f = let (x, y, z) = fault-few first second number file place f in refusal-few number file place x y z
+
+pub text-fits : (first second : List ℕ) → length (compareText first second) ≤ maxCompared
+unfolding compareText comparison
+text-fits first second = files-few first second (filesOf first second) (judged first second)
+
+-- so a buffer of that length, and rooms of their lengths, always suffice
+pub room-enough : (first second : List ℕ) (lent : Rooms) (room : ℕ) → fileWords ≤ lent .first → fileWords ≤ lent .second → miterWords ≤ lent .miter → maxList ≤ lent .clauses → maxCompared ≤ room
+    → compareOutcome first second lent room ≡ served (length (compareText first second))
+unfolding fitOutcome
+room-enough first second lent room a b c d h =
+    rooms-good first second lent a b c d room
+    ∙ demand-met _ _ _ _ (le-leb (length (compareText first second)) room (le-trans (text-fits first second) h))

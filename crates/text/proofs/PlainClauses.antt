@@ -1,0 +1,158 @@
+-- The plain clauses of a list are satisfied exactly when the list is. Assumes nothing.
+use mathlib.Core.Path.{_≡_, refl, sym, ap, ap₂, _∙_}
+use mathlib.Core.Logic.{_↔_}
+use mathlib.Core.Bool.{Bool, true, false, not, _&&_, _||_, xor}
+use mathlib.Core.List.{List, [], _∷_, _++_, map}
+use Prim.Native.Nat.{ℕ, _≤_, _<_}
+use native.Mathlib.Omega.{arith}
+use lib.IntN.{ℤ, pos, negsuc, negℤ}
+use Rattle.circuit.specs.declared.gate.Gate.{Gate}
+use Rattle.checking.specs.Clauses.{Clause, OR, XOR}
+use Rattle.checking.specs.Satisfaction.{value, holds, satisfies, variableOf, spelled, LiteralsWithin, clauseLiterals, ClausesWithin, Satisfying, Tells}
+use Rattle.checking.proofs.clauses.Tests.{someTrue, oddTrue, holds-or, holds-xor, value-neg, satisfies-append}
+use Rattle.checking.proofs.clauses.Bounds.{within-append, neg-size}
+use Rattle.text.specs.Plain.{negations, plainClause, plainClauses, AllOr}
+
+-- ---- satisfaction
+
+-- each of the OR clauses of these literals holds
+abbrev allHold : List Bool → List (List ℤ) → Bool
+allHold σ kss = satisfies σ (map OR kss)
+
+map-plus : {A B : Type 0} (f : A → B) (xs ys : List A) → map f (xs ++ ys) ≡ map f xs ++ map f ys
+map-plus f [] ys = refl
+map-plus f (x ∷ xs) ys = ap (λ (l : List _). f x ∷ l) (map-plus f xs ys)
+
+or-both : (v a b : Bool) → ((v || a) && (v || b)) ≡ (v || (a && b))
+or-both true a b = refl
+or-both false a b = refl
+
+or-true : (v : Bool) → true ≡ (v || true)
+or-true true = refl
+or-true false = refl
+
+-- a literal put before each of them
+joined : (σ : List Bool) (l : ℤ) (kss : List (List ℤ)) → allHold σ (map (λ (k : List ℤ). l ∷ k) kss) ≡ (value σ l || allHold σ kss)
+unfolding satisfies
+joined σ l [] = or-true (value σ l)
+joined σ l (k ∷ kss) =
+    ap₂ _&&_ (holds-or σ (l ∷ k) ∙ ap (λ (b : Bool). value σ l || b) (sym (holds-or σ k))) (joined σ l kss)
+    ∙ or-both (value σ l) (holds σ (OR k)) (allHold σ kss)
+
+-- by the value of the first literal and by what holds of the others
+step : (v t odd : Bool) → ((v || xor odd t) && (not v || xor (not odd) t)) ≡ xor odd (xor v t)
+unfolding xor
+step true true true = refl
+step true true false = refl
+step true false true = refl
+step true false false = refl
+step false true true = refl
+step false true false = refl
+step false false true = refl
+step false false false = refl
+
+negated-hold : (σ : List Bool) (m : ℕ) (odd : Bool) (ls : List ℤ) → LiteralsWithin m ls → allHold σ (negations odd ls) ≡ xor odd (oddTrue σ ls)
+unfolding negations satisfies holds xor
+negated-hold σ m true [] w = refl
+negated-hold σ m false [] w = refl
+negated-hold σ m odd (l ∷ ls) w =
+    let p : List (List ℤ) = negations odd ls in
+    let q : List (List ℤ) = negations (not odd) ls in
+    ap (satisfies σ) (map-plus OR (map (λ (k : List ℤ). l ∷ k) p) (map (λ (k : List ℤ). negℤ l ∷ k) q))
+    ∙ satisfies-append σ (map OR (map (λ (k : List ℤ). l ∷ k) p)) (map OR (map (λ (k : List ℤ). negℤ l ∷ k) q))
+    ∙ ap₂ _&&_
+    (joined σ l p ∙ ap (λ (b : Bool). value σ l || b) (negated-hold σ m odd ls (w .1 .1)))
+    (joined σ (negℤ l) q ∙ ap₂ _||_ (value-neg σ l (w .0)) (negated-hold σ m (not odd) ls (w .1 .1)))
+    ∙ step (value σ l) (oddTrue σ ls) odd
+
+xor-false : (b : Bool) → xor false b ≡ b
+unfolding xor
+xor-false true = refl
+xor-false false = refl
+
+and-true : (b : Bool) → (b && true) ≡ b
+and-true true = refl
+and-true false = refl
+
+clause-plain : (σ : List Bool) (m : ℕ) (c : Clause) → LiteralsWithin m (clauseLiterals c) → satisfies σ (plainClause c) ≡ holds σ c
+unfolding satisfies
+clause-plain σ m (OR ls) w = and-true (holds σ (OR ls))
+clause-plain σ m (XOR ls) w = negated-hold σ m false ls w ∙ xor-false (oddTrue σ ls) ∙ sym (holds-xor σ ls)
+
+-- an assignment satisfies the plain clauses exactly when it satisfies the list
+pub plain-satisfied : (σ : List Bool) (m : ℕ) (cs : List Clause) → ClausesWithin m cs → satisfies σ (plainClauses cs) ≡ satisfies σ cs
+unfolding satisfies plainClauses
+plain-satisfied σ m [] w = refl
+plain-satisfied σ m (c ∷ cs) w =
+    satisfies-append σ (plainClause c) (plainClauses cs) ∙ ap₂ _&&_ (clause-plain σ m c (w .0)) (plain-satisfied σ m cs (w .1))
+
+-- ---- the literals are those of the list
+
+-- every list of literals is within the variables
+abbrev Within : ℕ → List (List ℤ) → Type 0
+Within m kss = ClausesWithin m (map OR kss)
+
+put-before : (m : ℕ) (l : ℤ) (kss : List (List ℤ)) → 1 ≤ variableOf l → variableOf l ≤ m → Within m kss → Within m (map (λ (k : List ℤ). l ∷ k) kss)
+put-before m l [] a b w = tt
+put-before m l (k ∷ kss) a b w = ((a, (b, w .0)), put-before m l kss a b (w .1))
+
+negated-within : (m : ℕ) (odd : Bool) (ls : List ℤ) → LiteralsWithin m ls → Within m (negations odd ls)
+unfolding negations
+negated-within m true [] w = tt
+negated-within m false [] w = (tt, tt)
+negated-within m odd (l ∷ ls) w =
+    let p : List (List ℤ) = negations odd ls in
+    let q : List (List ℤ) = negations (not odd) ls in
+    let s = neg-size l in
+    mathlib.Core.Path.subst (ClausesWithin m) (sym (map-plus OR (map (λ (k : List ℤ). l ∷ k) p) (map (λ (k : List ℤ). negℤ l ∷ k) q)))
+    (within-append m (map OR (map (λ (k : List ℤ). l ∷ k) p)) (map OR (map (λ (k : List ℤ). negℤ l ∷ k) q))
+    (put-before m l p (w .0) (w .1 .0) (negated-within m odd ls (w .1 .1)))
+    (put-before m (negℤ l) q (omega (arith, s, w .0)) (omega (arith, s, w .1 .0)) (negated-within m (not odd) ls (w .1 .1))))
+
+clause-within : (m : ℕ) (c : Clause) → LiteralsWithin m (clauseLiterals c) → ClausesWithin m (plainClause c)
+clause-within m (OR ls) w = (w, tt)
+clause-within m (XOR ls) w = negated-within m false ls w
+
+pub plain-within : (m : ℕ) (cs : List Clause) → ClausesWithin m cs → ClausesWithin m (plainClauses cs)
+unfolding plainClauses
+plain-within m [] w = tt
+plain-within m (c ∷ cs) w = within-append m (plainClause c) (plainClauses cs) (clause-within m c (w .0)) (plain-within m cs (w .1))
+
+-- ---- every clause is an OR
+
+or-append : (xs ys : List Clause) → AllOr xs → AllOr ys → AllOr (xs ++ ys)
+or-append [] ys a b = b
+or-append (OR ls ∷ xs) ys a b = or-append xs ys a b
+or-append (XOR ls ∷ xs) ys a b = absurd a
+
+or-map : (kss : List (List ℤ)) → AllOr (map OR kss)
+or-map [] = tt
+or-map (k ∷ kss) = or-map kss
+
+clause-or : (c : Clause) → AllOr (plainClause c)
+clause-or (OR ls) = tt
+clause-or (XOR ls) = or-map (negations false ls)
+
+pub plain-or : (cs : List Clause) → AllOr (plainClauses cs)
+unfolding plainClauses
+plain-or [] = tt
+plain-or (c ∷ cs) = or-append (plainClause c) (plainClauses cs) (clause-or c) (plain-or cs)
+
+-- ---- so they tell the same
+
+module _ (n variables : ℕ) (cs : List Clause) (a b : List Gate) (t : Tells n variables cs a b) where
+  satisfying : (σ : List Bool) → Satisfying variables (plainClauses cs) σ ↔ Satisfying variables cs σ
+  satisfying σ =
+      let e = plain-satisfied σ variables cs (t .within) in
+      ((λ s. record { whole = s .whole; satisfied = sym e ∙ s .satisfied }), (λ s. record { whole = s .whole; satisfied = e ∙ s .satisfied }))
+
+  pub plain-tells : Tells n variables (plainClauses cs) a b
+  plain-tells =
+      record {
+        equal = ((λ same σ s. t .equal .0 same σ (satisfying σ .0 s)), (λ unsat. t .equal .1 (λ σ s. unsat σ (satisfying σ .1 s))));
+        differing = λ x d.
+            let (σ, s, e, only) = t .differing x d in
+            (σ, satisfying σ .1 s, e, (λ τ p q. only τ (satisfying τ .0 p) q));
+        no-other = λ σ s. t .no-other σ (satisfying σ .0 s);
+        within = plain-within variables cs (t .within);
+      }

@@ -1,0 +1,227 @@
+-- The claim of the text that is written for two files: which verdict it says is true of them. Assumes nothing.
+use mathlib.Core.Path.{_≡_, refl, sym, ap, ap₂, subst, _∙_}
+use mathlib.Core.Logic.{_↔_}
+use mathlib.Core.Bool.{true, false}
+use mathlib.Core.List.{List, [], _∷_, _++_, append-nil}
+use Prim.Native.Nat.{ℕ, zero, suc, _+_, _^_, _≤_, _<_}
+use native.Mathlib.Omega.{arith}
+use lib.Dec.{eqb, leb}
+use lib.ListN.{length, drop}
+use lib.Seq.{take-all}
+use borrow.Author.Tests.{eqb-true, eqb-false, leb-true, leb-false}
+use Rattle.bits.proofs.Bools.{either, cond-true, cond-false}
+use Rattle.circuit.specs.declared.gate.Gate.{Gate}
+use Rattle.circuit.specs.Gate.{maxLines, maxMiterGates}
+use Rattle.circuit.specs.Outcome.{Outcome, served, refused}
+use Rattle.circuit.specs.Refusal.{noRoom}
+use Rattle.circuit.specs.Words.{allValid}
+use Rattle.circuit.specs.Run.{run, Equal, Differs}
+use Rattle.circuit.specs.Text.{textOf}
+use Rattle.circuit.specs.File.{Reading, reading}
+use Rattle.circuit.specs.FileLaws.{FileCascade, FileRefused}
+use Rattle.circuit.proofs.file.Laws.{reader}
+use Rattle.circuit.proofs.words.Laws.{valid-all-more}
+use Rattle.checking.specs.Miter.{miterGates}
+use Rattle.checking.specs.StepLaws.{Keeps}
+use Rattle.checking.specs.Reduce.{reduceGates}
+use Rattle.checking.specs.Compare.{maxSweepLines, Difference, none, lowest, lowestFrom}
+use Rattle.checking.specs.Compare as sweep
+use Rattle.checking.specs.Clauses.{Clause, clausesOf, variablesOf}
+use Rattle.checking.specs.Satisfaction.{Tells}
+use Rattle.checking.specs.Stored.{stored}
+use Rattle.checking.proofs.miter.Laws.{miter-laws}
+use Rattle.checking.proofs.reduce.Relation.{reduce-laws}
+use Rattle.checking.proofs.compare.Laws.{sweep-says}
+use Rattle.checking.proofs.clauses.Laws.{clause-laws}
+use Rattle.checking.proofs.clauses.Meaning.{tells-same}
+use Rattle.text.specs.Dimacs.{Dimacs, dimacsOf, dimacsRead}
+use Rattle.text.specs.Plain.{plainClauses}
+use Rattle.text.specs.BytesTell.{TextTells}
+use Rattle.text.specs.Compare.{maxFile, maxList, Files, cascades, faulty, wholeFile, secondFile, filesOf, Comparison, reduced, swept, differing, unsolved, refusedAt, gatesLeft, sweptAs, listAs, compared, comparedFiles, comparison, comparisonText, compareText}
+use Rattle.text.specs.CompareLaws.{TwoFiles, FilesFault, first-long, second-long, first-file, after-first, second-file, after-second, lines-differ, list-long, Verdict, refuses, reduces, sweeps, differs, asks, Compares}
+use Rattle.text.proofs.Pairs.{listable}
+use Rattle.text.proofs.Reading.{text-back}
+use Rattle.text.proofs.PlainClauses.{plain-or, plain-tells}
+use Rattle.text.proofs.Faults.{cut, taken-all}
+use Rattle.text.proofs.pair.Laws as pair
+
+-- ---- a file
+
+-- what is wrong with a file: a line of it, or bytes after its `end`
+pub data WholeFault (text : List ℕ) : ℕ → ℕ → Type 0 where
+  line : (number place : ℕ) → FileRefused text number place → WholeFault text number place
+  after : (n : ℕ) (a : List Gate) (rest : List ℕ) → FileCascade n a → text ≡ textOf n a ++ rest → (rest ≡ [] → ⊥) → WholeFault text 1 (length a + 2)
+
+abbrev WholeJudged : List ℕ → Outcome Reading → Type 0
+WholeJudged text (served c) = (FileCascade (c .lines) (c .gates)) × (text ≡ textOf (c .lines) (c .gates))
+WholeJudged text (refused number place) = WholeFault text number place
+
+whole-by : (text : List ℕ) (o : Outcome Reading) → reading text ≡ o → WholeJudged text (wholeFile text)
+whole-by text (refused k p) r = subst (WholeJudged text) (sym (pair.whole-bad text k p r)) (line k p (reader .read-refused text k p .0 r))
+whole-by text (served d) r =
+    let (good, is) = reader .read-text text d r in
+    either (eqb (d .taken) (length text))
+    (λ t.
+    let all : d .taken ≡ length text = eqb-true (d .taken) (length text) t in
+    subst (WholeJudged text) (sym (pair.whole-good text d r all)) (good, sym (take-all (d .taken) text (omega arith)) ∙ is))
+    (λ t.
+    let ne : d .taken ≡ length text → ⊥ = eqb-false (d .taken) (length text) t in
+    subst (WholeJudged text) (sym (pair.whole-after text d r ne)) (after (d .lines) (d .gates) (drop (d .taken) text) good (cut text d r) (λ z. ne (taken-all text d r z))))
+
+pub whole-judged : (text : List ℕ) → WholeJudged text (wholeFile text)
+whole-judged text = whole-by text (reading text) refl
+
+-- ---- two files
+
+module _ (first second : List ℕ) where
+  abbrev pub Judged : Files → Type 0
+  Judged (cascades n a b) = TwoFiles first second n a b
+  Judged (faulty number file place) = FilesFault first second number file place
+
+  module _ (short : length first ≤ maxFile) (short-2 : length second ≤ maxFile) where
+    first-fault : (number place : ℕ) → WholeFault first number place → FilesFault first second number 1 place
+    first-fault _ _ (line number place f) = first-file number place short short-2 f
+    first-fault _ _ (after n a rest good e more) = after-first n a rest short short-2 good e more
+
+    module _ (n : ℕ) (a : List Gate) (good : FileCascade n a) (is : first ≡ textOf n a) where
+      second-fault : (number place : ℕ) → WholeFault second number place → FilesFault first second number 2 place
+      second-fault _ _ (line number place f) = second-file n a number place short short-2 good is f
+      second-fault _ _ (after m b rest good-b e more) = after-second n a m b rest short short-2 good is good-b e more
+
+      second-by : (o : Outcome Reading) → wholeFile second ≡ o → WholeJudged second o → Judged (secondFile n a second)
+      second-by (refused k p) e w = subst Judged (sym (pair.second-refused n a second k p e)) (second-fault k p w)
+      second-by (served d) e w =
+          either (eqb n (d .lines))
+          (λ t.
+          let s : n ≡ d .lines = eqb-true n (d .lines) t in
+          subst Judged (sym (pair.second-same n a second d e s))
+          (record {
+            first-good = good;
+            second-good = subst (λ (k : ℕ). FileCascade k (d .gates)) (sym s) (w .0);
+            first-text = is;
+            second-text = w .1 ∙ ap (λ (k : ℕ). textOf k (d .gates)) (sym s);
+            first-bytes = short;
+            second-bytes = short-2;
+          }))
+          (λ t.
+          let ne : n ≡ d .lines → ⊥ = eqb-false n (d .lines) t in
+          subst Judged (sym (pair.second-differs n a second d e ne)) (lines-differ n a (d .lines) (d .gates) short short-2 good is (w .0) (w .1) ne))
+
+    first-by : (o : Outcome Reading) → wholeFile first ≡ o → WholeJudged first o → Judged (filesOf first second)
+    first-by (refused k p) e w = subst Judged (sym (pair.first-refused first second short short-2 k p e)) (first-fault k p w)
+    first-by (served c) e w =
+        subst Judged (sym (pair.first-served first second short short-2 c e))
+        (second-by (c .lines) (c .gates) (w .0) (w .1) (wholeFile second) refl (whole-judged second))
+
+  pub judged : Judged (filesOf first second)
+  judged =
+      either (leb (length first) maxFile)
+      (λ t.
+      let short = leb-true (length first) maxFile t in
+      either (leb (length second) maxFile)
+      (λ u. first-by short (leb-true (length second) maxFile u) (wholeFile first) refl (whole-judged first))
+      (λ u.
+      let long = leb-false (length second) maxFile u in
+      subst Judged (sym (pair.second-long first second short long)) (second-long short long)))
+      (λ t. let long = leb-false (length first) maxFile t in subst Judged (sym (pair.first-long first second long)) (first-long long))
+
+-- ---- two cascades
+
+empty : (gs : List Gate) → length gs ≡ 0 → gs ≡ []
+empty [] e = refl
+empty (g ∷ gs) e = absurd (omega arith)
+
+module _ (first second : List ℕ) (n : ℕ) (a b : List Gate) (t : TwoFiles first second n a b) where
+  abbrev gl : List Gate
+  gl = gatesLeft a b
+
+  pub valid : allValid n (miterGates a b) ≡ true
+  valid = listable n a b (t .first-good) (t .second-good) .valid
+
+  pub lines : n ≤ maxLines
+  lines = t .first-good .lines-high
+
+  -- the reduction keeps the run
+  pub kept : Keeps n (miterGates a b) gl
+  kept =
+      reduce-laws .reduce-keeps n (miterGates a b) gl _ _ lines valid
+      (reduce-laws .reduce-reduces (miterGates a b) (valid-all-more n maxLines (miterGates a b) lines valid) (reduceGates (miterGates a b)) .0 refl)
+
+  pub left-few : length gl ≤ maxMiterGates
+  left-few =
+      let l = listable n a b (t .first-good) (t .second-good) in
+      omega (arith, l .few, reduce-laws .reduce-count (miterGates a b) gl _ _ (reduce-laws .reduce-reduces (miterGates a b) (valid-all-more n maxLines (miterGates a b) lines valid) (reduceGates (miterGates a b)) .0 refl))
+
+  -- so it is the identity on a state exactly where the cascades agree
+  identity : (x : ℕ) → (run gl x ≡ x) ↔ (run a x ≡ run b x)
+  identity x =
+      let (f, g) = miter-laws .identity a b x in
+      ((λ e. f (sym (kept .same x) ∙ e)), (λ e. kept .same x ∙ g e))
+
+  none-equal : gl ≡ [] → Equal n a b
+  none-equal e x h = identity x .0 (unfold Rattle.bits.specs.Lists.fold in ap (λ (gs : List Gate). run gs x) e)
+
+  abbrev cs : List Clause
+  cs = clausesOf n gl
+
+  tells : Tells n (variablesOf n gl) (plainClauses cs) a b
+  unfolding Rattle.bits.specs.Lists.fold
+  tells =
+      plain-tells n (variablesOf n gl) cs a b
+      (tells-same n (variablesOf n gl) cs gl [] a b identity (clause-laws .list-tells n gl lines (kept .good)))
+
+  text-tells : (text : List ℕ) → text ≡ dimacsOf (variablesOf n gl) (plainClauses cs) → TextTells text n a b
+  text-tells text e =
+      record {
+        read = record { variables = variablesOf n gl; count = length (plainClauses cs); clauses = plainClauses cs };
+        is-read = ap dimacsRead e ∙ text-back (variablesOf n gl) (plainClauses cs) (tells .within);
+        counted = refl;
+        tells = tells;
+      }
+
+  module _ (some : gl ≡ [] → ⊥) where
+    -- the sweep
+    by-difference : n ≤ maxSweepLines → (d : Difference) → sweep.Says n a b (served d) → Verdict first second (comparisonText (sweptAs a b d))
+    by-difference h none s = sweeps n a b t refl some h s
+    by-difference h (lowest x) s = differs n a b t x refl some h (s .0) (s .1)
+
+    -- the clauses
+    by-list : maxSweepLines < n → Verdict first second (comparisonText (listAs n gl))
+    unfolding listAs text-tells
+    by-list h =
+        either (leb (length (stored cs)) maxList)
+        (λ u.
+        let e : comparisonText (listAs n gl) ≡ dimacsOf (variablesOf n gl) (plainClauses cs) = ap comparisonText (cond-true (leb (length (stored cs)) maxList) _ _ u) in
+        asks n a b t (text-tells _ e) (plain-or cs) some h (leb-true (length (stored cs)) maxList u))
+        (λ u.
+        refuses 10 0 0 (ap comparisonText (cond-false (leb (length (stored cs)) maxList) _ _ u))
+        (list-long n a b t h some (leb-false (length (stored cs)) maxList u)))
+
+  pub pair-verdict : Verdict first second (comparisonText (compared n a b))
+  unfolding compared
+  pair-verdict =
+      either (eqb (length gl) 0)
+      (λ u.
+      let e : gl ≡ [] = empty gl (eqb-true (length gl) 0 u) in
+      reduces n a b t (ap comparisonText (cond-true (eqb (length gl) 0) _ _ u)) e (none-equal e))
+      (λ u.
+      let some : gl ≡ [] → ⊥ = λ e. eqb-false (length gl) 0 u (ap length e) in
+      either (leb n maxSweepLines)
+      (λ v.
+      subst (λ (c : Comparison). Verdict first second (comparisonText c))
+      (sym (cond-false (eqb (length gl) 0) _ _ u ∙ cond-true (leb n maxSweepLines) _ _ v))
+      (by-difference some (leb-true n maxSweepLines v) (lowestFrom a b 0 (2 ^ n)) (sweep-says a b n)))
+      (λ v.
+      subst (λ (c : Comparison). Verdict first second (comparisonText c))
+      (sym (cond-false (eqb (length gl) 0) _ _ u ∙ cond-false (leb n maxSweepLines) _ _ v))
+      (by-list some (leb-false n maxSweepLines v))))
+
+-- ---- the claim
+
+said : (first second : List ℕ) (f : Files) → Judged first second f → Verdict first second (comparisonText (comparedFiles f))
+said first second (cascades n a b) t = pair-verdict first second n a b t
+said first second (faulty number file place) f = refuses number file place refl f
+
+pub compares : Compares compareText
+unfolding compareText comparison
+compares first second = said first second (filesOf first second) (judged first second)

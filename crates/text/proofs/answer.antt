@@ -1,0 +1,2 @@
+-- `Laws`: a text that is written where it fits.
+pub mod Laws

@@ -1,0 +1,2 @@
+-- `Laws`: what comparing two cascades owes.
+pub mod Laws

@@ -1,0 +1,251 @@
+-- What comparing two cascades owes, case by case. Assumes nothing.
+use mathlib.Core.Path.{_≡_, refl, sym, ap, ap₂, subst, _∙_}
+use mathlib.Core.Bool.{Bool, true, false}
+use mathlib.Core.List.{List, [], _∷_, _++_, map}
+use Prim.Native.Nat.{ℕ, suc, _+_, _*_, _/_, _^_, _≤_, _<_}
+use native.Mathlib.Omega.{arith}
+use lib.Dec.{eqb, leb}
+use lib.IntN.{ℤ}
+use lib.ListN.{length, take, drop, length-append}
+use lib.Seq.{length-take-le, take-append-le}
+use borrow.Author.Tests.{eq-eqb, ne-eqb, le-leb, lt-leb, leb-true, leb-false}
+use Rattle.bits.proofs.Bools.{either, cond-true, cond-false}
+use Rattle.circuit.specs.declared.gate.Gate.{Gate}
+use Rattle.circuit.specs.declared.refusal.Refusal.{Refusal}
+use Rattle.circuit.specs.Gate.{Control, controlsOf, maxLines, maxMiterGates}
+use Rattle.circuit.specs.Outcome.{Outcome, served, refused}
+use Rattle.circuit.specs.Refusal.{refusal, noRoom}
+use Rattle.circuit.specs.Words.{gatesOf, allValid, Cascade}
+use Rattle.circuit.specs.Run.{run}
+use Rattle.circuit.proofs.Outcome.{never, demand-met, demand-failed}
+use Rattle.circuit.proofs.words.Laws.{gates-length, served-pair}
+use Rattle.checking.specs.declared.clauses.Totals.{Totals}
+use Rattle.checking.specs.Miter.{miterGates}
+use Rattle.checking.specs.Reduce.{Reduced, reduceGates, numbered, reduceOutcome, reduceBuffer}
+use Rattle.checking.specs.Compare.{maxSweepLines, Difference, none, lowest, lowestFrom, differenceOutcome}
+use Rattle.checking.specs.Clauses.{Clause, OR, XOR, inputOf, moved, usedBy, literalOf, implied, gateClauses, gatesClauses, usedAfter, currentAfter, targeted, upFrom, differenceClause, differenceClauses, clausesOf, variablesOf}
+use Rattle.checking.specs.Satisfaction.{variableOf, LiteralsWithin, clauseLiterals, ClausesWithin}
+use Rattle.checking.specs.Stored.{stored}
+use Rattle.checking.specs.Emit.{emitOutcome, emitBuffer}
+use Rattle.checking.proofs.reduce.Relation.{reduce-laws}
+use Rattle.checking.proofs.compare.Laws.{difference-made}
+use Rattle.checking.proofs.clauses.Laws.{clause-laws}
+use Rattle.text.specs.declared.comparison.ComparedAnswer.{ComparedAnswer}
+use Rattle.text.specs.declared.comparison.ComparedAnswer.the-variants as answer
+use Rattle.text.specs.declared.pair.FilesAnswer.the-variants as files
+use Rattle.text.specs.private.Lists.{FileWords, ListStands}
+use Rattle.text.specs.private.Words.{ShortClause, AllShort, maxVariables, storedIn, StoresPlain}
+use Rattle.text.specs.Compare.{maxList, Comparison, reduced, swept, differing, unsolved, refusedAt, gatesLeft, sweptAs, listAs, compared, filesOf, comparedFiles, comparison}
+use Rattle.text.specs.private.Comparing.{InRoom, MiterWords, MiterCascade, LeftIn, ofCompared, InClauses, SaysFiles, SaysCompared, SaysAny}
+use Rattle.text.proofs.list.Laws.{emit-is, emit-stands}
+use Rattle.text.proofs.plain.Laws.{stored-in}
+
+-- ---- the reduction
+
+abbrev leftOf : Outcome (Reduced ℕ) → ℕ
+leftOf (served r) = r .left
+leftOf (refused number place) = 0
+
+module _ (n gates : ℕ) (room : List ℕ) (m : MiterWords n gates room) where
+  abbrev ws : List ℕ
+  ws = take (3 * gates) room
+
+  abbrev hs : List Gate
+  hs = reduceGates (gatesOf ws) .left
+
+  pub reduce-served : reduceOutcome n ws ≡ served (numbered (reduceGates (gatesOf ws)))
+  reduce-served = reduce-laws .call-served n ws gates (m .cascade)
+
+  pub left-in : (last : List ℕ) (left pairs merges : ℕ) → served (record { left = left; pairs = pairs; merges = merges }) ≡ reduceOutcome n ws → last ≡ reduceBuffer n ws
+      → length last ≡ length ws → LeftIn n left (last ++ drop (3 * gates) room) hs
+  left-in last left pairs merges e b l =
+      let f : left ≡ length hs = ap leftOf (e ∙ reduce-served) in
+      let s = reduce-laws .call-stands n ws gates (m .cascade) in
+      let c = s .cascade in
+      let size : length ws ≡ 3 * gates = length-take-le (3 * gates) room (m .inside) in
+      let few : 3 * left ≤ length last =
+      omega (arith, f, c .size, ap length b, lib.ListN.length-take (3 * length hs) (reduceBuffer n ws)) in
+      let t : take (3 * left) (last ++ drop (3 * gates) room) ≡ take (3 * length hs) (reduceBuffer n ws) =
+      take-append-le (3 * left) last (drop (3 * gates) room) few ∙ ap₂ (λ (k : ℕ) (x : List ℕ). take (3 * k) x) f b in
+      record {
+        words =
+            record {
+              inside = omega (arith, few, length-append last (drop (3 * gates) room));
+              cascade = subst (λ (x : List ℕ). Cascade n x maxMiterGates left) (sym t) (subst (Cascade n (take (3 * length hs) (reduceBuffer n ws)) maxMiterGates) (sym f) c);
+            };
+        gates-are = ap gatesOf t ∙ s .gates;
+      }
+
+-- ---- the sweep
+
+module _ (n : ℕ) (a b : List ℕ) (wa : FileWords n a) (wb : FileWords n b) (few : n ≤ maxSweepLines) where
+  difference-is : differenceOutcome n a n b ≡ served (lowestFrom (gatesOf a) (gatesOf b) 0 (2 ^ n))
+  difference-is = difference-made n a n b _ (served-pair n a n b (record { first = wa .count; second = wb .count }) (record { first-good = wa .cascade; second-good = wb .cascade; lines = refl })) few
+
+  pub swept-as : (r : ComparedAnswer) (d : Difference) (o : Outcome Difference) → o ≡ served d → o ≡ differenceOutcome n a n b
+      → ((clauses : List ℤ) → SaysCompared r clauses (sweptAs (gatesOf a) (gatesOf b) d)) → SaysAny r (sweptAs (gatesOf a) (gatesOf b) (lowestFrom (gatesOf a) (gatesOf b) 0 (2 ^ n)))
+  swept-as r d o e f s =
+      let g : d ≡ lowestFrom (gatesOf a) (gatesOf b) 0 (2 ^ n) = let h = sym e ∙ f ∙ difference-is in cc in
+      record { says = λ clauses. subst (λ (x : Difference). SaysCompared r clauses (sweptAs (gatesOf a) (gatesOf b) x)) g (s clauses) }
+
+  pub never-refused : {P : Type 0} (o : Outcome Difference) (number place : ℕ) → o ≡ refused number place → o ≡ differenceOutcome n a n b → P
+  never-refused o number place e f = absurd (never difference-is (sym f ∙ e))
+
+-- ---- every XOR of a clause list has two or three literals
+
+short-append : (xs ys : List Clause) → AllShort xs → AllShort ys → AllShort (xs ++ ys)
+short-append [] ys a b = b
+short-append (x ∷ xs) ys a b = (a .0, short-append xs ys (a .1) b)
+
+implied-short : (p : ℕ) (ls : List ℤ) → AllShort (implied p ls)
+implied-short p [] = tt
+implied-short p (l ∷ ls) = (tt, implied-short p ls)
+
+gate-short : (used v : ℕ) (ls : List ℤ) → AllShort (gateClauses used v ls)
+gate-short used v [] = (tt, tt)
+gate-short used v (c ∷ []) = (tt, tt)
+gate-short used v (c ∷ d ∷ ls) = (tt, short-append (implied _ (c ∷ d ∷ ls)) _ (implied-short _ (c ∷ d ∷ ls)) (tt, tt))
+
+gates-short : (used : ℕ) (current : ℕ → ℕ) (gs : List Gate) → AllShort (gatesClauses used current gs)
+unfolding gatesClauses
+gates-short used current [] = tt
+gates-short used current (g ∷ gs) =
+    short-append (gateClauses used (current (g .target)) (map (literalOf current) (controlsOf g))) (gatesClauses (usedBy used g) (moved used current g) gs)
+    (gate-short used (current (g .target)) (map (literalOf current) (controlsOf g))) (gates-short (usedBy used g) (moved used current g) gs)
+
+line-short : (hit : Bool) (d a b : ℕ) → ShortClause (differenceClause hit d a b)
+line-short true d a b = tt
+line-short false d a b = tt
+
+lines-short : (hit : ℕ → Bool) (left right : ℕ → ℕ) (used : ℕ) (lines : List ℕ) → AllShort (differenceClauses hit left right used lines)
+unfolding differenceClauses
+lines-short hit left right used [] = tt
+lines-short hit left right used (line ∷ lines) = (line-short (hit line) (suc used) (left line) (right line), lines-short hit left right (suc used) lines)
+
+pub list-short : (n : ℕ) (gs : List Gate) → AllShort (clausesOf n gs)
+unfolding clausesOf
+list-short n gs =
+    short-append (gatesClauses n inputOf gs) _ (gates-short n inputOf gs)
+    (short-append (differenceClauses (targeted gs) inputOf (currentAfter n inputOf gs) (usedAfter n gs) (upFrom 0 n)) _
+    (lines-short (targeted gs) inputOf (currentAfter n inputOf gs) (usedAfter n gs) (upFrom 0 n)) (tt, tt))
+
+-- ---- and few variables
+
+literals-more : (m k : ℕ) (ls : List ℤ) → m ≤ k → LiteralsWithin m ls → LiteralsWithin k ls
+literals-more m k [] h w = tt
+literals-more m k (l ∷ ls) h w = (w .0, (omega (arith, w .1 .0), literals-more m k ls h (w .1 .1)))
+
+within-more : (m k : ℕ) (cs : List Clause) → m ≤ k → ClausesWithin m cs → ClausesWithin k cs
+within-more m k [] h w = tt
+within-more m k (c ∷ cs) h w = (literals-more m k (clauseLiterals c) h (w .0), within-more m k cs h (w .1))
+
+pub list-within : (n : ℕ) (gs : List Gate) → n ≤ maxLines → length gs ≤ maxMiterGates → allValid n gs ≡ true → ClausesWithin maxVariables (clausesOf n gs)
+list-within n gs h l v = within-more (variablesOf n gs) maxVariables (clausesOf n gs) (clause-laws .variables-few n gs h l) (clause-laws .list-tells n gs h v .within)
+
+-- ---- the clause list
+
+module _ (n : ℕ) (ws : List ℕ) (m : MiterCascade n ws) where
+  abbrev gs : List Gate
+  gs = gatesOf ws
+
+  abbrev cs : List Clause
+  cs = clausesOf n gs
+
+  list-long : maxList < length (stored cs) → listAs n gs ≡ refusedAt noRoom 0 0
+  unfolding listAs
+  list-long h = cond-false (leb (length (stored cs)) maxList) _ _ (lt-leb (length (stored cs)) maxList h)
+
+  list-fits : length (stored cs) ≤ maxList → listAs n gs ≡ unsolved (variablesOf n gs) cs
+  unfolding listAs
+  list-fits h = cond-true (leb (length (stored cs)) maxList) _ _ (le-leb (length (stored cs)) maxList h)
+
+  -- a refusal says the refusal that it is
+  says-long : (why : Refusal) (clauses : List ℤ) → _≡_ {A = Outcome ℕ} (refused (why .number) (why .place)) (refused noRoom 0) → maxList < length (stored cs)
+      → SaysCompared (answer.Refused why 0) clauses (listAs n gs)
+  says-long why clauses e h =
+      let x : why .number ≡ noRoom = cc in
+      let y : why .place ≡ 0 = cc in
+      record { is = ap₂ (λ (number place : ℕ). refusedAt number 0 place) x y ∙ sym (list-long h); ready = tt }
+
+  pub list-refused : (why : Refusal) (clauses : List ℤ) (room : ℕ) → maxList ≤ room → emitOutcome n ws room ≡ refused (why .number) (why .place)
+      → SaysCompared (answer.Refused why 0) clauses (listAs n gs)
+  list-refused why clauses room h e =
+      either (leb (length (stored cs)) room)
+      (λ t. absurd (never (emit-is n ws (m .count) (m .cascade) room ∙ demand-met _ _ _ _ t) e))
+      (λ t.
+      let f = sym e ∙ emit-is n ws (m .count) (m .cascade) room ∙ demand-failed _ _ _ _ t in
+      let x : why .number ≡ noRoom = cc in
+      let y : why .place ≡ 0 = cc in
+      says-long why clauses (ap₂ refused x y) (omega (arith, leb-false (length (stored cs)) room t)))
+
+  module _ (t : Totals) (buffer out : List ℤ) (o : emitOutcome n ws (length out) ≡ served t) (b : buffer ≡ emitBuffer n ws out) where
+    st : ListStands t buffer (variablesOf n gs) cs
+    st = emit-stands n ws (m .count) (m .cascade) t buffer out o b
+
+    words-are : t .words ≡ length (stored cs)
+    words-are = sym (length-take-le (t .words) buffer (st .inside)) ∙ ap length (st .words)
+
+    pub list-over : (why : Refusal) (clauses : List ℤ) → maxList < t .words → why ≡ refusal noRoom 0 → SaysCompared (answer.Refused why 0) clauses (listAs n gs)
+    list-over why clauses h e = says-long why clauses (ap (λ (r : Refusal). refused (r .number) (r .place)) e) (omega (arith, words-are))
+
+    pub list-listed : t .words ≤ maxList → SaysCompared (answer.Clauses t) buffer (listAs n gs)
+    list-listed h =
+        let c = m .cascade in
+        record {
+          is =
+              ap₂ unsolved (st .variables-are) (stored-in (take (t .words) buffer) cs (st .words))
+              ∙ sym (list-fits (omega (arith, words-are)));
+          ready =
+              record {
+                inside = st .inside;
+                stores =
+                    record {
+                      clauses = cs;
+                      words = st .words;
+                      short = list-short n gs;
+                      within = list-within n gs (c .lines-high) (omega (arith, gates-length ws, c .size, c .few)) (c .gates);
+                      few = omega (arith, length-take-le (t .words) buffer (st .inside));
+                    };
+              };
+        }
+
+-- ---- two cascades
+
+module _ (n : ℕ) (a b : List Gate) (k : ℕ) (room : List ℕ) (l : LeftIn n k room (gatesLeft a b)) where
+  left-count : length (gatesLeft a b) ≡ k
+  left-count =
+      let c = l .words .cascade in
+      sym (ap length (l .gates-are)) ∙ gates-length (take (3 * k) room) ∙ omega (arith, c .size)
+
+  pub by-reduction : k ≡ 0 → compared n a b ≡ reduced
+  unfolding compared
+  by-reduction e = cond-true (eqb (length (gatesLeft a b)) 0) _ _ (eq-eqb _ _ (left-count ∙ e))
+
+  module _ (some : k ≡ 0 → ⊥) where
+    pub by-sweep : n ≤ maxSweepLines → compared n a b ≡ sweptAs a b (lowestFrom a b 0 (2 ^ n))
+    unfolding compared
+    by-sweep h = cond-false (eqb (length (gatesLeft a b)) 0) _ _ (ne-eqb _ _ (λ e. some (sym left-count ∙ e))) ∙ cond-true (leb n maxSweepLines) _ _ (le-leb n maxSweepLines h)
+
+    pub by-clauses : maxSweepLines < n → compared n a b ≡ listAs n (gatesLeft a b)
+    unfolding compared
+    by-clauses h = cond-false (eqb (length (gatesLeft a b)) 0) _ _ (ne-eqb _ _ (λ e. some (sym left-count ∙ e))) ∙ cond-false (leb n maxSweepLines) _ _ (lt-leb n maxSweepLines h)
+
+-- the same comparison, said in another way
+pub says-as : (r : ComparedAnswer) (clauses : List ℤ) (x y : Comparison) → x ≡ y → SaysCompared r clauses y → SaysCompared r clauses x
+says-as r clauses x y e s = subst (SaysCompared r clauses) (sym e) s
+
+-- ---- two files
+
+pub room-few : (n i : ℕ) (room : List ℕ) → InRoom n i room → 3 * i ≤ 3072
+room-few n i room h = let c = h .words .cascade in omega (arith, c .few, c .size, length-take-le (3 * i) room (h .inside))
+
+module _ (first second : List ℕ) where
+  pub refused-as : (why : Refusal) (file : ℕ) (clauses : List ℤ) (a b : List ℕ) → SaysFiles (files.Refused why file) a b (filesOf first second)
+      → SaysCompared (answer.Refused why file) clauses (comparison first second)
+  unfolding comparison
+  refused-as why file clauses a b s = record { is = ap comparedFiles (s .is); ready = tt }
+
+  pub compared-as : (n i j : ℕ) (a b : List ℕ) → SaysFiles (files.Cascades n i j) a b (filesOf first second) → (r : ComparedAnswer) (clauses : List ℤ)
+      → SaysCompared r clauses (compared n (gatesOf (take (3 * i) a)) (gatesOf (take (3 * j) b))) → SaysCompared r clauses (comparison first second)
+  unfolding comparison
+  compared-as n i j a b s r clauses t = says-as r clauses _ _ (sym (ap comparedFiles (s .is))) t

@@ -1,0 +1,2 @@
+-- `Laws`: what a file and two files say.
+pub mod Laws

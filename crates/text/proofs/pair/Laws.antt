@@ -1,0 +1,109 @@
+-- What a file and two files say, case by case. Assumes nothing.
+use mathlib.Core.Path.{_≡_, refl, sym, ap, ap₂, subst, _∙_}
+use mathlib.Core.List.{List}
+use Prim.Native.Nat.{ℕ, _+_, _*_, _≤_, _<_}
+use lib.Dec.{eqb, leb}
+use lib.ListN.{length, take}
+use borrow.Author.Tests.{eq-eqb, ne-eqb, le-leb, lt-leb}
+use Rattle.bits.proofs.Bools.{cond-true, cond-false}
+use Rattle.circuit.specs.declared.gate.Gate.{Gate}
+use Rattle.circuit.specs.declared.refusal.Refusal.{Refusal}
+use Rattle.circuit.specs.Outcome.{Outcome, served, refused}
+use Rattle.circuit.specs.Refusal.{refusal, wrongForm, lineCountsDiffer, noRoom}
+use Rattle.circuit.specs.Words.{gatesOf}
+use Rattle.circuit.specs.File.{Reading, reading}
+use Rattle.circuit.proofs.Outcome.{demand-met, demand-failed, then-served, then-refused}
+use Rattle.text.specs.declared.pair.WholeAnswer.{WholeAnswer}
+use Rattle.text.specs.declared.pair.WholeAnswer.the-variants as whole
+use Rattle.text.specs.declared.pair.FilesAnswer.{FilesAnswer}
+use Rattle.text.specs.declared.pair.FilesAnswer.the-variants as files
+use Rattle.text.specs.Compare.{maxFile, Files, cascades, faulty, wholeFile, inFile, secondFile, filesOf}
+use Rattle.text.specs.private.Comparing.{InRoom, SaysWhole, SaysFiles}
+use Rattle.text.proofs.list.Laws.{FileRead}
+
+-- ---- a file
+
+module _ (text : List ℕ) where
+  pub whole-bad : (number place : ℕ) → reading text ≡ refused number place → wholeFile text ≡ refused number place
+  unfolding wholeFile
+  whole-bad number place e = then-refused _ _ number place e
+
+  module _ (c : Reading) (e : reading text ≡ served c) where
+    pub whole-after : (c .taken ≡ length text → ⊥) → wholeFile text ≡ refused wrongForm (length (c .gates) + 2)
+    unfolding wholeFile
+    whole-after h = then-served _ _ c e ∙ demand-failed _ _ _ _ (ne-eqb (c .taken) (length text) h)
+
+    pub whole-good : c .taken ≡ length text → wholeFile text ≡ served c
+    unfolding wholeFile
+    whole-good h = then-served _ _ c e ∙ demand-met _ _ _ _ (eq-eqb (c .taken) (length text) h)
+
+  pub says-bad : (r : Refusal) (room : List ℕ) (bytes : ℕ) → wholeFile text ≡ refused (r .number) (r .place) → SaysWhole (whole.Refused r) room bytes (wholeFile text)
+  says-bad r room bytes e = record { is = sym e; ready = tt }
+
+  pub says-good : (lines gates taken : ℕ) (room : List ℕ) → FileRead text lines gates taken room → taken ≡ length text → SaysWhole (whole.Cascade lines gates) room (length text) (wholeFile text)
+  says-good lines gates taken room w h =
+      record {
+        is =
+            ap₂ (λ (gs : List Gate) (t : ℕ). served (record { lines = lines; gates = gs; taken = t })) (w .gates-are) (sym h)
+            ∙ sym (whole-good _ (w .is) h);
+        ready = record { inside = w .inside; words = w .words };
+      }
+
+module _ (file : ℕ) (o : Outcome Reading) (more : Reading → Files) where
+  in-served : (c : Reading) → o ≡ served c → inFile file o more ≡ more c
+  in-served c e = ap (λ (x : Outcome Reading). inFile file x more) e
+
+  in-refused : (number place : ℕ) → o ≡ refused number place → inFile file o more ≡ faulty number file place
+  in-refused number place e = ap (λ (x : Outcome Reading). inFile file x more) e
+
+-- ---- the second file
+
+module _ (n : ℕ) (gs : List Gate) (second : List ℕ) where
+  pub second-refused : (number place : ℕ) → wholeFile second ≡ refused number place → secondFile n gs second ≡ faulty number 2 place
+  unfolding secondFile
+  second-refused number place e = in-refused 2 (wholeFile second) _ number place e
+
+  module _ (d : Reading) (e : wholeFile second ≡ served d) where
+    pub second-differs : (n ≡ d .lines → ⊥) → secondFile n gs second ≡ faulty lineCountsDiffer 0 0
+    unfolding secondFile
+    second-differs h = in-served 2 (wholeFile second) _ d e ∙ cond-false (eqb n (d .lines)) _ _ (ne-eqb n (d .lines) h)
+
+    pub second-same : n ≡ d .lines → secondFile n gs second ≡ cascades n gs (d .gates)
+    unfolding secondFile
+    second-same h = in-served 2 (wholeFile second) _ d e ∙ cond-true (eqb n (d .lines)) _ _ (eq-eqb n (d .lines) h)
+
+-- ---- both
+
+module _ (first second : List ℕ) where
+  pub first-long : maxFile < length first → filesOf first second ≡ faulty noRoom 0 0
+  unfolding filesOf
+  first-long h = cond-false (leb (length first) maxFile) _ _ (lt-leb (length first) maxFile h)
+
+  module _ (short : length first ≤ maxFile) where
+    pub second-long : maxFile < length second → filesOf first second ≡ faulty noRoom 0 0
+    unfolding filesOf
+    second-long h =
+        cond-true (leb (length first) maxFile) _ _ (le-leb (length first) maxFile short) ∙ cond-false (leb (length second) maxFile) _ _ (lt-leb (length second) maxFile h)
+
+    module _ (short-2 : length second ≤ maxFile) where
+      pub first-refused : (number place : ℕ) → wholeFile first ≡ refused number place → filesOf first second ≡ faulty number 1 place
+      unfolding filesOf
+      first-refused number place e =
+          cond-true (leb (length first) maxFile) _ _ (le-leb (length first) maxFile short)
+          ∙ cond-true (leb (length second) maxFile) _ _ (le-leb (length second) maxFile short-2)
+          ∙ in-refused 1 (wholeFile first) _ number place e
+
+      pub first-served : (c : Reading) → wholeFile first ≡ served c → filesOf first second ≡ secondFile (c .lines) (c .gates) second
+      unfolding filesOf
+      first-served c e =
+          cond-true (leb (length first) maxFile) _ _ (le-leb (length first) maxFile short)
+          ∙ cond-true (leb (length second) maxFile) _ _ (le-leb (length second) maxFile short-2)
+          ∙ in-served 1 (wholeFile first) _ c e
+
+-- a refusal says the fault that it is
+pub says-fault : (r : Refusal) (file : ℕ) (a b : List ℕ) (f : Files) (number place : ℕ) → r ≡ refusal number place → f ≡ faulty number file place → SaysFiles (files.Refused r file) a b f
+says-fault r file a b f number place e g = record { is = ap (λ (x : Refusal). faulty (x .number) file (x .place)) e ∙ sym g; ready = tt }
+
+-- what an answer says, where it is known
+pub told-whole : (r s : WholeAnswer) (room : List ℕ) (bytes : ℕ) (o : Outcome Reading) → SaysWhole r room bytes o → r ≡ s → SaysWhole s room bytes o
+told-whole r s room bytes o t e = subst (λ (x : WholeAnswer). SaysWhole x room bytes o) e t

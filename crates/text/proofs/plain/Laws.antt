@@ -1,0 +1,539 @@
+-- The plain clauses of one record and of the records that are left: their texts and how long these are. Assumes nothing.
+use mathlib.Core.Path.{_≡_, refl, sym, ap, ap₂, subst, _∙_}
+use mathlib.Core.Bool.{true, false, true≢false}
+use mathlib.Core.List.{List, [], _∷_, _++_, append-nil, append-assoc}
+use Prim.Native.Nat.{ℕ, zero, suc, _+_, _-_, _*_, _≤_, _<_}
+use native.Mathlib.Omega.{arith}
+use lib.IntN.{ℤ, pos, negsuc, negℤ, _-ℤ_, +ℤ-idl, negℤ-negℤ}
+use lib.ListN.{length, take, drop, getD, length-append, length-drop}
+use lib.Signed.{ltZ}
+use borrow.Author.Tests.{ltb-true}
+use mir.Syntax.{w16}
+use mir.Val.{SFits, toZ, ofZ}
+use mir.ValLaws.{toZ-ofZ}
+use borrow.Rule.Slice.PartMut.{putMid}
+use Rattle.circuit.specs.private.Put.{Put}
+use Rattle.circuit.proofs.file.put.Laws.{Written, written-none, written-more, written-put, put-as}
+use Rattle.checking.specs.Clauses.{Clause, OR, XOR}
+use Rattle.checking.specs.Satisfaction.{variableOf, LiteralsWithin, clauseLiterals, ClausesWithin}
+use Rattle.checking.specs.Stored.{wordLimit, storedClause, stored, clausesIn}
+use Rattle.checking.proofs.clauses.Bounds.{neg-size}
+use Rattle.checking.proofs.clauses.Reading.{read-back}
+use Rattle.text.specs.declared.plain.PlainSizes.{PlainSizes}
+use Rattle.text.specs.Dimacs.{blank, decimal, literalText, literalsText, closing, clauseText, clausesText}
+use Rattle.text.specs.Plain.{negations, plainClause, plainClauses}
+use Rattle.text.specs.Compare.{maxList}
+use Rattle.text.specs.private.Words.{readClauses, storedIn, bothOrs, plainRecord, TwoOrThree, ShortRecord, ShortClause, AllShort, maxVariables, Plainable, StoresPlain, plainText, plainSizes}
+use Rattle.text.proofs.put.Laws.{two-put}
+use Rattle.text.proofs.Decimal.{decimal-few}
+use Rattle.text.proofs.Sizes.{literal-few, literals-few}
+use Rattle.text.proofs.dimacs.Signed.{word-is}
+use Rattle.text.proofs.dimacs.Loops.{literals-next, literals-end, kindOf, Next, next}
+
+-- ---- the opposite literal
+
+opposite-fits : (z : ℤ) → variableOf z < wordLimit → SFits w16 (negℤ z)
+opposite-fits (pos zero) h = record { sfits = omega arith }
+opposite-fits (pos (suc v)) h = record { sfits = omega arith }
+opposite-fits (negsuc i) h = record { sfits = omega arith }
+
+module _ (z : ℤ) (f : SFits w16 z) (h : variableOf z < wordLimit) where
+  minus-is : pos 0 -ℤ toZ w16 (ofZ w16 z) ≡ negℤ z
+  minus-is = +ℤ-idl (negℤ (toZ w16 (ofZ w16 z))) ∙ ap negℤ (word-is z f)
+
+  pub opposite-made : SFits w16 (pos 0 -ℤ toZ w16 (ofZ w16 z))
+  opposite-made = subst (SFits w16) (sym minus-is) (opposite-fits z h)
+
+  pub opposite-is : toZ w16 (ofZ w16 (pos 0 -ℤ toZ w16 (ofZ w16 z))) ≡ negℤ z
+  opposite-is = toZ-ofZ w16 _ opposite-made ∙ minus-is
+
+-- a literal of a word, and the opposite one, passed on
+pub passed-opposite : (z r : ℤ) → SFits w16 z → variableOf z < wordLimit → r ≡ negℤ (toZ w16 (ofZ w16 z)) → toZ w16 (ofZ w16 r) ≡ negℤ z
+passed-opposite z r f h e =
+    let is : r ≡ negℤ z = e ∙ ap negℤ (word-is z f) in
+    toZ-ofZ w16 r (subst (SFits w16) (sym is) (opposite-fits z h)) ∙ is
+
+size-fits : (z : ℤ) → SFits w16 z → variableOf z ≤ wordLimit
+size-fits (pos v) f = let h = f .sfits in omega arith
+size-fits (negsuc i) f = let h = f .sfits in omega arith
+
+pub literal-wide : (z : ℤ) → SFits w16 z → length (literalText z) ≤ 6
+literal-wide (pos v) f = omega (arith, decimal-few 4 v (omega (arith, size-fits (pos v) f)))
+literal-wide (negsuc i) f = omega (arith, decimal-few 4 (suc i) (omega (arith, size-fits (negsuc i) f)))
+
+pub opposite-wide : (z : ℤ) → variableOf z < wordLimit → length (literalText (negℤ z)) ≤ 6
+opposite-wide z h = literal-wide (negℤ z) (opposite-fits z h)
+
+-- a literal's sign is a byte
+pub negative-long : (z : ℤ) → ltZ z (pos 0) ≡ true → length (literalText z) ≡ length (decimal (variableOf z)) + 1
+negative-long (pos v) h = absurd (omega (arith, ltb-true v 0 h))
+negative-long (negsuc i) h = omega arith
+
+pub positive-long : (z : ℤ) → ltZ z (pos 0) ≡ false → length (literalText z) ≡ length (decimal (variableOf z))
+positive-long (pos v) h = refl
+positive-long (negsuc i) h = absurd (true≢false h)
+
+-- ---- one record
+
+-- the code's test of a kind word
+pub xor-kind : (z : ℤ) → SFits w16 z → ofZ w16 z ≡ 1 → z ≡ pos 1
+xor-kind z f h = sym (word-is z f) ∙ ap (toZ w16) h
+
+pub or-record : (z : ℤ) (ls : List ℤ) → (ofZ w16 z ≡ 1 → ⊥) → plainRecord z ls ≡ OR ls ∷ []
+or-record (pos zero) ls h = refl
+or-record (pos (suc zero)) ls h = absurd (h refl)
+or-record (pos (suc (suc k))) ls h = refl
+or-record (negsuc i) ls h = refl
+
+pub or-text : (ls : List ℤ) → clausesText (OR ls ∷ []) ≡ literalsText ls ++ closing
+unfolding clausesText
+or-text ls = append-nil (literalsText ls ++ closing)
+
+-- the places of literals
+abbrev pub at-place : List ℤ → ℕ → ℤ
+at-place ls i = getD ls i (pos 0)
+
+two-shape : (ls : List ℤ) → length ls ≡ 2 → ls ≡ at-place ls 0 ∷ at-place ls 1 ∷ []
+two-shape [] e = absurd (omega arith)
+two-shape (a ∷ []) e = absurd (omega arith)
+two-shape (a ∷ b ∷ []) e = refl
+two-shape (a ∷ b ∷ c ∷ ls) e = absurd (omega arith)
+
+three-shape : (ls : List ℤ) → TwoOrThree ls → (length ls ≡ 2 → ⊥) → ls ≡ at-place ls 0 ∷ at-place ls 1 ∷ at-place ls 2 ∷ []
+three-shape [] t e = absurd t
+three-shape (a ∷ []) t e = absurd t
+three-shape (a ∷ b ∷ []) t e = absurd (e refl)
+three-shape (a ∷ b ∷ c ∷ []) t e = refl
+three-shape (a ∷ b ∷ c ∷ d ∷ ls) t e = absurd t
+
+-- an XOR of two literals, and of three
+pub record Two (z : ℤ) (ls : List ℤ) : Type 0 where
+  pub record-is : plainRecord z ls ≡ plainClause (XOR (at-place ls 0 ∷ at-place ls 1 ∷ []))
+  pub long : length ls ≡ 2
+  pub first : variableOf (at-place ls 0) ≤ maxVariables
+  pub second : variableOf (at-place ls 1) ≤ maxVariables
+
+pub record Three (z : ℤ) (ls : List ℤ) : Type 0 where
+  pub record-is : plainRecord z ls ≡ plainClause (XOR (at-place ls 0 ∷ at-place ls 1 ∷ at-place ls 2 ∷ []))
+  pub long : length ls ≡ 3
+  pub first : variableOf (at-place ls 0) ≤ maxVariables
+  pub second : variableOf (at-place ls 1) ≤ maxVariables
+  pub third : variableOf (at-place ls 2) ≤ maxVariables
+
+-- a literal of a clause list fits a word
+pub small-fits : (z : ℤ) → variableOf z ≤ maxVariables → SFits w16 z
+small-fits (pos v) h = record { sfits = omega arith }
+small-fits (negsuc i) h = record { sfits = omega arith }
+
+pub small-word : (z : ℤ) → variableOf z ≤ maxVariables → toZ w16 (ofZ w16 z) ≡ z
+small-word z h = word-is z (small-fits z h)
+
+pub small-size : (z : ℤ) → variableOf z ≤ maxVariables → variableOf (toZ w16 (ofZ w16 z)) < wordLimit
+small-size z h = omega (arith, ap variableOf (small-word z h))
+
+module _ (z : ℤ) (ls : List ℤ) (p : Plainable z ls) (e : z ≡ pos 1) where
+  pub two-literals : length ls ≡ 2 → Two z ls
+  two-literals h =
+      let s = two-shape ls h in
+      let w = subst (LiteralsWithin maxVariables) s (p .within) in
+      record { record-is = ap₂ plainRecord e s; long = h; first = w .1 .0; second = w .1 .1 .1 .0 }
+
+  short : TwoOrThree ls
+  short = subst (λ (k : ℤ). ShortRecord k ls) e (p .short)
+
+  pub three-literals : (length ls ≡ 2 → ⊥) → Three z ls
+  three-literals h =
+      let s = three-shape ls short h in
+      let w = subst (LiteralsWithin maxVariables) s (p .within) in
+      record { record-is = ap₂ plainRecord e s; long = ap length s; first = w .1 .0; second = w .1 .1 .1 .0; third = w .1 .1 .1 .1 .1 .0 }
+
+  -- two at least
+  pub some-literals : 2 ≤ length ls
+  some-literals = by ls short
+    where
+      by : (ls : List ℤ) → TwoOrThree ls → 2 ≤ length ls
+      by [] t = absurd t
+      by (a ∷ []) t = absurd t
+      by (a ∷ b ∷ ls) t = omega arith
+
+  -- the first and the second
+  pub first-literals : (variableOf (at-place ls 0) ≤ maxVariables) × (variableOf (at-place ls 1) ≤ maxVariables)
+  first-literals = by ls short (p .within)
+    where
+      by : (ls : List ℤ) → TwoOrThree ls → LiteralsWithin maxVariables ls → (variableOf (at-place ls 0) ≤ maxVariables) × (variableOf (at-place ls 1) ≤ maxVariables)
+      by [] t w = absurd t
+      by (a ∷ []) t w = absurd t
+      by (a ∷ b ∷ ls) t w = (w .1 .0, w .1 .1 .1 .0)
+
+pub clauses-append : (xs ys : List Clause) → clausesText (xs ++ ys) ≡ clausesText xs ++ clausesText ys
+unfolding clausesText
+clauses-append [] ys = refl
+clauses-append (x ∷ xs) ys = ap (λ (l : List ℕ). clauseText x ++ l) (clauses-append xs ys) ∙ sym (append-assoc (clauseText x) (clausesText xs) (clausesText ys))
+
+-- the clauses of an XOR, by halves
+pub clauses-long : (xs ys : List Clause) → length (clausesText (xs ++ ys)) ≡ length (clausesText xs) + length (clausesText ys)
+clauses-long xs ys = ap length (clauses-append xs ys) ∙ length-append (clausesText xs) (clausesText ys)
+
+pub pair-parts : (a b : ℤ) → plainClause (XOR (a ∷ b ∷ [])) ≡ (OR (a ∷ b ∷ []) ∷ []) ++ (OR (negℤ a ∷ negℤ b ∷ []) ∷ [])
+unfolding negations
+pair-parts a b = refl
+
+pub triple-is : (a b c : ℤ) → plainClause (XOR (a ∷ b ∷ c ∷ []))
+    ≡ OR (a ∷ b ∷ c ∷ []) ∷ OR (a ∷ negℤ b ∷ negℤ c ∷ []) ∷ OR (negℤ a ∷ b ∷ negℤ c ∷ []) ∷ OR (negℤ a ∷ negℤ b ∷ c ∷ []) ∷ []
+unfolding negations
+triple-is a b c = refl
+
+pub triple-parts : (a b c : ℤ) → plainClause (XOR (a ∷ b ∷ c ∷ [])) ≡ bothOrs a b c ++ bothOrs (negℤ a) b (negℤ c)
+unfolding negations
+triple-parts a b c = ap (λ (k : ℤ). bothOrs a b c ++ (OR (negℤ a ∷ b ∷ negℤ c ∷ []) ∷ OR (negℤ a ∷ negℤ b ∷ k ∷ []) ∷ [])) (sym (negℤ-negℤ c))
+
+-- literals of words, passed on
+pub two-words : (a b : ℤ) → SFits w16 a → SFits w16 b → toZ w16 (ofZ w16 a) ∷ toZ w16 (ofZ w16 b) ∷ [] ≡ a ∷ b ∷ []
+two-words a b f g = ap₂ (λ (x y : ℤ). x ∷ y ∷ []) (word-is a f) (word-is b g)
+
+pub three-words : (a b c : ℤ) → SFits w16 a → SFits w16 b → SFits w16 c → toZ w16 (ofZ w16 a) ∷ toZ w16 (ofZ w16 b) ∷ toZ w16 (ofZ w16 c) ∷ [] ≡ a ∷ b ∷ c ∷ []
+three-words a b c f g h = ap₂ (λ (x : ℤ) (l : List ℤ). x ∷ l) (word-is a f) (two-words b c g h)
+
+-- two halves of clauses were written in a row
+pub halves-put : (xs ys : List Clause) (out : List ℕ) (r : ℕ) (last new : List ℕ) → new ≡ clausesText xs → Put r last new (take (length out - 0) (drop 0 out))
+    → (l : length last ≡ length (take (length out - 0) (drop 0 out))) → (s : ℕ) (last-2 new-2 : List ℕ) → new-2 ≡ clausesText ys → length (clausesText (xs ++ ys)) ≤ length out
+    → Put s last-2 new-2 (take (length (putMid 0 (length out - 0) out last) - r) (drop r (putMid 0 (length out - 0) out last)))
+    → length last-2 ≡ length (take (length (putMid 0 (length out - 0) out last) - r) (drop r (putMid 0 (length out - 0) out last)))
+    → Put (r + s) (putMid r (length (putMid 0 (length out - 0) out last) - r) (putMid 0 (length out - 0) out last) last-2) (clausesText (xs ++ ys)) out
+halves-put xs ys out r last new e p l s last-2 new-2 f h q k =
+    put-as _ _ _ _ _ (ap₂ _++_ e f ∙ sym (clauses-append xs ys))
+    (two-put out r last new p l s last-2 new-2 (omega (arith, ap length e, clauses-long xs ys)) q k)
+
+-- ---- how long
+
+literal-long : (l : ℤ) (ls : List ℤ) → length (literalsText (l ∷ ls)) ≡ length (literalText l) + 1 + length (literalsText ls)
+unfolding literalsText
+literal-long l ls = length-append (literalText l ++ (blank ∷ [])) (literalsText ls) ∙ omega (arith, length-append (literalText l) (blank ∷ []))
+
+none-long : length (literalsText []) ≡ 0
+unfolding literalsText
+none-long = refl
+
+pub or-long : (ls : List ℤ) → length (clausesText (OR ls ∷ [])) ≡ length (literalsText ls) + 2
+or-long ls = ap length (or-text ls) ∙ length-append (literalsText ls) closing
+
+pair-or : (a b : ℤ) → length (clausesText (OR (a ∷ b ∷ []) ∷ [])) ≡ length (literalText a) + length (literalText b) + 4
+pair-or a b = omega (arith, or-long (a ∷ b ∷ []), literal-long a (b ∷ []), literal-long b [], none-long)
+
+triple-or : (a b c : ℤ) → length (clausesText (OR (a ∷ b ∷ c ∷ []) ∷ [])) ≡ length (literalText a) + length (literalText b) + length (literalText c) + 5
+triple-or a b c = omega (arith, or-long (a ∷ b ∷ c ∷ []), literal-long a (b ∷ c ∷ []), literal-long b (c ∷ []), literal-long c [], none-long)
+
+-- a literal and the opposite one
+abbrev pub twice : ℤ → ℕ
+twice l = length (literalText l) + length (literalText (negℤ l))
+
+pub pair-long : (a b : ℤ) → length (clausesText (plainClause (XOR (a ∷ b ∷ [])))) ≡ twice a + twice b + 8
+pair-long a b =
+    ap (λ (cs : List Clause). length (clausesText cs)) (pair-parts a b)
+    ∙ clauses-long (OR (a ∷ b ∷ []) ∷ []) (OR (negℤ a ∷ negℤ b ∷ []) ∷ [])
+    ∙ omega (arith, pair-or a b, pair-or (negℤ a) (negℤ b))
+
+both-long : (a b c : ℤ) → length (clausesText (bothOrs a b c)) ≡ 2 * length (literalText a) + twice b + twice c + 10
+both-long a b c =
+    clauses-long (OR (a ∷ b ∷ c ∷ []) ∷ []) (OR (a ∷ negℤ b ∷ negℤ c ∷ []) ∷ [])
+    ∙ omega (arith, triple-or a b c, triple-or a (negℤ b) (negℤ c))
+
+pub triple-long : (a b c : ℤ) → length (clausesText (plainClause (XOR (a ∷ b ∷ c ∷ [])))) ≡ 2 * (twice a + twice b + twice c) + 20
+triple-long a b c =
+    ap (λ (cs : List Clause). length (clausesText cs)) (triple-parts a b c)
+    ∙ clauses-long (bothOrs a b c) (bothOrs (negℤ a) b (negℤ c))
+    ∙ omega (arith, both-long a b c, both-long (negℤ a) b (negℤ c), ap (λ (k : ℤ). length (literalText k)) (negℤ-negℤ c))
+
+pub pair-count : (a b : ℤ) → length (plainClause (XOR (a ∷ b ∷ []))) ≡ 2
+unfolding negations
+pair-count a b = refl
+
+pub triple-count : (a b c : ℤ) → length (plainClause (XOR (a ∷ b ∷ c ∷ []))) ≡ 4
+unfolding negations
+triple-count a b c = refl
+
+-- what a call tells of a literal that was passed on
+pub twice-is : (z : ℤ) (r : ℕ) → variableOf z ≤ maxVariables → r ≡ twice (toZ w16 (ofZ w16 z)) → r ≡ twice z
+twice-is z r h e = e ∙ ap twice (small-word z h)
+
+pub twice-few : (l : ℤ) → variableOf l ≤ maxVariables → twice l ≤ 10
+twice-few l h = omega (arith, literal-few maxVariables l (omega arith) h, literal-few maxVariables (negℤ l) (omega arith) (omega (arith, neg-size l)))
+
+-- sixteen bytes a word, and no more clauses than words
+clause-few : (c : Clause) → ShortClause c → LiteralsWithin maxVariables (clauseLiterals c)
+    → (length (clausesText (plainClause c)) ≤ 16 * length (storedClause c)) × (length (plainClause c) ≤ length (storedClause c))
+unfolding negations
+clause-few (OR ls) s w = (omega (arith, or-long ls, literals-few maxVariables ls (omega arith) w), omega arith)
+clause-few (XOR []) s w = absurd s
+clause-few (XOR (a ∷ [])) s w = absurd s
+clause-few (XOR (a ∷ b ∷ [])) s w = (omega (arith, pair-long a b, twice-few a (w .1 .0), twice-few b (w .1 .1 .1 .0)), omega arith)
+clause-few (XOR (a ∷ b ∷ c ∷ [])) s w =
+    (omega (arith, triple-long a b c, twice-few a (w .1 .0), twice-few b (w .1 .1 .1 .0), twice-few c (w .1 .1 .1 .1 .1 .0)), omega arith)
+clause-few (XOR (a ∷ b ∷ c ∷ d ∷ ls)) s w = absurd s
+
+pub plain-few : (cs : List Clause) → AllShort cs → ClausesWithin maxVariables cs
+    → (length (clausesText (plainClauses cs)) ≤ 16 * length (stored cs)) × (length (plainClauses cs) ≤ length (stored cs))
+unfolding plainClauses stored clausesText
+plain-few [] s w = (omega arith, omega arith)
+plain-few (c ∷ cs) s w =
+    let (a, b) = clause-few c (s .0) (w .0) in
+    let (d, e) = plain-few cs (s .1) (w .1) in (
+      omega (arith, a, d, ap length (clauses-append (plainClause c) (plainClauses cs)), length-append (clausesText (plainClause c)) (clausesText (plainClauses cs)), length-append (storedClause c) (stored cs)),
+      omega (arith, b, e, length-append (plainClause c) (plainClauses cs), length-append (storedClause c) (stored cs)),
+    )
+
+-- what the loop over an OR's literals keeps
+pub record Closing (ls : List ℤ) (size i : ℕ) : Type 0 where
+  pub sum : size + length (literalsText (drop i ls)) ≡ length (literalsText ls) + 2
+  pub bound : length (literalsText ls) ≤ 6 * maxList
+
+pub closing-start : (ls : List ℤ) → length ls ≤ maxList → LiteralsWithin maxVariables ls → Closing ls 2 0
+closing-start ls h w = record { sum = omega arith; bound = omega (arith, literals-few maxVariables ls (omega arith) w) }
+
+module _ (ls : List ℤ) (size i : ℕ) (t : Closing ls size i) where
+  closing-next : i < length ls → length (literalsText (drop i ls)) ≡ length (literalText (getD ls i (pos 0))) + 1 + length (literalsText (drop (i + 1) ls))
+  closing-next h =
+      ap length (literals-next ls i h)
+      ∙ length-append (literalText (getD ls i (pos 0)) ++ (blank ∷ [])) (literalsText (drop (i + 1) ls))
+      ∙ omega (arith, length-append (literalText (getD ls i (pos 0))) (blank ∷ []))
+
+  module _ (h : i < length ls) (z : ℤ) (r : ℕ) (is : z ≡ getD ls i (pos 0)) (e : r ≡ length (literalText z)) where
+    same : r ≡ length (literalText (getD ls i (pos 0)))
+    same = e ∙ ap (λ (k : ℤ). length (literalText k)) is
+
+    pub closing-room : size + (r + 1) ≤ 6 * maxList + 2
+    closing-room = omega (arith, closing-next h, same, t .sum, t .bound)
+
+    pub closing-on : Closing ls (size + (r + 1)) (i + 1)
+    closing-on = record { sum = omega (arith, closing-next h, same, t .sum); bound = t .bound }
+
+  pub closing-done : length ls ≤ i → size ≡ length (literalsText ls ++ closing)
+  closing-done h = omega (arith, t .sum, ap length (literals-end ls i h), length-append (literalsText ls) closing)
+
+-- ---- the records that are left
+
+pub stored-in : (ws : List ℤ) (cs : List Clause) → ws ≡ stored cs → storedIn ws ≡ cs
+unfolding storedIn
+stored-in ws cs e =
+    ap (λ (l : List ℤ). readClauses (clausesIn l)) (e ∙ sym (lib.Seq.take-append-seam (stored cs) [])) ∙ ap readClauses (read-back cs [])
+
+-- the clauses that are stored from place i on
+pub record Left (ws : List ℤ) (i : ℕ) : Type 0 where
+  pub clauses : List Clause
+  pub words : drop i ws ≡ stored clauses
+  pub short : AllShort clauses
+  pub within : ClausesWithin maxVariables clauses
+  pub few : length ws ≤ maxList
+  pub inside : i ≤ length ws
+
+pub left-all : (ws : List ℤ) → StoresPlain ws → Left ws 0
+left-all ws s = record { clauses = s .clauses; words = s .words; short = s .short; within = s .within; few = s .few; inside = omega arith }
+
+clause-short : (c : Clause) → ShortClause c → ShortRecord (kindOf c) (clauseLiterals c)
+clause-short (OR ls) s = tt
+clause-short (XOR ls) s = s
+
+clause-record : (c : Clause) → plainRecord (kindOf c) (clauseLiterals c) ≡ plainClause c
+clause-record (OR ls) = refl
+clause-record (XOR ls) = refl
+
+-- nothing is stored in no words
+pub left-none : (cs : List Clause) → length (stored cs) ≡ 0 → plainClauses cs ≡ []
+unfolding stored plainClauses
+left-none [] e = refl
+left-none (OR ls ∷ cs) e = absurd (omega arith)
+left-none (XOR ls ∷ cs) e = absurd (omega arith)
+
+pub left-done : (ws : List ℤ) (i : ℕ) (t : Left ws i) → length ws ≤ i → plainClauses (t .clauses) ≡ []
+left-done ws i t h = left-none (t .clauses) (sym (ap length (t .words)) ∙ length-drop i ws ∙ omega arith)
+
+module _ (ws : List ℤ) (i : ℕ) (t : Left ws i) (h : i < length ws) where
+  pub left-next : Next ws i (t .clauses)
+  left-next = next ws i (t .clauses) (t .words) h
+
+  abbrev c : Clause
+  c = left-next .clause
+
+  abbrev later : List Clause
+  later = left-next .later
+
+  -- how many literals the next clause has
+  abbrev pub count : ℕ
+  count = length (clauseLiterals c)
+
+  pub left-inside : i + 2 + count ≤ length ws
+  left-inside = left-next .at-place .inside
+
+  pub left-count : getD ws (i + 1) (pos 0) ≡ pos count
+  left-count = left-next .at-place .second
+
+  shorts : AllShort (c ∷ later)
+  shorts = subst AllShort (left-next .is) (t .short)
+
+  withins : ClausesWithin maxVariables (c ∷ later)
+  withins = subst (ClausesWithin maxVariables) (left-next .is) (t .within)
+
+  plain-next : plainClauses (t .clauses) ≡ plainClause c ++ plainClauses later
+  plain-next = unfold plainClauses in ap plainClauses (left-next .is)
+
+  module _ (n : ℕ) (counted : n ≡ count) where
+    pub left-on : Left ws (i + 2 + n)
+    left-on =
+        record {
+          clauses = later;
+          words = ap (λ (k : ℕ). drop (i + 2 + k) ws) counted ∙ left-next .at-place .rest;
+          short = shorts .1;
+          within = withins .1;
+          few = t .few;
+          inside = omega (arith, left-inside);
+        }
+
+    module _ (kind : ℤ) (ls : List ℤ) (is : kind ≡ getD ws i (pos 0)) (are : ls ≡ take (i + 2 + n - (i + 2)) (drop (i + 2) ws)) where
+      kind-is : kind ≡ kindOf c
+      kind-is = is ∙ left-next .at-place .first
+
+      literals-are : ls ≡ clauseLiterals c
+      literals-are =
+          let e : i + 2 + n - (i + 2) ≡ count = omega arith in
+          are ∙ ap (λ (k : ℕ). take k (drop (i + 2) ws)) e ∙ left-next .at-place .part
+
+      record-next : plainRecord kind ls ≡ plainClause c
+      record-next = ap₂ plainRecord kind-is literals-are ∙ clause-record c
+
+      pub left-plainable : Plainable kind ls
+      left-plainable =
+          record {
+            short = subst (λ (k : ℤ). ShortRecord k ls) (sym kind-is) (subst (ShortRecord (kindOf c)) (sym literals-are) (clause-short c (shorts .0)));
+            few = omega (arith, ap length literals-are, left-inside, t .few);
+            within = subst (LiteralsWithin maxVariables) (sym literals-are) (withins .0);
+          }
+
+      -- the clauses left are the next one's and the later ones'
+      pub left-clauses : plainClauses (t .clauses) ≡ plainRecord kind ls ++ plainClauses (left-on .clauses)
+      unfolding left-on left-next
+      left-clauses = plain-next ∙ ap (λ (l : List Clause). l ++ plainClauses later) (sym record-next)
+
+      pub left-text : clausesText (plainClauses (t .clauses)) ≡ clausesText (plainRecord kind ls) ++ clausesText (plainClauses (left-on .clauses))
+      left-text = ap clausesText left-clauses ∙ clauses-append (plainRecord kind ls) (plainClauses (left-on .clauses))
+
+-- ---- what the loop over the sizes keeps
+
+pub record Sizing (ws : List ℤ) (bytes clauses i : ℕ) : Type 0 where
+  pub left : Left ws i
+  pub bytes-sum : bytes + length (clausesText (plainClauses (left .clauses))) ≡ length (plainText ws)
+  pub clauses-sum : clauses + length (plainClauses (left .clauses)) ≡ length (plainClauses (storedIn ws))
+  pub bytes-few : length (plainText ws) ≤ 16 * maxList
+  pub clauses-few : length (plainClauses (storedIn ws)) ≤ maxList
+
+pub sizing-start : (ws : List ℤ) → StoresPlain ws → Sizing ws 0 0 0
+unfolding left-all
+sizing-start ws s =
+    let e = stored-in ws (s .clauses) (s .words) in
+    let (a, b) = plain-few (s .clauses) (s .short) (s .within) in
+    let l = ap length (s .words) in
+    record {
+      left = left-all ws s;
+      bytes-sum = omega (arith, ap (λ (cs : List Clause). length (clausesText (plainClauses cs))) e);
+      clauses-sum = omega (arith, ap (λ (cs : List Clause). length (plainClauses cs)) e);
+      bytes-few = omega (arith, a, l, s .few, ap (λ (cs : List Clause). length (clausesText (plainClauses cs))) e);
+      clauses-few = omega (arith, b, l, s .few, ap (λ (cs : List Clause). length (plainClauses cs)) e);
+    }
+
+module _ (ws : List ℤ) (bytes clauses i : ℕ) (t : Sizing ws bytes clauses i) (h : i < length ws) (n : ℕ) (counted : n ≡ count ws i (t .left) h)
+    (kind : ℤ) (ls : List ℤ) (is : kind ≡ getD ws i (pos 0)) (are : ls ≡ take (i + 2 + n - (i + 2)) (drop (i + 2) ws)) where
+  abbrev on : Left ws (i + 2 + n)
+  on = left-on ws i (t .left) h n counted
+
+  bytes-next : length (clausesText (plainClauses (t .left .clauses))) ≡ length (clausesText (plainRecord kind ls)) + length (clausesText (plainClauses (on .clauses)))
+  bytes-next =
+      ap length (left-text ws i (t .left) h n counted kind ls is are) ∙ length-append (clausesText (plainRecord kind ls)) (clausesText (plainClauses (on .clauses)))
+
+  clauses-next : length (plainClauses (t .left .clauses)) ≡ length (plainRecord kind ls) + length (plainClauses (on .clauses))
+  clauses-next = ap length (left-clauses ws i (t .left) h n counted kind ls is are) ∙ length-append (plainRecord kind ls) (plainClauses (on .clauses))
+
+  pub bytes-room : bytes + length (clausesText (plainRecord kind ls)) ≤ 16 * maxList
+  bytes-room = omega (arith, bytes-next, t .bytes-sum, t .bytes-few)
+
+  pub clauses-room : clauses + length (plainRecord kind ls) ≤ maxList
+  clauses-room = omega (arith, clauses-next, t .clauses-sum, t .clauses-few)
+
+  pub sizing-on : (a b : ℕ) → a ≡ length (clausesText (plainRecord kind ls)) → b ≡ length (plainRecord kind ls) → Sizing ws (bytes + a) (clauses + b) (i + 2 + n)
+  sizing-on a b e f =
+      record {
+        left = on;
+        bytes-sum = omega (arith, bytes-next, t .bytes-sum, e);
+        clauses-sum = omega (arith, clauses-next, t .clauses-sum, f);
+        bytes-few = t .bytes-few;
+        clauses-few = t .clauses-few;
+      }
+
+none-text : length (clausesText []) ≡ 0
+unfolding clausesText
+none-text = refl
+
+pub sizing-done : (ws : List ℤ) (bytes clauses i : ℕ) → Sizing ws bytes clauses i → length ws ≤ i → _≡_ {A = PlainSizes} (record { bytes = bytes; clauses = clauses }) (plainSizes ws)
+sizing-done ws bytes clauses i t h =
+    let e = left-done ws i (t .left) h in
+    let a : bytes ≡ length (plainText ws) = omega (arith, t .bytes-sum, ap (λ (cs : List Clause). length (clausesText cs)) e, none-text) in
+    let b : clauses ≡ length (plainClauses (storedIn ws)) = omega (arith, t .clauses-sum, ap length e) in
+    ap₂ (λ (x y : ℕ). record { bytes = x; clauses = y }) a b
+
+-- ---- what the loop over the text keeps
+
+pub record Plaining (ws : List ℤ) (first out : List ℕ) (at i : ℕ) : Type 0 where
+  pub front : List ℕ
+  pub left : Left ws i
+  pub filled : Written first out at front
+  pub whole : front ++ clausesText (plainClauses (left .clauses)) ≡ plainText ws
+  pub room : length (plainText ws) ≤ length first
+
+pub plaining-start : (ws : List ℤ) (out : List ℕ) → StoresPlain ws → length (plainText ws) ≤ length out → Plaining ws out out 0 0
+unfolding left-all
+plaining-start ws out s h =
+    record {
+      front = [];
+      left = left-all ws s;
+      filled = written-none out;
+      whole = ap (λ (cs : List Clause). clausesText (plainClauses cs)) (sym (stored-in ws (s .clauses) (s .words)));
+      room = h;
+    }
+
+module _ (ws : List ℤ) (first out : List ℕ) (at i : ℕ) (t : Plaining ws first out at i) where
+  plaining-all : at + length (clausesText (plainClauses (t .left .clauses))) ≤ length out
+  plaining-all =
+      omega (arith, ap length (t .whole), length-append (t .front) (clausesText (plainClauses (t .left .clauses))), t .room, t .filled .long, t .filled .same)
+
+  pub plaining-at : at ≤ length out
+  plaining-at = omega (arith, plaining-all)
+
+  pub plaining-done : length ws ≤ i → Put at out (plainText ws) first
+  unfolding clausesText
+  plaining-done h =
+      put-as _ _ _ _ _ (sym (append-nil (t .front)) ∙ ap (λ (cs : List Clause). t .front ++ clausesText cs) (sym (left-done ws i (t .left) h)) ∙ t .whole)
+      (written-put _ _ _ _ (t .filled))
+
+  module _ (h : i < length ws) (n : ℕ) (counted : n ≡ count ws i (t .left) h)
+      (kind : ℤ) (ls : List ℤ) (is : kind ≡ getD ws i (pos 0)) (are : ls ≡ take (i + 2 + n - (i + 2)) (drop (i + 2) ws)) where
+    abbrev next-left : Left ws (i + 2 + n)
+    next-left = left-on ws i (t .left) h n counted
+
+    text-next : clausesText (plainClauses (t .left .clauses)) ≡ clausesText (plainRecord kind ls) ++ clausesText (plainClauses (next-left .clauses))
+    text-next = left-text ws i (t .left) h n counted kind ls is are
+
+    pub plaining-room : at + length (clausesText (plainRecord kind ls)) ≤ length out
+    plaining-room =
+        omega (arith, plaining-all, ap length text-next, length-append (clausesText (plainRecord kind ls)) (clausesText (plainClauses (next-left .clauses))))
+
+    pub plaining-on : (r : ℕ) (last : List ℕ) → Put r last (clausesText (plainRecord kind ls)) (take (length out - at) (drop at out)) → length last ≡ length (take (length out - at) (drop at out))
+        → Plaining ws first (putMid at (length out - at) out last) (at + r) (i + 2 + n)
+    plaining-on r last p k =
+        record {
+          front = t .front ++ clausesText (plainRecord kind ls);
+          left = next-left;
+          filled = written-more first out at (t .front) (t .filled) r last (clausesText (plainRecord kind ls)) plaining-at p k;
+          whole =
+              append-assoc (t .front) (clausesText (plainRecord kind ls)) (clausesText (plainClauses (next-left .clauses)))
+              ∙ ap (λ (l : List ℕ). t .front ++ l) (sym text-next)
+              ∙ t .whole;
+          room = t .room;
+        }

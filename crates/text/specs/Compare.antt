@@ -1,0 +1,169 @@
+-- Two cascade files compared: from their bytes to the bytes that are written.
+use mathlib.Core.Bool.{cond}
+use mathlib.Core.List.{List, [], _∷_, _++_}
+use Prim.Native.Nat.{ℕ, _+_, _^_}
+use lib.Dec.{eqb, leb}
+use lib.ListN.{length}
+use Rattle.circuit.specs.declared.gate.Gate.{Gate}
+use Rattle.circuit.specs.Outcome.{Outcome, served, refused, demand, andThen, written}
+use Rattle.circuit.specs.Refusal.{wrongForm, lineCountsDiffer, noRoom}
+use Rattle.circuit.specs.Run.{run}
+use Rattle.circuit.specs.Text.{tab, lineFeed}
+use Rattle.circuit.specs.File.{Reading, reading}
+use Rattle.checking.specs.Miter.{miterGates}
+use Rattle.checking.specs.Reduce.{reduceGates}
+use Rattle.checking.specs.Compare.{maxSweepLines, Difference, none, lowest, lowestFrom}
+use Rattle.checking.specs.Clauses.{Clause, clausesOf, variablesOf}
+use Rattle.checking.specs.Stored.{stored}
+use Rattle.text.specs.Dimacs.{decimal, dimacsOf}
+use Rattle.text.specs.Plain.{plainClauses}
+use Rattle.text.specs.Tomiter.{refusalText}
+
+-- a file has 262,144 bytes at most, and a clause list 262,144 words
+abbrev pub maxFile : ℕ
+maxFile = 262144
+
+abbrev pub maxList : ℕ
+maxList = 262144
+
+-- the words that a file's cascade and a miter have at most
+abbrev pub fileWords : ℕ
+fileWords = 3072
+
+abbrev pub miterWords : ℕ
+miterWords = 6144
+
+-- no text has more bytes: sixteen for each word of the clause list, and eighteen for the header
+abbrev pub maxCompared : ℕ
+maxCompared = 4194322
+
+-- ---- the files
+
+-- two cascades on n lines; or a refusal's number, file (1, 2, or 0 for both) and place
+pub data Files : Type 0 where
+  cascades : ℕ → List Gate → List Gate → Files
+  faulty : ℕ → ℕ → ℕ → Files
+
+-- a file, to its last byte: its own refusal, then 1 for bytes after its `end`, at the line index after that
+unfoldable pub wholeFile : List ℕ → Outcome Reading
+wholeFile text = andThen (reading text) (λ c. demand (eqb (c .taken) (length text)) wrongForm (length (c .gates) + 2) (served c))
+
+-- goes on with the cascade of a file; what is wrong with it is said of that file
+abbrev pub inFile : ℕ → Outcome Reading → (Reading → Files) → Files
+inFile file (served c) more = more c
+inFile file (refused number place) more = faulty number file place
+
+-- the second file beside the first one's cascade: its own refusal, then 8
+unfoldable pub secondFile : ℕ → List Gate → List ℕ → Files
+secondFile n gs second =
+    inFile 2 (wholeFile second) (λ d. cond (eqb n (d .lines)) (cascades n gs (d .gates)) (faulty lineCountsDiffer 0 0))
+
+-- more than 262,144 bytes: 10; the first file; the second one
+unfoldable pub filesOf : List ℕ → List ℕ → Files
+filesOf first second =
+    cond (leb (length first) maxFile)
+    (cond (leb (length second) maxFile)
+    (inFile 1 (wholeFile first) (λ c. secondFile (c .lines) (c .gates) second))
+    (faulty noRoom 0 0))
+    (faulty noRoom 0 0)
+
+-- ---- the comparison
+
+-- equal, by the reduction or by the sweep; a state on which two cascades differ, and their outputs; clauses over so many variables that are left to a solver; or a refusal's number, file and place
+pub data Comparison : Type 0 where
+  reduced swept : Comparison
+  differing : ℕ → ℕ → ℕ → Comparison
+  unsolved : ℕ → List Clause → Comparison
+  refusedAt : ℕ → ℕ → ℕ → Comparison
+
+-- the gates that the full reduction of the miter leaves
+abbrev pub gatesLeft : List Gate → List Gate → List Gate
+gatesLeft a b = reduceGates (miterGates a b) .left
+
+-- by the lowest state on which two cascades differ, or none
+abbrev pub sweptAs : List Gate → List Gate → Difference → Comparison
+sweptAs a b none = swept
+sweptAs a b (lowest x) = differing x (run a x) (run b x)
+
+-- a clause list of more than 262,144 words: 10
+unfoldable pub listAs : ℕ → List Gate → Comparison
+listAs n gs = cond (leb (length (stored (clausesOf n gs))) maxList) (unsolved (variablesOf n gs) (clausesOf n gs)) (refusedAt noRoom 0 0)
+
+-- the reduction decides where it leaves no gate; else the sweep, up to 16 lines; else the clauses of the gates left are for a solver
+unfoldable pub compared : ℕ → List Gate → List Gate → Comparison
+compared n a b =
+    cond (eqb (length (gatesLeft a b)) 0) reduced
+    (cond (leb n maxSweepLines) (sweptAs a b (lowestFrom a b 0 (2 ^ n))) (listAs n (gatesLeft a b)))
+
+abbrev pub comparedFiles : Files → Comparison
+comparedFiles (cascades n a b) = compared n a b
+comparedFiles (faulty number file place) = refusedAt number file place
+
+unfoldable pub comparison : List ℕ → List ℕ → Comparison
+comparison first second = comparedFiles (filesOf first second)
+
+-- ---- the text
+
+-- `equal`, `reduction`, `sweep` and `differ`
+abbrev pub equalWord : List ℕ
+equalWord = 101 ∷ 113 ∷ 117 ∷ 97 ∷ 108 ∷ []
+
+abbrev pub reductionWord : List ℕ
+reductionWord = 114 ∷ 101 ∷ 100 ∷ 117 ∷ 99 ∷ 116 ∷ 105 ∷ 111 ∷ 110 ∷ []
+
+abbrev pub sweepWord : List ℕ
+sweepWord = 115 ∷ 119 ∷ 101 ∷ 101 ∷ 112 ∷ []
+
+abbrev pub differWord : List ℕ
+differWord = 100 ∷ 105 ∷ 102 ∷ 102 ∷ 101 ∷ 114 ∷ []
+
+-- `equal`, and what it rests on, tab-parted, and an LF
+abbrev pub equalText : List ℕ → List ℕ
+equalText word = equalWord ++ (tab ∷ (word ++ (lineFeed ∷ [])))
+
+-- `differ`, the state, the output of the first and of the second, tab-parted, and an LF
+unfoldable pub differText : ℕ → ℕ → ℕ → List ℕ
+differText state first second =
+    differWord ++ (tab ∷ (decimal state ++ (tab ∷ (decimal first ++ (tab ∷ (decimal second ++ (lineFeed ∷ [])))))))
+
+abbrev pub comparisonText : Comparison → List ℕ
+comparisonText reduced = equalText reductionWord
+comparisonText swept = equalText sweepWord
+comparisonText (differing state first second) = differText state first second
+comparisonText (unsolved variables cs) = dimacsOf variables (plainClauses cs)
+comparisonText (refusedAt number file place) = refusalText number file place
+
+-- what is written
+unfoldable pub compareText : List ℕ → List ℕ → List ℕ
+compareText first second = comparisonText (comparison first second)
+
+-- ---- the call on slices
+
+-- a text is written where it fits: 10 where the buffer is shorter
+unfoldable pub fitOutcome : List ℕ → ℕ → Outcome ℕ
+fitOutcome text room = demand (leb (length text) room) noRoom 0 (served (length text))
+
+unfoldable pub fitBuffer : List ℕ → List ℕ → List ℕ
+fitBuffer text out = written (fitOutcome text (length out)) text out
+
+-- the rooms that the caller lends: for the words of the first cascade, of the second, of the miter, and of the clauses
+pub record Rooms : Type 0 where
+  pub first : ℕ
+  pub second : ℕ
+  pub miter : ℕ
+  pub clauses : ℕ
+
+abbrev pub rooms : ℕ → ℕ → ℕ → ℕ → Rooms
+rooms first second miter clauses = record { first = first; second = second; miter = miter; clauses = clauses }
+
+-- 10 where a room has fewer words than a cascade, a miter or a clause list may have, or the buffer is shorter than the text
+unfoldable pub compareOutcome : List ℕ → List ℕ → Rooms → ℕ → Outcome ℕ
+compareOutcome first second lent room =
+    demand (leb fileWords (lent .first)) noRoom 0
+    (demand (leb fileWords (lent .second)) noRoom 0
+    (demand (leb miterWords (lent .miter)) noRoom 0
+    (demand (leb maxList (lent .clauses)) noRoom 0
+    (fitOutcome (compareText first second) room))))
+
+unfoldable pub compareBuffer : List ℕ → List ℕ → Rooms → List ℕ → List ℕ
+compareBuffer first second lent out = written (compareOutcome first second lent (length out)) (compareText first second) out

@@ -1,0 +1,93 @@
+-- What is proved of the text that is written for two files, of any program of this kind.
+use mathlib.Core.Path.{_≡_}
+use mathlib.Core.Bool.{Bool}
+use mathlib.Core.List.{List, [], _∷_, _++_}
+use mathlib.Core.Option.{some}
+use Prim.Native.Nat.{ℕ, _+_, _≤_, _<_}
+use lib.IntN.{ℤ, negℤ}
+use lib.ListN.{length}
+use Rattle.circuit.specs.declared.gate.Gate.{Gate}
+use Rattle.circuit.specs.Outcome.{served}
+use Rattle.circuit.specs.Run.{run, Equal, Differs}
+use Rattle.circuit.specs.Text.{textOf}
+use Rattle.circuit.specs.FileLaws.{FileCascade, FileRefused}
+use Rattle.checking.specs.Compare.{maxSweepLines}
+use Rattle.checking.specs.Clauses.{Clause, OR, XOR, clausesOf}
+use Rattle.checking.specs.Satisfaction.{satisfies, ClausesWithin}
+use Rattle.checking.specs.Stored.{stored}
+use Rattle.text.specs.Dimacs.{Dimacs, dimacsRead}
+use Rattle.text.specs.Plain.{plainClause, plainClauses, AllOr}
+use Rattle.text.specs.Tomiter.{refusalText}
+use Rattle.text.specs.BytesTell.{TextTells}
+use Rattle.text.specs.Compare.{maxFile, maxList, maxCompared, fileWords, miterWords, gatesLeft, reductionWord, sweepWord, equalText, differText, compareText, Rooms, compareOutcome}
+
+-- each file is that of a cascade on n lines, to its last byte, and is not too long
+pub record TwoFiles (first second : List ℕ) (n : ℕ) (a b : List Gate) : Type 0 where
+  pub first-good : FileCascade n a
+  pub second-good : FileCascade n b
+  pub first-text : first ≡ textOf n a
+  pub second-text : second ≡ textOf n b
+  pub first-bytes : length first ≤ maxFile
+  pub second-bytes : length second ≤ maxFile
+
+-- what is wrong with two files, by number, file and place, where nothing of an earlier kind is
+pub data FilesFault (first second : List ℕ) : ℕ → ℕ → ℕ → Type 0 where
+  -- a file of more than 262,144 bytes
+  first-long : maxFile < length first → FilesFault first second 10 0 0
+  second-long : length first ≤ maxFile → maxFile < length second → FilesFault first second 10 0 0
+  -- the first file, and bytes after its `end`: its lines are its header, its gates and `end`
+  first-file : (number place : ℕ) → length first ≤ maxFile → length second ≤ maxFile → FileRefused first number place → FilesFault first second number 1 place
+  after-first : (n : ℕ) (a : List Gate) (rest : List ℕ) → length first ≤ maxFile → length second ≤ maxFile → FileCascade n a
+      → first ≡ textOf n a ++ rest → (rest ≡ [] → ⊥) → FilesFault first second 1 1 (length a + 2)
+  -- the second one, after a first that is good
+  second-file : (n : ℕ) (a : List Gate) (number place : ℕ) → length first ≤ maxFile → length second ≤ maxFile → FileCascade n a → first ≡ textOf n a
+      → FileRefused second number place → FilesFault first second number 2 place
+  after-second : (n : ℕ) (a : List Gate) (m : ℕ) (b : List Gate) (rest : List ℕ) → length first ≤ maxFile → length second ≤ maxFile → FileCascade n a → first ≡ textOf n a
+      → FileCascade m b → second ≡ textOf m b ++ rest → (rest ≡ [] → ⊥) → FilesFault first second 1 2 (length b + 2)
+  -- line counts that differ
+  lines-differ : (n : ℕ) (a : List Gate) (m : ℕ) (b : List Gate) → length first ≤ maxFile → length second ≤ maxFile → FileCascade n a → first ≡ textOf n a
+      → FileCascade m b → second ≡ textOf m b → (n ≡ m → ⊥) → FilesFault first second 8 0 0
+  -- more than 16 lines, gates that the reduction leaves, and a clause list of these of more than 262,144 words
+  list-long : (n : ℕ) (a b : List Gate) → TwoFiles first second n a b → maxSweepLines < n → (gatesLeft a b ≡ [] → ⊥)
+      → maxList < length (stored (clausesOf n (gatesLeft a b))) → FilesFault first second 10 0 0
+
+-- THE CLAIM: what a text may be that is written for two files. The kinds of texts start with different bytes, and which kind is due is decided by the files alone.
+pub data Verdict (first second text : List ℕ) : Type 0 where
+  -- a refusal: what is wrong first
+  refuses : (number file place : ℕ) → text ≡ refusalText number file place → FilesFault first second number file place → Verdict first second text
+  -- equal cascades, of whose miter the full reduction leaves no gate
+  reduces : (n : ℕ) (a b : List Gate) → TwoFiles first second n a b → text ≡ equalText reductionWord → gatesLeft a b ≡ [] → Equal n a b → Verdict first second text
+  -- equal cascades of at most 16 lines
+  sweeps : (n : ℕ) (a b : List Gate) → TwoFiles first second n a b → text ≡ equalText sweepWord → (gatesLeft a b ≡ [] → ⊥) → n ≤ maxSweepLines → Equal n a b
+      → Verdict first second text
+  -- a state on which the cascades differ, the lowest, and their outputs on it
+  differs : (n : ℕ) (a b : List Gate) → TwoFiles first second n a b → (x : ℕ) → text ≡ differText x (run a x) (run b x) → (gatesLeft a b ≡ [] → ⊥) → n ≤ maxSweepLines
+      → Differs n a b x → ((y : ℕ) → y < x → run a y ≡ run b y) → Verdict first second text
+  -- OR clauses that tell on which states the given cascades differ: no assignment satisfies them exactly where the cascades are equal, and each differing state is spelled by exactly one
+  asks : (n : ℕ) (a b : List Gate) → TwoFiles first second n a b → (tells : TextTells text n a b) → AllOr (tells .read .clauses) → (gatesLeft a b ≡ [] → ⊥)
+      → maxSweepLines < n → length (stored (clausesOf n (gatesLeft a b))) ≤ maxList → Verdict first second text
+
+-- a program that compares two files, by what it writes
+abbrev pub Compares : (List ℕ → List ℕ → List ℕ) → Type 0
+Compares program = (first second : List ℕ) → Verdict first second (program first second)
+
+pub record CompareLaws : Type 0 where
+  -- an assignment satisfies the plain clauses exactly when it satisfies the list; their literals are those of its variables
+  pub plain-satisfied : (σ : List Bool) (variables : ℕ) (cs : List Clause) → ClausesWithin variables cs → satisfies σ (plainClauses cs) ≡ satisfies σ cs
+  pub plain-within : (variables : ℕ) (cs : List Clause) → ClausesWithin variables cs → ClausesWithin variables (plainClauses cs)
+  pub plain-or : (cs : List Clause) → AllOr (plainClauses cs)
+  -- an XOR of two literals, and of three
+  pub plain-two : (a b : ℤ) → plainClause (XOR (a ∷ b ∷ [])) ≡ OR (a ∷ b ∷ []) ∷ OR (negℤ a ∷ negℤ b ∷ []) ∷ []
+  pub plain-three : (a b c : ℤ) → plainClause (XOR (a ∷ b ∷ c ∷ []))
+      ≡ OR (a ∷ b ∷ c ∷ []) ∷ OR (a ∷ negℤ b ∷ negℤ c ∷ []) ∷ OR (negℤ a ∷ b ∷ negℤ c ∷ []) ∷ OR (negℤ a ∷ negℤ b ∷ c ∷ []) ∷ []
+  -- the claim, of our text
+  pub compares : Compares compareText
+  -- and of no program that calls all pairs equal, that asks a solver always, or that says `differ` of a state on which two cascades of its files agree
+  pub always-equal : (program : List ℕ → List ℕ → List ℕ) (word : List ℕ) → ((first second : List ℕ) → program first second ≡ equalText word) → Compares program → ⊥
+  pub always-asks : (program : List ℕ → List ℕ → List ℕ) → ((first second : List ℕ) → (d : Dimacs) × (dimacsRead (program first second) ≡ some d)) → Compares program → ⊥
+  pub no-difference : (program : List ℕ → List ℕ → List ℕ) (first second : List ℕ) (n : ℕ) (a b : List Gate) (x y z : ℕ) → TwoFiles first second n a b
+      → program first second ≡ differText x y z → run a x ≡ run b x → Compares program → ⊥
+  -- every text fits a buffer of 4,194,322 bytes
+  pub text-fits : (first second : List ℕ) → length (compareText first second) ≤ maxCompared
+  pub room-enough : (first second : List ℕ) (lent : Rooms) (room : ℕ) → fileWords ≤ lent .first → fileWords ≤ lent .second → miterWords ≤ lent .miter → maxList ≤ lent .clauses → maxCompared ≤ room
+      → compareOutcome first second lent room ≡ served (length (compareText first second))

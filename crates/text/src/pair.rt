@@ -1,0 +1,102 @@
+// Two cascade files, each to its last byte.
+
+use circuit::file::ReadAnswer;
+use circuit::refusal::Refusal;
+ghost use Prim.Native.Nat.{_*_, _≤_};
+ghost use lib.ListN.{length, take};
+ghost use Rattle.circuit.specs.Words.{gatesOf};
+ghost use Rattle.text.specs.Compare.{fileWords, wholeFile, secondFile, filesOf};
+ghost use Rattle.text.specs.private.Comparing.{InRoom, SaysWhole, SaysFiles};
+
+// The lines and the gates of a cascade whose words stand in the lent room; or a refusal.
+pub enum WholeAnswer {
+    Cascade { lines: u64, gates: usize },
+    Refused(Refusal),
+}
+
+// The lines of two cascades and the gates of each, whose words stand in the lent rooms; or a refusal with its file, 1, 2, or 0 for both.
+pub enum FilesAnswer {
+    Cascades {
+        lines: u64,
+        first: usize,
+        second: usize,
+    },
+    Refused {
+        why: Refusal,
+        file: u64,
+    },
+}
+
+// The cascade of a file, which has no byte after its `end`.
+fn read_whole(text: &[u8], room: &mut [u64]) -> WholeAnswer
+    requires { ⌜ fileWords ≤ length (now room) ⌝ }
+    ensures { λ r. ⌜ SaysWhole r (now (room .exit)) (length (now (text .entry))) (wholeFile (now (text .entry))) ⌝ }
+{
+    match circuit::file::read(text, room) {
+        ReadAnswer::Refused(why) => WholeAnswer::Refused(why),
+        ReadAnswer::Cascade {
+            header,
+            gates,
+            taken,
+        } => {
+            if taken != text.len() {
+                return WholeAnswer::Refused(Refusal::wrong_form(gates as u64 + 2));
+            }
+            WholeAnswer::Cascade {
+                lines: header.lines,
+                gates,
+            }
+        }
+    }
+}
+
+// The second file's cascade beside the first one's, which stands in its room; else what is wrong with that file, or 8.
+fn read_second(lines: u64, gates: usize, second: &[u8], a: &[u64], b: &mut [u64]) -> FilesAnswer
+    requires { ⌜ InRoom lines gates (now a) ⌝ }
+    requires { ⌜ fileWords ≤ length (now b) ⌝ }
+    ensures { λ r. ⌜ SaysFiles r (now (a .entry)) (now (b .exit)) (secondFile lines (gatesOf (take (3 * gates) (now (a .entry)))) (now (second .entry))) ⌝ }
+{
+    match read_whole(second, b) {
+        WholeAnswer::Refused(why) => FilesAnswer::Refused { why, file: 2 },
+        WholeAnswer::Cascade {
+            lines: other,
+            gates: count,
+        } => {
+            if lines != other {
+                return FilesAnswer::Refused {
+                    why: Refusal::line_counts_differ(),
+                    file: 0,
+                };
+            }
+            FilesAnswer::Cascades {
+                lines,
+                first: gates,
+                second: count,
+            }
+        }
+    }
+}
+
+// The cascades of two files; else what is wrong with them.
+pub(crate) fn read_files(first: &[u8], second: &[u8], a: &mut [u64], b: &mut [u64]) -> FilesAnswer
+    requires { ⌜ fileWords ≤ length (now a) ⌝ }
+    requires { ⌜ fileWords ≤ length (now b) ⌝ }
+    ensures { λ r. ⌜ SaysFiles r (now (a .exit)) (now (b .exit)) (filesOf (now (first .entry)) (now (second .entry))) ⌝ }
+{
+    if crate::MAX_FILE < first.len() {
+        return FilesAnswer::Refused {
+            why: Refusal::no_room(),
+            file: 0,
+        };
+    }
+    if crate::MAX_FILE < second.len() {
+        return FilesAnswer::Refused {
+            why: Refusal::no_room(),
+            file: 0,
+        };
+    }
+    match read_whole(first, a) {
+        WholeAnswer::Refused(why) => FilesAnswer::Refused { why, file: 1 },
+        WholeAnswer::Cascade { lines, gates } => read_second(lines, gates, second, a, b),
+    }
+}

@@ -1,0 +1,213 @@
+// A clause list as OR clauses alone: its sizes, and writing it at the start of a buffer. Each writing function tells how many bytes it wrote.
+
+ghost use mathlib.Core.Path.{_≡_};
+ghost use mathlib.Core.List.{[], _∷_, _++_};
+ghost use Prim.Native.Nat.{_+_, _≤_, _<_};
+ghost use lib.IntN.{negℤ};
+ghost use lib.ListN.{length};
+ghost use Rattle.circuit.specs.private.Put.{Put};
+ghost use Rattle.checking.specs.Clauses.{OR, XOR};
+ghost use Rattle.checking.specs.Satisfaction.{variableOf, LiteralsWithin};
+ghost use Rattle.checking.specs.Stored.{wordLimit};
+ghost use Rattle.text.specs.Dimacs.{decimal, literalText, literalsText, closing, clausesText, headerText};
+ghost use Rattle.text.specs.Plain.{plainClause};
+ghost use Rattle.text.specs.Compare.{maxList};
+ghost use Rattle.text.specs.private.Words.{maxVariables, bothOrs, plainRecord, Plainable, StoresPlain, plainText, plainSizes};
+
+// The bytes of a text, and the clauses in it.
+pub struct PlainSizes {
+    pub bytes: usize,
+    pub clauses: u64,
+}
+
+// The opposite literal.
+fn negated(literal: i16) -> i16
+    requires { ⌜ variableOf literal < wordLimit ⌝ }
+    ensures { λ r. ⌜ r ≡ negℤ literal ⌝ }
+{
+    0 - literal
+}
+
+// The number of digits of a number.
+pub(crate) fn digits(k: u64) -> usize
+    ensures { λ r. ⌜ r ≡ length (decimal k) ⌝ }
+{
+    let mut count = 1;
+    let mut left = k;
+    while 10 <= left {
+        left /= 10;
+        count += 1;
+    }
+    count
+}
+
+// The bytes of a literal.
+fn literal_size(literal: i16) -> usize
+    ensures { λ r. ⌜ r ≡ length (literalText literal) ⌝ }
+{
+    let count = digits(crate::dimacs::magnitude(literal));
+    if literal < 0 {
+        return count + 1;
+    }
+    count
+}
+
+// The bytes of a literal and of the opposite one.
+fn both_size(literal: i16) -> usize
+    requires { ⌜ variableOf literal < wordLimit ⌝ }
+    ensures { λ r. ⌜ r ≡ length (literalText literal) + length (literalText (negℤ literal)) ⌝ }
+{
+    literal_size(literal) + literal_size(negated(literal))
+}
+
+// The bytes of an OR.
+fn closed_size(literals: &[i16]) -> usize
+    requires { ⌜ length (now literals) ≤ maxList ⌝ }
+    requires { ⌜ LiteralsWithin maxVariables (now literals) ⌝ }
+    ensures { λ r. ⌜ r ≡ length (literalsText (now (literals .entry)) ++ closing) ⌝ }
+{
+    let mut size = 2;
+    let mut i = 0;
+    while i < literals.len() {
+        size += literal_size(literals[i]) + 1;
+        i += 1;
+    }
+    size
+}
+
+// The bytes of a clause's plain clauses.
+fn record_size(kind: i16, literals: &[i16]) -> usize
+    requires { ⌜ Plainable kind (now literals) ⌝ }
+    ensures { λ r. ⌜ r ≡ length (clausesText (plainRecord kind (now (literals .entry)))) ⌝ }
+{
+    if kind == 1 {
+        let two = both_size(literals[0]) + both_size(literals[1]);
+        if literals.len() == 2 {
+            return two + 8;
+        }
+        return 2 * (two + both_size(literals[2])) + 20;
+    }
+    closed_size(literals)
+}
+
+// The number of a clause's plain clauses.
+fn record_clauses(kind: i16, literals: &[i16]) -> u64
+    requires { ⌜ Plainable kind (now literals) ⌝ }
+    ensures { λ r. ⌜ r ≡ length (plainRecord kind (now (literals .entry))) ⌝ }
+{
+    if kind == 1 {
+        if literals.len() == 2 {
+            return 2;
+        }
+        return 4;
+    }
+    1
+}
+
+// The sizes of the plain clauses that words store.
+pub(crate) fn list_sizes(words: &[i16]) -> PlainSizes
+    requires { ⌜ StoresPlain (now words) ⌝ }
+    ensures { λ r. ⌜ r ≡ plainSizes (now (words .entry)) ⌝ }
+{
+    let mut bytes = 0;
+    let mut clauses = 0;
+    let mut i = 0;
+    while i < words.len() {
+        let from = i + 2;
+        let to = from + crate::dimacs::magnitude(words[i + 1]) as usize;
+        bytes += record_size(words[i], &words[from..to]);
+        clauses += record_clauses(words[i], &words[from..to]);
+        i = to;
+    }
+    PlainSizes { bytes, clauses }
+}
+
+// Writes the OR of two literals.
+fn put_or_two(out: &mut [u8], a: i16, b: i16) -> usize
+    requires { ⌜ length (clausesText (OR (a ∷ b ∷ []) ∷ [])) ≤ length (now out) ⌝ }
+    ensures { λ r. ⌜ Put r (now (out .exit)) (clausesText (OR (a ∷ b ∷ []) ∷ [])) (now (out .entry)) ⌝ }
+{
+    let literals = [a, b];
+    crate::dimacs::put_closed(out, &literals)
+}
+
+// Writes the OR of three literals.
+fn put_or_three(out: &mut [u8], a: i16, b: i16, c: i16) -> usize
+    requires { ⌜ length (clausesText (OR (a ∷ b ∷ c ∷ []) ∷ [])) ≤ length (now out) ⌝ }
+    ensures { λ r. ⌜ Put r (now (out .exit)) (clausesText (OR (a ∷ b ∷ c ∷ []) ∷ [])) (now (out .entry)) ⌝ }
+{
+    let literals = [a, b, c];
+    crate::dimacs::put_closed(out, &literals)
+}
+
+// Writes the plain clauses of an XOR of two literals.
+fn put_pair(out: &mut [u8], a: i16, b: i16) -> usize
+    requires { ⌜ (variableOf a < wordLimit) × (variableOf b < wordLimit) ⌝ }
+    requires { ⌜ length (clausesText (plainClause (XOR (a ∷ b ∷ [])))) ≤ length (now out) ⌝ }
+    ensures { λ r. ⌜ Put r (now (out .exit)) (clausesText (plainClause (XOR (a ∷ b ∷ [])))) (now (out .entry)) ⌝ }
+{
+    let at = put_or_two(&mut out[0..], a, b);
+    at + put_or_two(&mut out[at..], negated(a), negated(b))
+}
+
+// Writes the ORs of three literals, and of the first and the opposite of the others.
+fn put_both(out: &mut [u8], a: i16, b: i16, c: i16) -> usize
+    requires { ⌜ (variableOf b < wordLimit) × (variableOf c < wordLimit) ⌝ }
+    requires { ⌜ length (clausesText (bothOrs a b c)) ≤ length (now out) ⌝ }
+    ensures { λ r. ⌜ Put r (now (out .exit)) (clausesText (bothOrs a b c)) (now (out .entry)) ⌝ }
+{
+    let at = put_or_three(&mut out[0..], a, b, c);
+    at + put_or_three(&mut out[at..], a, negated(b), negated(c))
+}
+
+// Writes the plain clauses of an XOR of three literals.
+fn put_triple(out: &mut [u8], a: i16, b: i16, c: i16) -> usize
+    requires { ⌜ (variableOf a < wordLimit) × (variableOf b < wordLimit) × (variableOf c < wordLimit) ⌝ }
+    requires { ⌜ length (clausesText (plainClause (XOR (a ∷ b ∷ c ∷ [])))) ≤ length (now out) ⌝ }
+    ensures { λ r. ⌜ Put r (now (out .exit)) (clausesText (plainClause (XOR (a ∷ b ∷ c ∷ [])))) (now (out .entry)) ⌝ }
+{
+    let at = put_both(&mut out[0..], a, b, c);
+    at + put_both(&mut out[at..], negated(a), b, negated(c))
+}
+
+// Writes a clause's plain clauses.
+fn put_record(out: &mut [u8], kind: i16, literals: &[i16]) -> usize
+    requires { ⌜ Plainable kind (now literals) ⌝ }
+    requires { ⌜ length (clausesText (plainRecord kind (now literals))) ≤ length (now out) ⌝ }
+    ensures { λ r. ⌜ Put r (now (out .exit)) (clausesText (plainRecord kind (now (literals .entry)))) (now (out .entry)) ⌝ }
+{
+    if kind == 1 {
+        if literals.len() == 2 {
+            return put_pair(out, literals[0], literals[1]);
+        }
+        return put_triple(out, literals[0], literals[1], literals[2]);
+    }
+    crate::dimacs::put_closed(out, literals)
+}
+
+// Writes the plain clauses that words store.
+fn put_records(out: &mut [u8], words: &[i16]) -> usize
+    requires { ⌜ StoresPlain (now words) ⌝ }
+    requires { ⌜ length (plainText (now words)) ≤ length (now out) ⌝ }
+    ensures { λ r. ⌜ Put r (now (out .exit)) (plainText (now (words .entry))) (now (out .entry)) ⌝ }
+{
+    let mut at = 0;
+    let mut i = 0;
+    while i < words.len() {
+        let from = i + 2;
+        let to = from + crate::dimacs::magnitude(words[i + 1]) as usize;
+        at += put_record(&mut out[at..], words[i], &words[from..to]);
+        i = to;
+    }
+    at
+}
+
+// Writes the header and the plain clauses that words store.
+pub(crate) fn put_plain(out: &mut [u8], variables: u64, clauses: u64, words: &[i16]) -> usize
+    requires { ⌜ StoresPlain (now words) ⌝ }
+    requires { ⌜ length (headerText variables clauses ++ plainText (now words)) ≤ length (now out) ⌝ }
+    ensures { λ r. ⌜ Put r (now (out .exit)) (headerText variables clauses ++ plainText (now (words .entry))) (now (out .entry)) ⌝ }
+{
+    let at = crate::dimacs::put_header(&mut out[0..], variables, clauses);
+    at + put_records(&mut out[at..], words)
+}
