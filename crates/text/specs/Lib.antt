@@ -5,6 +5,8 @@ pub mod Compare
 pub mod Words
 pub mod Answers
 pub mod Comparing
+pub mod CheckInput
+pub mod Checking
 pub mod Rows
 pub mod TextLaws
 pub mod CompareLaws
