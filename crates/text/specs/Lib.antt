@@ -10,4 +10,5 @@ pub mod Checking
 pub mod Rows
 pub mod TextLaws
 pub mod CompareLaws
+pub mod CheckInputLaws
 pub mod Laws

@@ -1,7 +1,7 @@
 // One input given to the cascades of two files.
 
-use crate::pair::FilesAnswer;
 use crate::TextAnswer;
+use crate::pair::FilesAnswer;
 use circuit::gate::Gate;
 use circuit::refusal::Refusal;
 ghost use mathlib.Core.Bool.{cond};
@@ -28,15 +28,8 @@ pub enum StateAnswer {
 
 // The lines of two cascades and their outputs on a state; or a refusal with its file.
 pub enum CheckedAnswer {
-    Outputs {
-        lines: u64,
-        first: u64,
-        second: u64,
-    },
-    Refused {
-        why: Refusal,
-        file: u64,
-    },
+    Outputs { lines: u64, first: u64, second: u64 },
+    Refused { why: Refusal, file: u64 },
 }
 
 // The state of n lines that a text spells, from its last character back.
