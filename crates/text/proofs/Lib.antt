@@ -14,4 +14,5 @@ pub mod Verdicts
 pub mod Longest
 pub mod StandIns
 pub mod Others
+pub mod Inputs
 pub mod Rows

@@ -36,7 +36,7 @@ use Rattle.text.proofs.answer.Laws.{digits-few, differ-long, refusal-lo
 
 -- ---- refusals
 
-fault-few : (first second : List ℕ) (number file place : ℕ) → FilesFault first second number file place → (number < 100) × (file < 10) × (place < 10000)
+pub fault-few : (first second : List ℕ) (number file place : ℕ) → FilesFault first second number file place → (number < 100) × (file < 10) × (place < 10000)
 fault-few first second _ _ _ (first-long _) = (omega arith, omega arith, omega arith)
 fault-few first second _ _ _ (second-long _ _) = (omega arith, omega arith, omega arith)
 fault-few first second _ _ _ (first-file number place _ _ f) = let (a, b) = fault-small first number place f in (a, omega arith, b)

@@ -4,8 +4,10 @@ pub mod Tomiter
 pub mod Plain
 pub mod Compare
 pub mod Answers
+pub mod CheckInput
 pub mod Rows
 pub mod TextLaws
 pub mod private
 pub mod CompareLaws
+pub mod CheckInputLaws
 pub mod Laws

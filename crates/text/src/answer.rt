@@ -34,7 +34,7 @@ fn three_digits(a: u64, b: u64, c: u64) -> usize
 }
 
 // Writes a refusal.
-fn fit_refusal(out: &mut [u8], number: u64, file: u64, place: u64) -> TextAnswer
+pub(crate) fn fit_refusal(out: &mut [u8], number: u64, file: u64, place: u64) -> TextAnswer
     ensures { λ r. ⌜ Yields (ofText r) (now (out .exit)) (fitOutcome (refusalText number file place) (length (now (out .entry)))) (fitBuffer (refusalText number file place) (now (out .entry))) ⌝ }
 {
     if out.len() < three_digits(number, file, place) + 11 {

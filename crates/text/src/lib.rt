@@ -5,12 +5,14 @@ ghost use Rattle.text.specs.Tomiter.{WritesText, tomiterOutcome, tomiter
 ghost use lib.ListN.{length};
 ghost use Rattle.circuit.specs.Outcome.{Yields};
 ghost use Rattle.text.specs.Compare.{rooms, compareOutcome, compareBuffer};
+ghost use Rattle.text.specs.CheckInput.{checkOutcome, checkBuffer};
 ghost use Rattle.text.specs.Answers.{ofText};
 ghost use Rattle.text.specs.Laws.{Laws};
 
 mod answer;
 mod comparison;
 mod dimacs;
+mod input;
 mod list;
 mod pair;
 mod plain;
@@ -38,6 +40,9 @@ pub const MITER_WORDS: usize = 6144;
 pub const MAX_LIST: usize = 262144;
 
 pub const MAX_COMPARED: usize = 4194322;
+
+// The bytes of the longest text of an input that was checked.
+pub const MAX_CHECKED: usize = 137;
 
 // What the program writes for an input of two cascade files, at the buffer's start; else 10.
 pub fn tomiter(input: &[u8], out: &mut [u8]) -> TextAnswer
@@ -82,6 +87,28 @@ pub fn compare(
     }
     let answer = crate::comparison::compare_files(first, second, a, b, miter, clauses);
     crate::answer::fit_answer(out, answer, clauses)
+}
+
+// Gives an input, a character 0 or 1 for each line, to the cascades of two files, and writes `differ` or `agree` and both outputs at the start of `out`; else 10.
+// The words of the cascades stand in the rooms that follow; what these hold afterwards is no answer.
+pub fn check_input(
+    first: &[u8],
+    second: &[u8],
+    state: &[u8],
+    out: &mut [u8],
+    a: &mut [u64],
+    b: &mut [u64],
+) -> TextAnswer
+    ensures { λ r. ⌜ Yields (ofText r) (now (out .exit)) (checkOutcome (now (first .entry)) (now (second .entry)) (now (state .entry)) (length (now (a .entry))) (length (now (b .entry))) (length (now (out .entry)))) (checkBuffer (now (first .entry)) (now (second .entry)) (now (state .entry)) (length (now (a .entry))) (length (now (b .entry))) (now (out .entry))) ⌝ }
+{
+    if a.len() < FILE_WORDS {
+        return TextAnswer::Refused(Refusal::no_room());
+    }
+    if b.len() < FILE_WORDS {
+        return TextAnswer::Refused(Refusal::no_room());
+    }
+    let answer = crate::input::check_files(first, second, state, a, b);
+    crate::input::fit_checked(out, answer)
 }
 
 // Has no effect: its contract is the record of this crate's laws.

@@ -8,6 +8,7 @@ use Rattle.text.proofs.PlainClauses.{plain-satisfied, plain-within, pla
 use Rattle.text.proofs.plain.Laws.{pair-parts, triple-is}
 use Rattle.text.proofs.Verdicts.{compares}
 use Rattle.text.proofs.Longest.{text-fits as compared-fits, room-enough as compared-room}
+use Rattle.text.proofs.Inputs.{state-back, state-was, differ-told, agree-told, no-state, text-fits as checked-fits, room-enough as checked-room}
 use Rattle.text.proofs.Others.{always-equal, always-asks, no-difference}
 use Rattle.text.proofs.Rows.{rows-hold}
 use Rattle.text.proofs.laws.Statement.{statement}
@@ -44,6 +45,16 @@ returns c =
             no-difference = no-difference;
             text-fits = compared-fits;
             room-enough = compared-room;
+          };
+      input =
+          record {
+            state-back = state-back;
+            state-was = state-was;
+            differ-told = differ-told;
+            agree-told = agree-told;
+            no-state = no-state;
+            text-fits = checked-fits;
+            room-enough = checked-room;
           };
     }
 

@@ -1,0 +1,2 @@
+-- `Laws`: a state in characters.
+pub mod Laws

@@ -1,0 +1,34 @@
+-- What is proved of the text that is written for one input.
+use mathlib.Core.Path.{_≡_}
+use mathlib.Core.List.{List, [], _∷_, _++_}
+use mathlib.Core.Option.{none, some}
+use Prim.Native.Nat.{ℕ, _^_, _<_, _≤_}
+use lib.ListN.{length}
+use Rattle.circuit.specs.declared.gate.Gate.{Gate}
+use Rattle.circuit.specs.Outcome.{served}
+use Rattle.circuit.specs.Run.{run, Differs}
+use Rattle.circuit.specs.Text.{tab, lineFeed}
+use Rattle.text.specs.Tomiter.{refusalText}
+use Rattle.text.specs.Compare.{fileWords, differWord}
+use Rattle.text.specs.CompareLaws.{TwoFiles, FilesFault}
+use Rattle.text.specs.CheckInput.{maxChecked, stateText, stateRead, agreeWord, checkText, checkOutcome}
+
+-- a word and the outputs of two cascades on x
+abbrev pub saidOf : List ℕ → ℕ → List Gate → List Gate → ℕ → List ℕ
+saidOf word n a b x = word ++ ((tab ∷ stateText n (run a x)) ++ ((tab ∷ stateText n (run b x)) ++ (lineFeed ∷ [])))
+
+pub record CheckInputLaws : Type 0 where
+  -- a state is read back from its text, and what is read is the text of a state
+  pub state-back : (n x : ℕ) → x < 2 ^ n → stateRead n (stateText n x) ≡ some x
+  pub state-was : (n : ℕ) (text : List ℕ) (x : ℕ) → stateRead n text ≡ some x → (x < 2 ^ n) × (text ≡ stateText n x)
+  -- `differ` exactly where the cascades differ on the input, else `agree`; a text that spells no state is refused
+  pub differ-told : (first second : List ℕ) (n : ℕ) (a b : List Gate) → TwoFiles first second n a b → (x : ℕ) → Differs n a b x
+      → checkText first second (stateText n x) ≡ saidOf differWord n a b x
+  pub agree-told : (first second : List ℕ) (n : ℕ) (a b : List Gate) → TwoFiles first second n a b → (x : ℕ) → x < 2 ^ n → run a x ≡ run b x
+      → checkText first second (stateText n x) ≡ saidOf agreeWord n a b x
+  pub no-state : (first second : List ℕ) (n : ℕ) (a b : List Gate) → TwoFiles first second n a b → (state : List ℕ) → ((x : ℕ) → x < 2 ^ n → state ≡ stateText n x → ⊥)
+      → checkText first second state ≡ refusalText 9 0 0
+  -- every text fits a buffer of 137 bytes
+  pub text-fits : (first second state : List ℕ) → length (checkText first second state) ≤ maxChecked
+  pub room-enough : (first second state : List ℕ) (room-a room-b room : ℕ) → fileWords ≤ room-a → fileWords ≤ room-b → maxChecked ≤ room
+      → checkOutcome first second state room-a room-b room ≡ served (length (checkText first second state))
