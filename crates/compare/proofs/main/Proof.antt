@@ -1,6 +1,5 @@
 -- `compare::main` meets its contract. Assumes nothing.
-use mathlib.Core.Path.{sym}
-use lib.Seq.{length-take-le}
+
 use Rattle.streams.proofs.Inside.{counted}
 use borrow.Author.Needs.{needs}
 use Rattle.compare.proofs.main.Statement.{statement}
