@@ -15,23 +15,20 @@ use Rattle.bits.proofs.Lists.{over-length}
 use Rattle.circuit.specs.declared.gate.Gate.{Gate}
 use Rattle.circuit.specs.declared.refusal.Refusal.{Refusal}
 use Rattle.circuit.specs.Gate.{maxGates, maxMiterGates}
-use Rattle.circuit.specs.Outcome.{Outcome, served, refused, demand, andThen, written}
+use Rattle.circuit.specs.Outcome.{Outcome, served, refused, demand}
 use Rattle.circuit.specs.Refusal.{wrongForm, lineCountsDiffer, noRoom}
 use Rattle.circuit.specs.Words.{gatesOf, wordsOf, Cascade, differ}
-use Rattle.circuit.proofs.Outcome.{never, demand-met, demand-failed, then-served}
-use Rattle.circuit.proofs.words.Laws.{gates-words, words-length, served-check, refused-pair}
+use Rattle.circuit.proofs.Promises.{never, demand-met, demand-failed, gates-words, words-length, refused-pair, reader, read-served, read-refused, read-leaves}
 use Rattle.circuit.specs.Text.{textOf}
-use Rattle.circuit.specs.File.{Reading, reading, ReadCounts, gatesRead, readOutcome, readBuffer}
+use Rattle.circuit.specs.File.{Reading, reading, ReadCounts, readOutcome, readBuffer}
 use Rattle.circuit.specs.FileLaws.{ReadRefused, wrong, short}
-use Rattle.circuit.proofs.file.Laws.{reader, read-served, read-refused}
 use Rattle.checking.specs.declared.clauses.Totals.{Totals}
 use Rattle.checking.specs.Miter.{miterGates, miterOutcome, miterBuffer}
 use Rattle.checking.specs.Clauses.{Clause, clausesOf, variablesOf}
 use Rattle.checking.specs.Stored.{stored}
-use Rattle.checking.specs.Sizes.{totals, sizesOf, sizesOutcome}
+use Rattle.checking.specs.Sizes.{totals}
 use Rattle.checking.specs.Emit.{emitOutcome, emitBuffer}
-use Rattle.checking.proofs.miter.Laws.{miter-laws, miter-refused}
-use Rattle.checking.proofs.clauses.Laws.{clause-laws}
+use Rattle.checking.proofs.Promises.{miter-laws, miter-refused, emit-laws, emit-cascade}
 use Rattle.text.specs.declared.list.ListAnswer.{ListAnswer}
 use Rattle.text.specs.declared.list.ListAnswer.the-variants as list
 use Rattle.text.specs.Tomiter.{maxInput, maxWords, Verdict, listed, refusedAt, ofFile, listVerdict, pairVerdict, secondVerdict, verdict}
@@ -58,14 +55,10 @@ module _ (n : ℕ) (ws : List ℕ) (k : ℕ) (c : Cascade n ws maxMiterGates k) 
   abbrev cs : List Clause
   cs = clausesOf n gs
 
-  sums : sizesOf n gs ≡ totals (variablesOf n gs) (length cs) (length (stored cs))
-  sums = clause-laws .sizes-list n gs (c .lines-high) (c .gates)
-
   emit-is : emitOutcome n ws room ≡ demand (leb (length (stored cs)) maxWords) noRoom 0 (served (totals (variablesOf n gs) (length cs) (length (stored cs))))
-  unfolding emitOutcome sizesOutcome
   emit-is =
-      ap (λ (o : Outcome Totals). andThen o (λ t. demand (leb (t .words) room) noRoom 0 (served t))) (then-served _ _ k (served-check n ws maxMiterGates k c))
-      ∙ ap₂ (λ (t : Totals) (m : ℕ). demand (leb (t .words) m) noRoom 0 (served t)) sums long
+      emit-cascade n ws k c room
+      ∙ ap (λ (m : ℕ). demand (leb (length (stored cs)) m) noRoom 0 (served (totals (variablesOf n gs) (length cs) (length (stored cs))))) long
 
   list-short : leb (length (stored cs)) maxWords ≡ false → listVerdict n gs ≡ refusedAt noRoom 0 0
   unfolding listVerdict
@@ -82,14 +75,13 @@ module _ (n : ℕ) (ws : List ℕ) (k : ℕ) (c : Cascade n ws maxMiterGates k) 
       (λ t. says-refusal why 0 buffer (listVerdict n gs) noRoom 0 (list-short t) (sym e ∙ emit-is ∙ demand-failed _ _ _ _ t))
 
   pub list-good : (t : Totals) (buffer out : List ℤ) → length out ≡ room → emitOutcome n ws (length out) ≡ served t → buffer ≡ emitBuffer n ws out → Delivers (list.Listed t) buffer (listVerdict n gs)
-  unfolding emitBuffer
   list-good t buffer out size o b =
       let e : emitOutcome n ws room ≡ served t = ap (emitOutcome n ws) (sym size) ∙ o in
       either (leb (length (stored cs)) maxWords)
       (λ x.
       let f : t ≡ totals (variablesOf n gs) (length cs) (length (stored cs)) = let g = sym e ∙ emit-is ∙ demand-met _ _ _ _ x in cc in
       let w : t .words ≡ length (stored cs) = ap (λ (y : Totals). y .words) f in
-      let is : buffer ≡ over (stored cs) out = b ∙ ap (λ (x : Outcome Totals). written x (stored cs) out) o in
+      let is : buffer ≡ over (stored cs) out = b ∙ emit-laws .emit-leaves n ws out t o in
       let r : length (stored cs) ≤ maxWords = leb-true (length (stored cs)) maxWords x in
       says-as (list.Listed t) buffer _ _ (list-fits x)
       (record {
@@ -177,7 +169,6 @@ module _ (text : List ℕ) (room : ℕ) (long : room ≡ 3072) where
 
   pub file-read : (lines gates taken : ℕ) (buffer out : List ℕ) → length out ≡ room → readOutcome text (length out) ≡ served (counts lines gates taken) → buffer ≡ readBuffer text out
       → FileRead text lines gates taken buffer
-  unfolding readBuffer
   file-read lines gates taken buffer out size e b =
       let s = read-served text (length out) (counts lines gates taken) e in
       let hs : List Gate = s .cascade in
@@ -185,8 +176,7 @@ module _ (text : List ℕ) (room : ℕ) (long : room ≡ 3072) where
       let r : reading text ≡ served (record { lines = lines; gates = hs; taken = taken }) =
       ap reading (s .starts) ∙ reader .text-read lines hs (s .rest) g
       ∙ ap (λ (t : ℕ). served (record { lines = lines; gates = hs; taken = t })) (sym (s .taken)) in
-      let is : buffer ≡ over (wordsOf hs) out =
-      b ∙ ap₂ (λ (o : Outcome ReadCounts) (p : Outcome Reading). written o (wordsOf (gatesRead p)) out) e r in
+      let is : buffer ≡ over (wordsOf hs) out = b ∙ read-leaves text out (counts lines gates taken) (record { lines = lines; gates = hs; taken = taken }) e r in
       let l : length (wordsOf hs) ≡ 3 * gates = words-length hs ∙ ap (λ (k : ℕ). 3 * k) (sym (s .gates)) in
       let t : take (3 * gates) buffer ≡ wordsOf hs = ap (take (3 * gates)) is ∙ take-at (wordsOf hs) (drop (length (wordsOf hs)) out) (3 * gates) l in
       let few : gates ≤ maxGates = omega (arith, s .gates, g .few) in
