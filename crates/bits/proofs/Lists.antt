@@ -1,14 +1,17 @@
--- The laws of `fold`, of reversed lists, of three elements in a row, and of `over`. Assumes nothing.
+-- The laws of `fold`, of lists in which a number does not stand, of reversed lists, of three elements in a row, and of `over`. Assumes nothing.
 use mathlib.Core.Path.{_≡_, refl, sym, ap, ap₂, _∙_}
+use mathlib.Core.Bool.{Bool, true, not, _&&_}
 use mathlib.Core.List.{List, [], _∷_, _++_, reverse, reverse-cons, append-assoc, append-nil}
 use Prim.Native.Nat.{ℕ, suc, _+_, _-_, _≤_, _<_}
 use native.Mathlib.Nat.{le-of-eq, le-of-lt}
 use native.Mathlib.Numerals.{add-one}
 use native.Mathlib.Omega.{arith}
+use lib.Dec.{eqb}
 use lib.ListN.{length, take, drop, getD, set, length-append, length-drop}
 use lib.Seq.{take-at, drop-at, drop-drop, take-all, drop-length, drop-cons, set-at, append-snoc, take-suc, length-take-le}
 use borrow.Rule.Slice.PartMut.{putMid, post-is}
 use Rattle.bits.specs.Lists.{fold, over}
+use Rattle.bits.proofs.Bools.{and-parts, both}
 
 -- ---- folds
 
@@ -28,6 +31,17 @@ module _ {A S : Type 0} (act : A → S → S) where
       ∙ fold-append (reverse xs) (x ∷ []) (fold act xs (act x s))
       ∙ ap (act x) (fold-back undo xs (act x s))
       ∙ undo x s
+
+-- ---- a number that does not stand in a list
+
+unfoldable pub free : ℕ → List ℕ → Bool
+free s [] = true
+free s (b ∷ bs) = not (eqb b s) && free s bs
+
+pub free-append : (s : ℕ) (f g : List ℕ) → free s f ≡ true → free s g ≡ true → free s (f ++ g) ≡ true
+unfolding free
+free-append s [] g p q = q
+free-append s (b ∷ f) g p q = let (x, y) = and-parts (not (eqb b s)) (free s f) p in both x (free-append s f g y q)
 
 -- ---- reversed lists
 

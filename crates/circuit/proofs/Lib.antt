@@ -1,2 +1,3 @@
--- For the proofs of this crate and of the crates above it: the laws of `specs/Outcome.antt`. Those of each module are in its own folder.
-pub mod Outcome
+-- `lemmas` has what the proofs of this crate share, by module; the crates above name only what `Promises` passes on.
+mod lemmas
+pub mod Promises

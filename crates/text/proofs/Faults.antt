@@ -14,7 +14,7 @@ use Rattle.circuit.specs.Outcome.{Outcome, served, refused}
 use Rattle.circuit.specs.Text.{textOf}
 use Rattle.circuit.specs.File.{Reading, reading}
 use Rattle.circuit.specs.FileLaws.{FileCascade}
-use Rattle.circuit.proofs.file.Laws.{reader}
+use Rattle.circuit.proofs.Promises.{reader}
 use Rattle.checking.specs.Miter.{miterGates}
 use Rattle.checking.specs.Clauses.{clausesOf}
 use Rattle.checking.specs.Stored.{stored}

@@ -15,8 +15,7 @@ use Rattle.circuit.specs.Outcome.{served}
 use Rattle.circuit.specs.Run.{run, Differs}
 use Rattle.circuit.specs.Text.{digit}
 use Rattle.circuit.specs.File.{Reading, reading}
-use Rattle.circuit.proofs.file.Laws.{reader}
-use Rattle.circuit.proofs.Outcome.{demand-met}
+use Rattle.circuit.proofs.Promises.{reader, demand-met}
 use Rattle.text.specs.Dimacs.{thenRead}
 use Rattle.text.specs.Tomiter.{refusalText}
 use Rattle.text.specs.Compare.{fileWords, Files, cascades, faulty, wholeFile, filesOf, differWord, fitOutcome}

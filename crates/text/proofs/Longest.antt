@@ -13,14 +13,12 @@ use Rattle.circuit.specs.declared.gate.Gate.{Gate}
 use Rattle.circuit.specs.Outcome.{served}
 use Rattle.circuit.specs.Run.{run, Differs}
 use Rattle.circuit.specs.FileLaws.{FileRefused}
-use Rattle.circuit.proofs.Outcome.{demand-met}
-use Rattle.circuit.proofs.run.Laws.{run-below}
+use Rattle.circuit.proofs.Promises.{demand-met, run-below}
 use Rattle.checking.specs.Compare.{maxSweepLines, Difference, none, lowest, lowestFrom}
 use Rattle.checking.specs.Compare as sweep
 use Rattle.checking.specs.Clauses.{Clause, clausesOf, variablesOf}
 use Rattle.checking.specs.Stored.{stored}
-use Rattle.checking.proofs.compare.Laws.{sweep-says}
-use Rattle.checking.proofs.clauses.Laws.{clause-laws}
+use Rattle.checking.proofs.Promises.{sweep-says, clause-laws}
 use Rattle.text.specs.Dimacs.{headerText, clausesText, dimacsOf}
 use Rattle.text.specs.Plain.{plainClauses}
 use Rattle.text.specs.Tomiter.{refusalText}

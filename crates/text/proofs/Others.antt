@@ -9,6 +9,7 @@ use lib.Pow.{pow-pos}
 use borrow.Author.Tests.{leb-true}
 use Rattle.bits.specs.Digits.{bit}
 use Rattle.bits.specs.Lists.{fold}
+use Rattle.bits.proofs.Lists.{free}
 use Rattle.circuit.specs.declared.gate.Gate.{Gate}
 use Rattle.circuit.specs.Gate.{controlsBelow}
 use Rattle.circuit.specs.Outcome.{Outcome, served, refused}
@@ -16,8 +17,7 @@ use Rattle.circuit.specs.Run.{run, Equal}
 use Rattle.circuit.specs.Text.{tab, lineFeed, numberText, controlsText, gateLines, textOf}
 use Rattle.circuit.specs.File.{Reading, reading}
 use Rattle.circuit.specs.FileLaws.{FileCascade}
-use Rattle.circuit.proofs.file.Laws.{reader}
-use Rattle.circuit.proofs.file.Lines.{free}
+use Rattle.circuit.proofs.Promises.{reader}
 use Rattle.text.specs.Dimacs.{Dimacs, decimal, numberRead, headerText, clausesText, dimacsRead, partedBy}
 use Rattle.text.specs.Tomiter.{refusalText}
 use Rattle.text.specs.BytesTell.{TextTells}

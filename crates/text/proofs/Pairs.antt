@@ -9,8 +9,7 @@ use Rattle.circuit.specs.declared.gate.Gate.{Gate}
 use Rattle.circuit.specs.Gate.{maxLines, maxMiterGates}
 use Rattle.circuit.specs.Words.{allValid}
 use Rattle.circuit.specs.Inverse.{inverse}
-use Rattle.circuit.proofs.words.Laws.{valid-append}
-use Rattle.circuit.proofs.inverse.Laws.{inverse-valid}
+use Rattle.circuit.proofs.Promises.{valid-append, inverse-valid}
 use Rattle.circuit.specs.FileLaws.{FileCascade}
 use Rattle.checking.specs.Miter.{miterGates}
 

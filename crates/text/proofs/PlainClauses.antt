@@ -9,8 +9,7 @@ use lib.IntN.{ℤ, pos, negsuc, negℤ}
 use Rattle.circuit.specs.declared.gate.Gate.{Gate}
 use Rattle.checking.specs.Clauses.{Clause, OR, XOR}
 use Rattle.checking.specs.Satisfaction.{value, holds, satisfies, variableOf, spelled, LiteralsWithin, clauseLiterals, ClausesWithin, Satisfying, Tells}
-use Rattle.checking.proofs.clauses.Tests.{someTrue, oddTrue, holds-or, holds-xor, value-neg, satisfies-append}
-use Rattle.checking.proofs.clauses.Bounds.{within-append, neg-size}
+use Rattle.checking.proofs.Promises.{someTrue, oddTrue, holds-or, holds-xor, value-neg, satisfies-append, within-append, neg-size}
 use Rattle.text.specs.Plain.{negations, plainClause, plainClauses, AllOr}
 
 -- ---- satisfaction

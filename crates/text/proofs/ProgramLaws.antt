@@ -8,11 +8,11 @@ use lib.Dec.{leb}
 use lib.ListN.{length, take}
 use lib.Seq.{take-at}
 use Rattle.bits.specs.Lists.{over}
+use Rattle.bits.proofs.Lists.{free, free-append}
 use Rattle.circuit.specs.Outcome.{Outcome, served, Untouched, Yields}
-use Rattle.circuit.proofs.Outcome.{demanded, written-served, written-refused}
+use Rattle.circuit.proofs.Promises.{demanded, written-served, written-refused}
 use Rattle.circuit.specs.Refusal.{noRoom}
 use Rattle.circuit.specs.Text.{tab, lineFeed}
-use Rattle.circuit.proofs.file.Lines.{free, free-append}
 use Rattle.text.specs.Dimacs.{decimal, partedBy, numberRead}
 use Rattle.text.specs.Tomiter.{Verdict, listed, refusedAt, verdict, refusedWord, refusalText, verdictText, tomiterText, tomiterOutcome, tomiterBuffer, WritesText}
 use Rattle.text.specs.BytesTell.{StartsProblem, TextTells, BytesTell}

@@ -9,11 +9,11 @@ use lib.Dec.{eqb, ltb}
 use lib.IntN.{ℤ, pos, negsuc}
 use lib.ListN.{length}
 use borrow.Author.Tests.{ne-eqb, not-true, ltb-true, ltb-false}
-use Rattle.bits.proofs.Bools.{either, and-parts, both, cond-true, cond-false, refuted}
+use Rattle.bits.proofs.Bools.{either, and-parts, both, cond-true, cond-false, not-held, refuted}
+use Rattle.bits.proofs.Lists.{free, free-append}
 use Rattle.circuit.specs.Text.{lineFeed, minusSign, digit}
 use Rattle.circuit.specs.File.{longer, isDigit, same}
-use Rattle.circuit.proofs.file.Lines.{free, free-append, longer-some}
-use Rattle.circuit.proofs.file.Numbers.{is-digit}
+use Rattle.circuit.proofs.Promises.{longer-some, same-self, same-true, is-digit}
 use Rattle.checking.specs.Clauses.{Clause, OR, XOR}
 use Rattle.checking.specs.Satisfaction.{variableOf, LiteralsWithin, ClausesWithin}
 use Rattle.text.specs.Dimacs.{blank, xorSign, problemWord, cnfWord, decimalWithin, decimal, literalText, literalsText, clauseText, clausesText, headerText, dimacsOf, partedBy, bothRead, thenRead, digitsRead, numberRead, signedRead, literalRead, literalsRead, clauseRead, linesRead, header, headerRead, headed, readLines, dimacsRead}
@@ -207,8 +207,8 @@ body-next l ls =
     append-assoc (literalText l ++ (blank ∷ [])) (literalsText ls) (48 ∷ []) ∙ append-assoc (literalText l) (blank ∷ []) (literalsText ls ++ (48 ∷ []))
 
 literals-back : (v : ℕ) (ls : List ℤ) → LiteralsWithin v ls → literalsRead (partedBy blank (bodyText ls)) ≡ some ls
-unfolding literalsText partedBy literalsRead same
-literals-back v [] w = refl
+unfolding literalsText partedBy literalsRead
+literals-back v [] w = cond-true (same (48 ∷ []) (48 ∷ [])) (some []) none (same-self (48 ∷ []))
 literals-back v (l ∷ ls) w =
     ap (λ (t : List ℕ). literalsRead (partedBy blank t)) (body-next l ls)
     ∙ ap literalsRead (parts-cut blank (literalText l) (bodyText ls) (literal-free blank l refl refl))
@@ -223,8 +223,9 @@ body-free s (l ∷ ls) n m b =
 
 -- the first byte is no `x`
 or-read : (line : List ℕ) → free xorSign line ≡ true → clauseRead line ≡ thenRead OR (literalsRead (partedBy blank line))
-unfolding clauseRead partedBy literalsRead same free
-or-read [] p = refl
+unfolding clauseRead partedBy literalsRead free
+or-read [] p =
+    sym (ap (thenRead OR) (cond-false (same [] (48 ∷ [])) (some []) none (not-held _ (λ e. mathlib.Core.List.cons≢nil (sym (same-true [] (48 ∷ []) e))))))
 or-read (b ∷ bs) p = let (x, y) = and-parts (not (eqb b xorSign)) (free xorSign bs) p in cond-false (eqb b xorSign) _ _ (not-true (eqb b xorSign) x)
 
 -- a clause's line without its LF
@@ -254,8 +255,8 @@ lines-more l [] h = absurd (h refl)
 lines-more l (k ∷ ls) h = refl
 
 clauses-back : (v : ℕ) (cs : List Clause) → ClausesWithin v cs → linesRead (partedBy lineFeed (clausesText cs)) ≡ some cs
-unfolding clausesText linesRead partedBy same
-clauses-back v [] w = refl
+unfolding clausesText linesRead partedBy
+clauses-back v [] w = cond-true (same [] []) (some []) none (same-self [])
 clauses-back v (c ∷ cs) w =
     ap (λ (t : List ℕ). linesRead (partedBy lineFeed t)) (line-closed c (clausesText cs))
     ∙ ap linesRead (parts-cut lineFeed (lineText c) (clausesText cs) (line-free c))
@@ -287,8 +288,12 @@ header-parts v m =
     (parts-cut blank (decimal v) (decimal m) (decimal-free blank v refl) ∙ ap (λ (fs : List (List ℕ)). decimal v ∷ fs) (parts-one blank (decimal m) (decimal-free blank m refl)))
 
 header-back : (v m : ℕ) → headerRead (partedBy blank (headerLine v m)) ≡ some (header v m)
-unfolding headerRead same
-header-back v m = ap headerRead (header-parts v m) ∙ ap₂ (bothRead header) (number-back v) (number-back m)
+unfolding headerRead
+header-back v m =
+    ap headerRead (header-parts v m)
+    ∙ cond-true (same problemWord problemWord) _ _ (same-self problemWord)
+    ∙ cond-true (same cnfWord cnfWord) _ _ (same-self cnfWord)
+    ∙ ap₂ (bothRead header) (number-back v) (number-back m)
 
 -- ---- the whole text
 

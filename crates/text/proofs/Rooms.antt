@@ -8,7 +8,7 @@ use borrow.Author.Tests.{le-leb, lt-leb}
 use Rattle.circuit.specs.declared.refusal.Refusal.{Refusal}
 use Rattle.circuit.specs.Outcome.{Outcome, served, refused, written, Yields}
 use Rattle.circuit.specs.Refusal.{refusal, noRoom}
-use Rattle.circuit.proofs.Outcome.{demand-met, demand-failed, told, why}
+use Rattle.circuit.proofs.Promises.{demand-met, demand-failed, told, why}
 use Rattle.text.specs.declared.comparison.ComparedAnswer.{ComparedAnswer}
 use Rattle.text.specs.Compare.{maxList, fileWords, miterWords, comparison, comparisonText, compareText, fitOutcome, fitBuffer, Rooms, compareOutcome, compareBuffer}
 use Rattle.text.specs.private.Comparing.{ofCompared, SaysCompared}

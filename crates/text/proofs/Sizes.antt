@@ -15,12 +15,12 @@ use Rattle.circuit.specs.Text.{tab, lineFeed, digit}
 use Rattle.circuit.specs.File.{Line, Reading, reading}
 use Rattle.circuit.specs.FileLaws.{FileCascade, HeaderOffence, no-lines, no-number, outside, ControlsOffence, form, value, later, LineOffence, no-gate, many, target-form, target-value, controls, controlled, not-rising, FileRefused, header-line, later-line}
 use Rattle.circuit.specs.FileLaws as laws
-use Rattle.circuit.proofs.file.Laws.{reader}
+use Rattle.circuit.proofs.Promises.{reader}
 use Rattle.checking.specs.Miter.{miterGates}
 use Rattle.checking.specs.Clauses.{Clause, OR, XOR, clausesOf}
 use Rattle.checking.specs.Satisfaction.{variableOf, LiteralsWithin, clauseLiterals, ClausesWithin}
 use Rattle.checking.specs.Stored.{storedClause, stored}
-use Rattle.checking.proofs.clauses.Laws.{clause-laws}
+use Rattle.checking.proofs.Promises.{clause-laws, stored-next}
 use Rattle.text.specs.Dimacs.{blank, decimal, literalText, literalsText, closing, clauseText, clausesText, headerText, dimacsOf}
 use Rattle.text.specs.Tomiter.{maxInput, maxWords, maxText, Verdict, listed, refusedAt, ofFile, listVerdict, pairVerdict, secondVerdict, verdict, refusalText, verdictText, tomiterText, tomiterOutcome}
 use Rattle.text.proofs.Decimal.{decimal-few}
@@ -44,16 +44,15 @@ clause-few v (OR ls) h w = omega (arith, literals-few v ls h w, length-append (l
 clause-few v (XOR ls) h w = omega (arith, literals-few v ls h w, length-append (literalsText ls) closing)
 
 clauses-few : (v : ℕ) (cs : List Clause) → v ≤ 4224 → ClausesWithin v cs → length (clausesText cs) ≤ 6 * length (stored cs)
-unfolding clausesText stored
+unfolding clausesText
 clauses-few v [] h w = omega arith
 clauses-few v (c ∷ cs) h w =
-    omega (arith, clause-few v c h (w .0), clauses-few v cs h (w .1), length-append (clauseText c) (clausesText cs), length-append (storedClause c) (stored cs))
+    omega (arith, clause-few v c h (w .0), clauses-few v cs h (w .1), length-append (clauseText c) (clausesText cs), ap length (stored-next c cs), length-append (storedClause c) (stored cs))
 
 pub count-few : (cs : List Clause) → length cs ≤ length (stored cs)
-unfolding stored
 count-few [] = omega arith
-count-few (OR ls ∷ cs) = omega (arith, count-few cs, length-append ls (stored cs))
-count-few (XOR ls ∷ cs) = omega (arith, count-few cs, length-append ls (stored cs))
+count-few (OR ls ∷ cs) = omega (arith, count-few cs, ap length (stored-next (OR ls) cs), length-append ls (stored cs))
+count-few (XOR ls ∷ cs) = omega (arith, count-few cs, ap length (stored-next (XOR ls) cs), length-append ls (stored cs))
 
 header-few : (v m : ℕ) → v ≤ 4224 → m ≤ maxWords → length (headerText v m) ≤ 17
 unfolding headerText

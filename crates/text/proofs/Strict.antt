@@ -11,8 +11,7 @@ use borrow.Author.Tests.{eqb-true, eqb-false}
 use Rattle.bits.proofs.Bools.{either, cond-true, cond-false}
 use Rattle.circuit.specs.Text.{lineFeed, minusSign, digit}
 use Rattle.circuit.specs.File.{longer, isDigit, same}
-use Rattle.circuit.proofs.file.Lines.{same-true}
-use Rattle.circuit.proofs.file.Numbers.{digit-bounds}
+use Rattle.circuit.proofs.Promises.{same-true, digit-bounds}
 use Rattle.checking.specs.Clauses.{Clause, OR, XOR}
 use Rattle.text.specs.Dimacs.{blank, xorSign, problemWord, cnfWord, decimal, literalText, literalsText, clausesText, headerText, partedBy, bothRead, thenRead, digitsRead, numberRead, signedRead, literalRead, literalsRead, clauseRead, linesRead, Dimacs, Header, header, headerRead, headed, readLines, dimacsRead}
 use Rattle.text.proofs.Decimal.{decimal-short, decimal-long}

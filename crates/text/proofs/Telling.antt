@@ -8,21 +8,18 @@ use lib.Dec.{eqb, leb}
 use lib.ListN.{length, drop, take-append-drop}
 use lib.Seq.{take-all, drop-append-seam}
 use borrow.Author.Tests.{eq-eqb, eqb-true, le-leb, leb-true}
-use Rattle.bits.specs.Lists.{fold}
 use Rattle.bits.proofs.Bools.{cond-true}
 use Rattle.circuit.specs.declared.gate.Gate.{Gate}
 use Rattle.circuit.specs.Outcome.{Outcome, served, refused}
 use Rattle.circuit.specs.Text.{textOf}
 use Rattle.circuit.specs.File.{Reading, reading}
 use Rattle.circuit.specs.FileLaws.{FileCascade}
-use Rattle.circuit.proofs.file.Laws.{reader}
+use Rattle.circuit.proofs.Promises.{reader, run-none}
 use Rattle.checking.specs.Miter.{miterGates}
 use Rattle.checking.specs.Clauses.{Clause, clausesOf, variablesOf}
 use Rattle.checking.specs.Satisfaction.{Tells}
 use Rattle.checking.specs.Stored.{stored}
-use Rattle.checking.proofs.miter.Laws.{miter-laws}
-use Rattle.checking.proofs.clauses.Laws.{clause-laws}
-use Rattle.checking.proofs.clauses.Meaning.{tells-same}
+use Rattle.checking.proofs.Promises.{miter-laws, clause-laws, tells-same}
 use Rattle.text.specs.Dimacs.{headerText, dimacsOf, dimacsRead}
 use Rattle.text.specs.Tomiter.{maxInput, maxWords, Verdict, listed, refusedAt, unless, ofFile, listVerdict, pairVerdict, secondVerdict, verdict, refusalText, verdictText, tomiterText}
 use Rattle.text.specs.BytesTell.{StartsProblem, TextTells}
@@ -63,10 +60,10 @@ module _ (input : List ℕ) (n : ℕ) (a b : List Gate) (f : Fitting input n a b
 
   -- the clauses tell on which states the two cascades differ
   pub fitting-tells : Tells n (variablesOf n gs) (clausesOf n gs) a b
-  unfolding fold
   fitting-tells =
       let g = listable n a b (f .first) (f .second) in
-      tells-same n (variablesOf n gs) (clausesOf n gs) gs [] a b (λ x. miter-laws .identity a b x)
+      tells-same n (variablesOf n gs) (clausesOf n gs) gs [] a b
+      (λ x. let m = miter-laws .identity a b x in ((λ e. m .0 (e ∙ run-none x)), (λ e. m .1 e ∙ sym (run-none x))))
       (clause-laws .list-tells n gs (g .lines) (g .valid))
 
 -- ---- a text that starts `p cnf`

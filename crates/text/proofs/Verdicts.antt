@@ -19,8 +19,7 @@ use Rattle.circuit.specs.Run.{run, Equal, Differs}
 use Rattle.circuit.specs.Text.{textOf}
 use Rattle.circuit.specs.File.{Reading, reading}
 use Rattle.circuit.specs.FileLaws.{FileCascade, FileRefused}
-use Rattle.circuit.proofs.file.Laws.{reader}
-use Rattle.circuit.proofs.words.Laws.{valid-all-more}
+use Rattle.circuit.proofs.Promises.{reader, valid-all-more}
 use Rattle.checking.specs.Miter.{miterGates}
 use Rattle.checking.specs.StepLaws.{Keeps}
 use Rattle.checking.specs.Reduce.{reduceGates}
@@ -29,11 +28,7 @@ use Rattle.checking.specs.Compare as sweep
 use Rattle.checking.specs.Clauses.{Clause, clausesOf, variablesOf}
 use Rattle.checking.specs.Satisfaction.{Tells}
 use Rattle.checking.specs.Stored.{stored}
-use Rattle.checking.proofs.miter.Laws.{miter-laws}
-use Rattle.checking.proofs.reduce.Relation.{reduce-laws}
-use Rattle.checking.proofs.compare.Laws.{sweep-says}
-use Rattle.checking.proofs.clauses.Laws.{clause-laws}
-use Rattle.checking.proofs.clauses.Meaning.{tells-same}
+use Rattle.checking.proofs.Promises.{miter-laws, reduce-laws, sweep-says, clause-laws, tells-same}
 use Rattle.text.specs.Dimacs.{Dimacs, dimacsOf, dimacsRead}
 use Rattle.text.specs.Plain.{plainClauses}
 use Rattle.text.specs.BytesTell.{TextTells}

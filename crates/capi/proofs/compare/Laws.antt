@@ -11,8 +11,8 @@ use Rattle.bits.proofs.Bools.{either, cond-true, cond-false}
 use Rattle.circuit.specs.Gate.{maxGates}
 use Rattle.circuit.specs.Outcome.{Outcome, served, refused}
 use Rattle.circuit.specs.Words.{Counts, Cascade, pairOutcome}
-use Rattle.circuit.proofs.Outcome.{then-both, then-fails}
-use Rattle.circuit.proofs.words.Laws.{pair-served}
+use Rattle.circuit.proofs.Promises.{pair-served}
+use Rattle.checking.proofs.Promises.{refused-pick, made-pick}
 use Rattle.checking.specs.Compare.{picked, pickOutcome}
 use Rattle.capi.specs.declared.compare.CascadeFewerAnswer.{CascadeFewerAnswer}
 use Rattle.capi.specs.Compare.{fewerAnswer}
@@ -23,12 +23,7 @@ answer second gates = record { number = 0; place = 0; second = second; gates = g
 module _ (na : ℕ) (a : List ℕ) (nb : ℕ) (b : List ℕ) where
   pub fewer-refused : (number place : ℕ) → pickOutcome na a nb b ≡ refused number place
       → record { number = number; place = place; second = 0; gates = 0 } ≡ fewerAnswer (pairOutcome na a nb b)
-  unfolding pickOutcome
-  fewer-refused number place e = sym (ap fewerAnswer (then-fails (pairOutcome na a nb b) (λ counts. tt) number place e))
-
-  counted : pickOutcome na a nb b ≡ served tt → (counts : Counts) × (pairOutcome na a nb b ≡ served counts)
-  unfolding pickOutcome
-  counted e = let (counts, p, q) = then-both (pairOutcome na a nb b) _ tt e in (counts, p)
+  fewer-refused number place e = sym (ap fewerAnswer (refused-pick na a nb b number place e))
 
   -- the one that was picked, by its words
   module _ (counts : Counts) (p : pairOutcome na a nb b ≡ served counts) (words : List ℕ) (w : words ≡ picked (pairOutcome na a nb b) a b []) where
@@ -67,8 +62,8 @@ module _ (na : ℕ) (a : List ℕ) (nb : ℕ) (b : List ℕ) where
 
   pub fewer-second : (words : List ℕ) → pickOutcome na a nb b ≡ served tt → words ≡ picked (pairOutcome na a nb b) a b [] → length words < length a
       → answer 1 (length words / 3) ≡ fewerAnswer (pairOutcome na a nb b)
-  fewer-second words e w h = let (counts, p) = counted e in shorter counts p words w h
+  fewer-second words e w h = let (counts, p) = made-pick na a nb b e in shorter counts p words w h
 
   pub fewer-first : (words : List ℕ) → pickOutcome na a nb b ≡ served tt → words ≡ picked (pairOutcome na a nb b) a b [] → length a ≤ length words
       → answer 0 (length words / 3) ≡ fewerAnswer (pairOutcome na a nb b)
-  fewer-first words e w h = let (counts, p) = counted e in as-long counts p words w h
+  fewer-first words e w h = let (counts, p) = made-pick na a nb b e in as-long counts p words w h

@@ -1,14 +1,14 @@
 -- `checking::laws` meets its contract: the record of the laws. Assumes nothing.
-use Rattle.checking.proofs.miter.Laws.{miter-laws}
-use Rattle.checking.proofs.step.Laws.{step-laws}
-use Rattle.checking.proofs.reduce.Relation.{reduce-laws}
-use Rattle.checking.proofs.StandIns.{stand-in-laws}
-use Rattle.checking.proofs.clauses.Laws.{clause-laws}
-use Rattle.checking.proofs.EqualityLaws.{equality-laws}
-use Rattle.checking.proofs.clauses.Answers.{emit-laws}
-use Rattle.checking.proofs.Rows.{row-laws}
-use Rattle.checking.proofs.faults.Refusals.{refusal-laws}
-use Rattle.checking.proofs.faults.StandIns.{fault-laws}
+use Rattle.checking.proofs.lemmas.miter.Laws.{miter-laws}
+use Rattle.checking.proofs.lemmas.step.Laws.{step-laws}
+use Rattle.checking.proofs.lemmas.reduce.Relation.{reduce-laws}
+use Rattle.checking.proofs.lemmas.StandIns.{stand-in-laws}
+use Rattle.checking.proofs.lemmas.clauses.Laws.{clause-laws}
+use Rattle.checking.proofs.lemmas.EqualityLaws.{equality-laws}
+use Rattle.checking.proofs.lemmas.clauses.Answers.{emit-laws}
+use Rattle.checking.proofs.lemmas.Rows.{row-laws}
+use Rattle.checking.proofs.lemmas.faults.Refusals.{refusal-laws}
+use Rattle.checking.proofs.lemmas.faults.StandIns.{fault-laws}
 use Rattle.checking.proofs.laws.Statement.{statement}
 use Rattle.checking.proofs.laws.Tie as tie
 

@@ -1,12 +1,12 @@
 -- `circuit::laws` meets its contract: the record of the laws. Assumes nothing.
-use Rattle.circuit.proofs.gate.Laws.{fires-lines, lines-fires, valid-by-lines, lines-valid, valid-more, apply-bit, apply-none, apply-not, toggled-apply, apply-twice, apply-below, count-lines}
-use Rattle.circuit.proofs.gate.Controls.{controls-count, controls-fire}
-use Rattle.circuit.proofs.words.Laws.{gates-words, words-gates, check-served, served-check, check-refused, refused-check, pair-served, served-pair, pair-refused}
-use Rattle.circuit.proofs.run.Laws.{run-append, run-tested, run-below, equal-differs, run-refused, run-served, served-run}
-use Rattle.circuit.proofs.run.Records.{records-words, records-served, served-records, records-fault, fault-records}
-use Rattle.circuit.proofs.inverse.Laws.{run-inverse, inverse-run, inverse-append, inverse-twice, inverse-valid, refused-exactly, inverse-served, served-inverse, inverse-stands, inverse-untouched}
-use Rattle.circuit.proofs.file.Laws.{reader, read-served, served-read, read-refused, write-served, served-write, write-refused, refuses-all}
-use Rattle.circuit.proofs.file.RoundTrip.{round-trip, idle-reading, idle-writing}
+use Rattle.circuit.proofs.lemmas.gate.Laws.{fires-lines, lines-fires, valid-by-lines, lines-valid, valid-more, apply-bit, apply-none, apply-not, toggled-apply, apply-twice, apply-below, count-lines}
+use Rattle.circuit.proofs.lemmas.gate.Controls.{controls-count, controls-fire}
+use Rattle.circuit.proofs.lemmas.words.Laws.{gates-words, words-gates, check-served, served-check, check-refused, refused-check, pair-served, served-pair, pair-refused}
+use Rattle.circuit.proofs.lemmas.run.Laws.{run-append, run-tested, run-below, equal-differs, run-refused, run-served, served-run}
+use Rattle.circuit.proofs.lemmas.run.Records.{records-words, records-served, served-records, records-fault, fault-records}
+use Rattle.circuit.proofs.lemmas.inverse.Laws.{run-inverse, inverse-run, inverse-append, inverse-twice, inverse-valid, refused-exactly, inverse-served, served-inverse, inverse-stands, inverse-untouched}
+use Rattle.circuit.proofs.lemmas.file.Laws.{reader, read-served, served-read, read-refused, write-served, served-write, write-refused, refuses-all}
+use Rattle.circuit.proofs.lemmas.file.RoundTrip.{round-trip, idle-reading, idle-writing}
 use Rattle.circuit.proofs.laws.Statement.{statement}
 use Rattle.circuit.proofs.laws.Tie as tie
 

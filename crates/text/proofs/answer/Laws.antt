@@ -11,7 +11,7 @@ use Rattle.circuit.specs.Outcome.{Outcome, served, refused, Yields}
 use Rattle.circuit.specs.Refusal.{refusal, noRoom}
 use Rattle.circuit.specs.private.Put.{Put}
 use Rattle.circuit.specs.Text.{tab, lineFeed}
-use Rattle.circuit.proofs.Outcome.{demand-met, demand-failed, told, why}
+use Rattle.circuit.proofs.Promises.{demand-met, demand-failed, told, why}
 use Rattle.text.specs.Dimacs.{blank, decimal, headerText}
 use Rattle.text.specs.Tomiter.{refusalText}
 use Rattle.text.specs.Compare.{differText, comparisonText, fitOutcome, fitBuffer}

@@ -17,8 +17,7 @@ use Rattle.circuit.specs.Outcome.{Outcome, served, refused}
 use Rattle.circuit.specs.Refusal.{refusal, noRoom}
 use Rattle.circuit.specs.Words.{gatesOf, allValid, Cascade}
 use Rattle.circuit.specs.Run.{run}
-use Rattle.circuit.proofs.Outcome.{never, demand-met, demand-failed}
-use Rattle.circuit.proofs.words.Laws.{gates-length, served-pair}
+use Rattle.circuit.proofs.Promises.{never, demand-met, demand-failed, gates-length, served-pair}
 use Rattle.checking.specs.declared.clauses.Totals.{Totals}
 use Rattle.checking.specs.Miter.{miterGates}
 use Rattle.checking.specs.Reduce.{Reduced, reduceGates, numbered, reduceOutcome, reduceBuffer}
@@ -27,9 +26,7 @@ use Rattle.checking.specs.Clauses.{Clause, OR, XOR, inputOf, moved, usedBy, lit
 use Rattle.checking.specs.Satisfaction.{variableOf, LiteralsWithin, clauseLiterals, ClausesWithin}
 use Rattle.checking.specs.Stored.{stored}
 use Rattle.checking.specs.Emit.{emitOutcome, emitBuffer}
-use Rattle.checking.proofs.reduce.Relation.{reduce-laws}
-use Rattle.checking.proofs.compare.Laws.{difference-made}
-use Rattle.checking.proofs.clauses.Laws.{clause-laws}
+use Rattle.checking.proofs.Promises.{reduce-laws, difference-made, clause-laws}
 use Rattle.text.specs.declared.comparison.ComparedAnswer.{ComparedAnswer}
 use Rattle.text.specs.declared.comparison.ComparedAnswer.the-variants as answer
 use Rattle.text.specs.declared.pair.FilesAnswer.the-variants as files

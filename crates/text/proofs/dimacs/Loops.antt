@@ -9,11 +9,11 @@ use lib.ListN.{length, take, drop, getD, length-append, length-drop, drop-of-len
 use lib.Seq.{drop-cons, drop-drop, getD-drop, take-append-seam, drop-append-seam}
 use borrow.Rule.Slice.PartMut.{putMid}
 use Rattle.circuit.specs.private.Put.{Put}
-use Rattle.circuit.proofs.file.put.Laws.{Written, written-none, written-more, written-put, put-as}
+use Rattle.circuit.proofs.Promises.{Written, written-none, written-more, written-put, put-as}
 use Rattle.checking.specs.Clauses.{Clause, OR, XOR}
 use Rattle.checking.specs.Satisfaction.{clauseLiterals}
 use Rattle.checking.specs.Stored.{stored, clausesIn}
-use Rattle.checking.proofs.clauses.Reading.{read-back}
+use Rattle.checking.proofs.Promises.{read-back, stored-none, stored-next}
 use Rattle.text.specs.Dimacs.{blank, literalText, literalsText, clauseText, clausesText}
 use Rattle.text.specs.private.Words.{recordText, readText, wordsText, Stores}
 
@@ -109,10 +109,11 @@ pub record Next (ws : List ℤ) (i : ℕ) (cs : List Clause) : Type 0 where
   pub at-place : Record ws i (kindOf clause) (pos (length (clauseLiterals clause))) (clauseLiterals clause) (stored later)
 
 pub next : (ws : List ℤ) (i : ℕ) (cs : List Clause) → drop i ws ≡ stored cs → i < length ws → Next ws i cs
-unfolding stored
-next ws i [] e h = absurd (omega (arith, ap length e, length-drop i ws))
-next ws i (OR ls ∷ cs) e h = record { clause = OR ls; later = cs; is = refl; at-place = record-at ws i (pos 0) (pos (length ls)) ls (stored cs) e }
-next ws i (XOR ls ∷ cs) e h = record { clause = XOR ls; later = cs; is = refl; at-place = record-at ws i (pos 1) (pos (length ls)) ls (stored cs) e }
+next ws i [] e h = absurd (omega (arith, ap length (e ∙ stored-none), length-drop i ws))
+next ws i (OR ls ∷ cs) e h =
+    record { clause = OR ls; later = cs; is = refl; at-place = record-at ws i (pos 0) (pos (length ls)) ls (stored cs) (e ∙ stored-next (OR ls) cs) }
+next ws i (XOR ls ∷ cs) e h =
+    record { clause = XOR ls; later = cs; is = refl; at-place = record-at ws i (pos 1) (pos (length ls)) ls (stored cs) (e ∙ stored-next (XOR ls) cs) }
 
 pub record-text : (c : Clause) → recordText (kindOf c) (clauseLiterals c) ≡ clauseText c
 record-text (OR ls) = refl
@@ -190,14 +191,14 @@ module _ (ws : List ℤ) (first out : List ℕ) (at i : ℕ) (t : Listing ws fir
           }
 
 -- nothing is stored in no words
-stored-none : (cs : List Clause) → length (stored cs) ≡ 0 → clausesText cs ≡ []
-unfolding stored clausesText
-stored-none [] e = refl
-stored-none (OR ls ∷ cs) e = absurd (omega arith)
-stored-none (XOR ls ∷ cs) e = absurd (omega arith)
+none-stored : (cs : List Clause) → length (stored cs) ≡ 0 → clausesText cs ≡ []
+unfolding clausesText
+none-stored [] e = refl
+none-stored (OR ls ∷ cs) e = absurd (omega (arith, ap length (stored-next (OR ls) cs)))
+none-stored (XOR ls ∷ cs) e = absurd (omega (arith, ap length (stored-next (XOR ls) cs)))
 
 pub listing-done : (ws : List ℤ) (first out : List ℕ) (at i : ℕ) → Listing ws first out at i → length ws ≤ i → Put at out (wordsText ws) first
 listing-done ws first out at i t h =
-    let e = stored-none (t .clauses) (sym (ap length (t .words)) ∙ length-drop i ws ∙ omega arith) in
+    let e = none-stored (t .clauses) (sym (ap length (t .words)) ∙ length-drop i ws ∙ omega arith) in
     put-as _ _ _ _ _ (sym (append-nil (t .front)) ∙ ap (λ (l : List ℕ). t .front ++ l) (sym e) ∙ t .left)
     (written-put _ _ _ _ (t .filled))

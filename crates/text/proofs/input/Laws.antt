@@ -18,7 +18,7 @@ use Rattle.bits.proofs.Lists.{over-prefix}
 use Rattle.circuit.specs.declared.refusal.Refusal.{Refusal}
 use Rattle.circuit.specs.Outcome.{Outcome, refused, written, Yields}
 use Rattle.circuit.specs.Refusal.{refusal, noRoom}
-use Rattle.circuit.proofs.Outcome.{demand-met, demand-failed, told, why}
+use Rattle.circuit.proofs.Promises.{demand-met, demand-failed, told, why}
 use Rattle.circuit.specs.Words.{gatesOf}
 use Rattle.circuit.specs.private.Put.{Put}
 use Rattle.circuit.specs.Text.{tab, lineFeed, digit}

@@ -18,20 +18,17 @@ use Rattle.circuit.specs.Gate.{maxGates, maxMiterGates}
 use Rattle.circuit.specs.Outcome.{Outcome, served, refused, demand, andThen, before, then, fails, written}
 use Rattle.circuit.specs.Refusal.{wrongForm, lineCountsDiffer, noRoom}
 use Rattle.circuit.specs.Words.{gatesOf, wordsOf, Cascade}
-use Rattle.circuit.proofs.Outcome.{never, demand-met, demand-failed, then-served}
-use Rattle.circuit.proofs.words.Laws.{gates-words, words-length, served-check, pair-refused}
+use Rattle.circuit.proofs.Promises.{never, demand-met, demand-failed, then-served, gates-words, words-length, served-check, pair-refused, reader, read-served, read-refused, read-leaves}
 use Rattle.circuit.specs.Text.{textOf}
 use Rattle.circuit.specs.File.{Reading, reading, ReadCounts, gatesRead, readOutcome, readBuffer}
 use Rattle.circuit.specs.FileLaws.{ReadRefused}
-use Rattle.circuit.proofs.file.Laws.{reader, read-served, read-refused}
 use Rattle.checking.specs.declared.clauses.Totals.{Totals}
 use Rattle.checking.specs.Miter.{miterGates, miterOutcome, miterBuffer}
 use Rattle.checking.specs.Clauses.{Clause, clausesOf, variablesOf}
 use Rattle.checking.specs.Stored.{stored}
-use Rattle.checking.specs.Sizes.{totals, sizesOf, sizesOutcome}
+use Rattle.checking.specs.Sizes.{totals}
 use Rattle.checking.specs.Emit.{emitOutcome, emitBuffer}
-use Rattle.checking.proofs.miter.Laws.{miter-laws, miter-refused}
-use Rattle.checking.proofs.clauses.Laws.{clause-laws}
+use Rattle.checking.proofs.Promises.{miter-laws, miter-refused, emit-laws, emit-cascade}
 use Rattle.text.specs.declared.list.ListAnswer.{ListAnswer}
 use Rattle.text.specs.declared.list.ListAnswer.the-variants as list
 use Rattle.text.specs.Tomiter.{maxInput, maxWords, Verdict, listed, refusedAt, ofFile, listVerdict, pairVerdict, secondVerdict, verdict}
@@ -59,25 +56,18 @@ module _ (n : ℕ) (ws : List ℕ) (k : ℕ) (c : Cascade n ws maxMiterGates k) 
   abbrev cs : List Clause
   cs = clausesOf n gs
 
-  sums : sizesOf n gs ≡ totals (variablesOf n gs) (length cs) (length (stored cs))
-  sums = clause-laws .sizes-list n gs (c .lines-high) (c .gates)
-
   pub emit-is : (room : ℕ)
       → emitOutcome n ws room ≡ demand (leb (length (stored cs)) room) noRoom 0 (served (totals (variablesOf n gs) (length cs) (length (stored cs))))
-  unfolding emitOutcome sizesOutcome
-  emit-is room =
-      ap (λ (o : Outcome Totals). andThen o (λ t. demand (leb (t .words) room) noRoom 0 (served t))) (then-served _ _ k (served-check n ws maxMiterGates k c))
-      ∙ ap (λ (t : Totals). demand (leb (t .words) room) noRoom 0 (served t)) sums
+  emit-is room = emit-cascade n ws k c room
 
   -- a served emission: its totals, and the list at the buffer's start
   pub emit-stands : (t : Totals) (buffer out : List ℤ) → emitOutcome n ws (length out) ≡ served t → buffer ≡ emitBuffer n ws out → ListStands t buffer (variablesOf n gs) cs
-  unfolding emitBuffer
   emit-stands t buffer out o b =
       either (leb (length (stored cs)) (length out))
       (λ x.
       let f : t ≡ totals (variablesOf n gs) (length cs) (length (stored cs)) = let g = sym o ∙ emit-is (length out) ∙ demand-met _ _ _ _ x in cc in
       let w : t .words ≡ length (stored cs) = ap (λ (y : Totals). y .words) f in
-      let is : buffer ≡ over (stored cs) out = b ∙ ap (λ (x : Outcome Totals). written x (stored cs) out) o in
+      let is : buffer ≡ over (stored cs) out = b ∙ emit-laws .emit-leaves n ws out t o in
       let r : length (stored cs) ≤ length out = leb-true (length (stored cs)) (length out) x in
       record {
         variables-are = ap (λ (y : Totals). y .variables) f;
@@ -190,7 +180,6 @@ module _ (text : List ℕ) (room : ℕ) (long : 3072 ≤ room) where
 
   pub file-read : (lines gates taken : ℕ) (buffer out : List ℕ) → length out ≡ room → readOutcome text (length out) ≡ served (counts lines gates taken) → buffer ≡ readBuffer text out
       → FileRead text lines gates taken buffer
-  unfolding readBuffer
   file-read lines gates taken buffer out size e b =
       let s = read-served text (length out) (counts lines gates taken) e in
       let hs : List Gate = s .cascade in
@@ -198,8 +187,7 @@ module _ (text : List ℕ) (room : ℕ) (long : 3072 ≤ room) where
       let r : reading text ≡ served (record { lines = lines; gates = hs; taken = taken }) =
       ap reading (s .starts) ∙ reader .text-read lines hs (s .rest) g
       ∙ ap (λ (t : ℕ). served (record { lines = lines; gates = hs; taken = t })) (sym (s .taken)) in
-      let is : buffer ≡ over (wordsOf hs) out =
-      b ∙ ap₂ (λ (o : Outcome ReadCounts) (p : Outcome Reading). written o (wordsOf (gatesRead p)) out) e r in
+      let is : buffer ≡ over (wordsOf hs) out = b ∙ read-leaves text out (counts lines gates taken) (record { lines = lines; gates = hs; taken = taken }) e r in
       let l : length (wordsOf hs) ≡ 3 * gates = words-length hs ∙ ap (λ (k : ℕ). 3 * k) (sym (s .gates)) in
       let t : take (3 * gates) buffer ≡ wordsOf hs = ap (take (3 * gates)) is ∙ take-at (wordsOf hs) (drop (length (wordsOf hs)) out) (3 * gates) l in
       let few : gates ≤ maxGates = omega (arith, s .gates, g .few) in

@@ -12,7 +12,7 @@ use Rattle.circuit.specs.Outcome.{Outcome, served, refused}
 use Rattle.circuit.specs.Refusal.{refusal, wrongForm, lineCountsDiffer, noRoom}
 use Rattle.circuit.specs.Words.{gatesOf}
 use Rattle.circuit.specs.File.{Reading, reading}
-use Rattle.circuit.proofs.Outcome.{demand-met, demand-failed, then-served, then-refused}
+use Rattle.circuit.proofs.Promises.{demand-met, demand-failed, then-served, then-refused}
 use Rattle.text.specs.declared.pair.WholeAnswer.{WholeAnswer}
 use Rattle.text.specs.declared.pair.WholeAnswer.the-variants as whole
 use Rattle.text.specs.declared.pair.FilesAnswer.{FilesAnswer}

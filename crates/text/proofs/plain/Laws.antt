@@ -13,12 +13,11 @@ use mir.Val.{SFits, toZ, ofZ}
 use mir.ValLaws.{toZ-ofZ}
 use borrow.Rule.Slice.PartMut.{putMid}
 use Rattle.circuit.specs.private.Put.{Put}
-use Rattle.circuit.proofs.file.put.Laws.{Written, written-none, written-more, written-put, put-as}
+use Rattle.circuit.proofs.Promises.{Written, written-none, written-more, written-put, put-as}
 use Rattle.checking.specs.Clauses.{Clause, OR, XOR}
 use Rattle.checking.specs.Satisfaction.{variableOf, LiteralsWithin, clauseLiterals, ClausesWithin}
 use Rattle.checking.specs.Stored.{wordLimit, storedClause, stored, clausesIn}
-use Rattle.checking.proofs.clauses.Bounds.{neg-size}
-use Rattle.checking.proofs.clauses.Reading.{read-back}
+use Rattle.checking.proofs.Promises.{neg-size, read-back}
 use Rattle.text.specs.declared.plain.PlainSizes.{PlainSizes}
 use Rattle.text.specs.Dimacs.{blank, decimal, literalText, literalsText, closing, clauseText, clausesText}
 use Rattle.text.specs.Plain.{negations, plainClause, plainClauses}

@@ -9,7 +9,7 @@ use borrow.Author.Tests.{le-leb, lt-leb}
 use Rattle.circuit.specs.declared.refusal.Refusal.{Refusal}
 use Rattle.circuit.specs.Outcome.{Outcome, served, refused, written}
 use Rattle.circuit.specs.Refusal.{noRoom}
-use Rattle.circuit.proofs.Outcome.{demand-met, demand-failed, told}
+use Rattle.circuit.proofs.Promises.{demand-met, demand-failed, told}
 use Rattle.circuit.specs.private.Put.{Put}
 use Rattle.checking.specs.declared.clauses.Totals.{Totals}
 use Rattle.text.specs.declared.list.ListAnswer.the-variants as list

@@ -6,7 +6,7 @@ use native.Mathlib.Omega.{arith}
 use lib.ListN.{length, take, drop}
 use borrow.Rule.Slice.PartMut.{putMid}
 use Rattle.circuit.specs.private.Put.{Put}
-use Rattle.circuit.proofs.file.put.Laws.{Written, written-first, written-more, written-put}
+use Rattle.circuit.proofs.Promises.{Written, written-first, written-more, written-put}
 
 -- nothing was written
 pub put-none : (out : List ℕ) → Put 0 out [] out

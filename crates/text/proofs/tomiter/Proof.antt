@@ -8,7 +8,7 @@ use lib.Seq.{length-take-le}
 use Rattle.bits.specs.Lists.{over}
 use Rattle.circuit.specs.Outcome.{served, refused}
 use Rattle.circuit.specs.Refusal.{noRoom}
-use Rattle.circuit.proofs.Outcome.{why}
+use Rattle.circuit.proofs.Promises.{why}
 use Rattle.text.specs.Tomiter.{tomiterText}
 use Rattle.text.proofs.Sizes.{room-enough}
 use Rattle.text.proofs.program.Laws.{short, fits, call-told, made}

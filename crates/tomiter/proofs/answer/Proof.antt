@@ -4,7 +4,7 @@ use mathlib.Core.List.{List}
 use Prim.Native.Nat.{ℕ, _≤_}
 use lib.ListN.{length}
 use Rattle.circuit.specs.Outcome.{Outcome, served, written}
-use Rattle.circuit.proofs.Outcome.{never}
+use Rattle.circuit.proofs.Promises.{never}
 use Rattle.circuit.specs.private.Put.{Put}
 use Rattle.text.specs.Tomiter.{maxText, tomiterText, tomiterOutcome, tomiterBuffer}
 use Rattle.text.specs.Answers.{ofText}

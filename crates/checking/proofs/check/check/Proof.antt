@@ -10,7 +10,7 @@ use Rattle.circuit.specs.Outcome.{served, Yields}
 use Rattle.circuit.specs.Words.{ofCount}
 use Rattle.checking.specs.Miter.{miterOutcome}
 use Rattle.checking.specs.Check.{Held, callsOf, calledAll, held}
-use Rattle.checking.proofs.check.Claim.{miter-room, held-few, held-room, check-refused, check-served}
+use Rattle.checking.proofs.lemmas.check.Claim.{miter-room, held-few, held-room, check-refused, check-served}
 use Rattle.checking.proofs.check.check.Statement.{statement}
 use Rattle.checking.proofs.check.check.Tie as tie
 

@@ -6,7 +6,7 @@ use lib.Seq.{length-take-le}
 use borrow.Author.Needs.{needs}
 use Rattle.checking.specs.Step.{ofStep}
 use Rattle.checking.specs.Reduce.{ofReduce}
-use Rattle.checking.proofs.check.Laws.{step-called, reduce-called}
+use Rattle.checking.proofs.lemmas.check.Laws.{step-called, reduce-called}
 use Rattle.checking.proofs.check.make_call.Statement.{statement}
 use Rattle.checking.proofs.check.make_call.Tie as tie
 

@@ -7,7 +7,7 @@ use lib.ListN.{length, drop, getD}
 use borrow.Author.Needs.{needs}
 use Rattle.checking.specs.Equality.{Call}
 use Rattle.checking.specs.Check.{callOf, callsOf, Held, calledAll}
-use Rattle.checking.proofs.check.Laws.{call-leaves, calls-turn, calls-end}
+use Rattle.checking.proofs.lemmas.check.Laws.{call-leaves, calls-turn, calls-end}
 use Rattle.checking.proofs.check.make_calls.Statement.{statement}
 use Rattle.checking.proofs.check.make_calls.Tie as tie
 

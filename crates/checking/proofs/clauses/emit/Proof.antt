@@ -2,9 +2,9 @@
 use mathlib.Core.Path.{_≡_, refl, sym, ap, _∙_}
 use borrow.Author.Needs.{needs}
 use Rattle.circuit.specs.Outcome.{served}
-use Rattle.circuit.proofs.Outcome.{why}
+use Rattle.circuit.proofs.Promises.{why}
 use Rattle.checking.specs.Sizes.{sizesOutcome, ofSizes}
-use Rattle.checking.proofs.clauses.Answers.{emit-refused, emit-short, emit-served, list-ready}
+use Rattle.checking.proofs.lemmas.clauses.Answers.{emit-refused, emit-short, emit-served, list-ready}
 use Rattle.checking.proofs.clauses.emit.Statement.{statement}
 use Rattle.checking.proofs.clauses.emit.Tie as tie
 

@@ -1,5 +1,5 @@
 -- `checking::clauses::extra_clauses` meets its contract. Assumes nothing.
-use Rattle.checking.proofs.clauses.Loop.{clauses-few, clauses-many}
+use Rattle.checking.proofs.lemmas.clauses.Loop.{clauses-few, clauses-many}
 use Rattle.checking.proofs.clauses.extra_clauses.Statement.{statement}
 use Rattle.checking.proofs.clauses.extra_clauses.Tie as tie
 

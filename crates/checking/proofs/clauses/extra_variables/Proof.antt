@@ -1,6 +1,6 @@
 -- `checking::clauses::extra_variables` meets its contract. Assumes nothing.
 use borrow.Author.Needs.{needs}
-use Rattle.checking.proofs.clauses.Loop.{variables-more}
+use Rattle.checking.proofs.lemmas.clauses.Loop.{variables-more}
 use Rattle.checking.proofs.clauses.extra_variables.Statement.{statement}
 use Rattle.checking.proofs.clauses.extra_variables.Tie as tie
 

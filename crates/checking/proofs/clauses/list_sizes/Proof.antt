@@ -8,10 +8,8 @@ use borrow.Author.Needs.{needs}
 use borrow.Author.Tests.{not-true, not-false}
 use Rattle.circuit.specs.Gate.{maxLines, valid}
 use Rattle.circuit.specs.Outcome.{served}
-use Rattle.circuit.proofs.Outcome.{why, then-refused}
-use Rattle.circuit.proofs.gate.Laws.{valid-facts}
-use Rattle.circuit.proofs.words.Laws.{next-bad}
-use Rattle.checking.proofs.clauses.Loop.{one-more, controls-more, controls-few, Summed, summed-start, summed-next, summed, summed-all}
+use Rattle.circuit.proofs.Promises.{why, then-refused, valid-facts, next-bad}
+use Rattle.checking.proofs.lemmas.clauses.Loop.{one-more, controls-more, controls-few, Summed, summed-start, summed-next, summed, summed-all}
 use Rattle.checking.proofs.clauses.list_sizes.Statement.{statement}
 use Rattle.checking.proofs.clauses.list_sizes.Tie as tie
 

@@ -6,9 +6,8 @@ use borrow.Author.Tests.{not-true, not-false}
 use Rattle.circuit.specs.Gate.{maxMiterGates}
 use Rattle.circuit.specs.Outcome.{served}
 use Rattle.circuit.specs.Words.{ofCount, lineCountGood, sizeOutcome}
-use Rattle.circuit.proofs.Outcome.{why}
-use Rattle.circuit.proofs.words.Laws.{lines-good, size-served}
-use Rattle.checking.proofs.clauses.Loop.{sizes-lines, sizes-refused, sizes-tested}
+use Rattle.circuit.proofs.Promises.{why, lines-good, size-served}
+use Rattle.checking.proofs.lemmas.clauses.Loop.{sizes-lines, sizes-refused, sizes-tested}
 use Rattle.checking.proofs.clauses.sizes.Statement.{statement}
 use Rattle.checking.proofs.clauses.sizes.Tie as tie
 

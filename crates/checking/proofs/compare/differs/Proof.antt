@@ -3,8 +3,8 @@ use mathlib.Core.Path.{sym, ap, _∙_}
 use borrow.Author.Needs.{needs}
 use borrow.Author.Tests.{not-true, not-false}
 use Rattle.circuit.specs.Words.{ofPair}
-use Rattle.circuit.proofs.Outcome.{why}
-use Rattle.checking.proofs.compare.Laws.{pair-gates, differs-refused, differs-outside, differs-made}
+use Rattle.circuit.proofs.Promises.{why}
+use Rattle.checking.proofs.lemmas.compare.Laws.{pair-gates, differs-refused, differs-outside, differs-made}
 use Rattle.checking.proofs.compare.differs.Statement.{statement}
 use Rattle.checking.proofs.compare.differs.Tie as tie
 

@@ -4,7 +4,7 @@ use Prim.Native.Nat.{ℕ}
 use native.Mathlib.Omega.{arith}
 use borrow.Author.Needs.{needs}
 use Rattle.circuit.specs.Words.{ofPair}
-use Rattle.checking.proofs.compare.Laws.{picks-refused, picks-first, picks-second}
+use Rattle.checking.proofs.lemmas.compare.Laws.{picks-refused, picks-first, picks-second}
 use Rattle.checking.proofs.compare.fewer_gates.Statement.{statement}
 use Rattle.checking.proofs.compare.fewer_gates.Tie as tie
 

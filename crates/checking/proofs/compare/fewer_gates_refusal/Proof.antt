@@ -2,7 +2,7 @@
 use mathlib.Core.Path.{sym, ap, _∙_}
 use borrow.Author.Needs.{needs}
 use Rattle.circuit.specs.Words.{ofPair}
-use Rattle.checking.proofs.compare.Laws.{pick-refused, pick-made}
+use Rattle.checking.proofs.lemmas.compare.Laws.{pick-refused, pick-made}
 use Rattle.checking.proofs.compare.fewer_gates_refusal.Statement.{statement}
 use Rattle.checking.proofs.compare.fewer_gates_refusal.Tie as tie
 

@@ -8,9 +8,9 @@ use lib.Pow.{shl-exact}
 use borrow.Author.Needs.{needs}
 use Rattle.circuit.specs.Outcome.{served}
 use Rattle.circuit.specs.Words.{gatesOf, ofPair}
-use Rattle.circuit.proofs.Outcome.{why}
+use Rattle.circuit.proofs.Promises.{why}
 use Rattle.checking.specs.Compare.{lowestFrom, Says}
-use Rattle.checking.proofs.compare.Laws.{pair-gates, difference-refused, difference-wide, difference-made, sweep-says}
+use Rattle.checking.proofs.lemmas.compare.Laws.{pair-gates, difference-refused, difference-wide, difference-made, sweep-says}
 use Rattle.checking.proofs.compare.first_difference.Statement.{statement}
 use Rattle.checking.proofs.compare.first_difference.Tie as tie
 

@@ -5,7 +5,7 @@ use native.Mathlib.Omega.{arith}
 use Rattle.circuit.specs.Outcome.{served}
 use Rattle.circuit.specs.Words.{gatesOf}
 use Rattle.checking.specs.Compare.{lowestFrom}
-use Rattle.checking.proofs.compare.Laws.{lowest-here, lowest-next, lowest-none}
+use Rattle.checking.proofs.lemmas.compare.Laws.{lowest-here, lowest-next, lowest-none}
 use Rattle.checking.proofs.compare.lowest_difference.Statement.{statement}
 use Rattle.checking.proofs.compare.lowest_difference.Tie as tie
 

@@ -4,7 +4,7 @@ use mathlib.Core.Bool.{not}
 use Prim.Native.Nat.{ℕ}
 use lib.Dec.{eqb}
 use borrow.Author.Needs.{needs}
-use Rattle.circuit.proofs.run.Laws.{run-tested}
+use Rattle.circuit.proofs.Promises.{run-tested}
 use Rattle.checking.proofs.compare.outputs_differ.Statement.{statement}
 use Rattle.checking.proofs.compare.outputs_differ.Tie as tie
 

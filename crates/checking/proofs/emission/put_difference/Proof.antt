@@ -11,7 +11,7 @@ use mir.Val.{toZ, ofZ}
 use Rattle.bits.specs.Lists.{over}
 use Rattle.checking.specs.Clauses.{plus, minus}
 use Rattle.checking.specs.private.Emission.{lineStored}
-use Rattle.checking.proofs.emitter.Signed.{literal-kept}
+use Rattle.checking.proofs.lemmas.emitter.Signed.{literal-kept}
 use Rattle.checking.proofs.emission.put_difference.Statement.{statement}
 use Rattle.checking.proofs.emission.put_difference.Tie as tie
 

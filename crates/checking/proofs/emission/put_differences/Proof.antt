@@ -6,7 +6,7 @@ use native.Mathlib.Omega.{arith}
 use lib.IntN.{ℤ}
 use lib.ListN.{length}
 use Rattle.bits.specs.Lists.{over}
-use Rattle.checking.proofs.emission.Lines.{Compared, compared-none, line-room, line-ready, compared-next, compared-all}
+use Rattle.checking.proofs.lemmas.emission.Lines.{Compared, compared-none, line-room, line-ready, compared-next, compared-all}
 use Rattle.checking.proofs.emission.put_differences.Statement.{statement}
 use Rattle.checking.proofs.emission.put_differences.Tie as tie
 

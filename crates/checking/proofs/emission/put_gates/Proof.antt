@@ -3,8 +3,8 @@ use Prim.Native.Nat.{_-_, _≤_}
 use native.Mathlib.Omega.{arith}
 use lib.ListN.{length}
 use borrow.Author.Needs.{needs}
-use Rattle.circuit.proofs.gate.Laws.{valid-facts}
-use Rattle.checking.proofs.emission.Gates.{Emitted, emitted-none, gate-good, target-inside, room, gate-ready, emitted-next, emitted-all}
+use Rattle.circuit.proofs.Promises.{valid-facts}
+use Rattle.checking.proofs.lemmas.emission.Gates.{Emitted, emitted-none, gate-good, target-inside, room, gate-ready, emitted-next, emitted-all}
 use Rattle.checking.proofs.emission.put_gates.Statement.{statement}
 use Rattle.checking.proofs.emission.put_gates.Tie as tie
 

@@ -7,8 +7,8 @@ use lib.IntN.{pos}
 use lib.ListN.{length-set}
 use mir.Syntax.{w16}
 use mir.Val.{toZ, ofZ}
-use Rattle.checking.proofs.emitter.Signed.{literal-kept}
-use Rattle.checking.proofs.emission.Lines.{Ended, headed-long, ended-none, ended-next, ended-all}
+use Rattle.checking.proofs.lemmas.emitter.Signed.{literal-kept}
+use Rattle.checking.proofs.lemmas.emission.Lines.{Ended, headed-long, ended-none, ended-next, ended-all}
 use Rattle.checking.proofs.emission.put_last.Statement.{statement}
 use Rattle.checking.proofs.emission.put_last.Tie as tie
 

@@ -4,7 +4,7 @@ use native.Mathlib.Omega.{arith}
 use lib.ListN.{length}
 use borrow.Author.Needs.{needs}
 use borrow.Rule.Slice.PartMut.{putMid}
-use Rattle.checking.proofs.emission.Whole.{gates-ready, at-first, at-inside, used-few, lines-ready, end-first, end-room, last-room, list-filled}
+use Rattle.checking.proofs.lemmas.emission.Whole.{gates-ready, at-first, at-inside, used-few, lines-ready, end-first, end-room, last-room, list-filled}
 use Rattle.checking.proofs.emission.put_list.Statement.{statement}
 use Rattle.checking.proofs.emission.put_list.Tie as tie
 

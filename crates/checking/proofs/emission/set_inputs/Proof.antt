@@ -1,7 +1,7 @@
 -- `checking::emission::set_inputs` meets its contract. The loop's invariant: lines below k have their inputs. Assumes nothing.
 use Prim.Native.Nat.{_-_}
 use native.Mathlib.Omega.{arith}
-use Rattle.checking.proofs.emission.Lines.{Inputs, inputs-none, inputs-next}
+use Rattle.checking.proofs.lemmas.emission.Lines.{Inputs, inputs-none, inputs-next}
 use Rattle.checking.proofs.emission.set_inputs.Statement.{statement}
 use Rattle.checking.proofs.emission.set_inputs.Tie as tie
 

@@ -5,7 +5,7 @@ use borrow.Author.Needs.{needs}
 use mir.Syntax.{w16}
 use mir.ValLaws.{toZ-pos}
 use Rattle.checking.specs.private.Emitter.{literalWord}
-use Rattle.checking.proofs.emitter.Signed.{minus-fits, minus-stored}
+use Rattle.checking.proofs.lemmas.emitter.Signed.{minus-fits, minus-stored}
 use Rattle.checking.proofs.emitter.literal.Statement.{statement}
 use Rattle.checking.proofs.emitter.literal.Tie as tie
 

@@ -7,8 +7,8 @@ use lib.IntN.{ℤ}
 use borrow.Author.Needs.{needs}
 use mir.Syntax.{w16}
 use mir.Val.{toZ, ofZ}
-use Rattle.checking.proofs.emitter.Signed.{literal-kept}
-use Rattle.checking.proofs.emitter.Parts.{lent-long, lines-few, many-filled}
+use Rattle.checking.proofs.lemmas.emitter.Signed.{literal-kept}
+use Rattle.checking.proofs.lemmas.emitter.Parts.{lent-long, lines-few, many-filled}
 use Rattle.checking.proofs.emitter.put_many.Statement.{statement}
 use Rattle.checking.proofs.emitter.put_many.Tie as tie
 

@@ -7,10 +7,10 @@ use borrow.Author.Needs.{needs}
 use borrow.Author.Tests.{not-true, not-false}
 use Rattle.circuit.specs.Refusal.{agreeingState}
 use Rattle.circuit.specs.Words.{gatesOf}
-use Rattle.circuit.proofs.Outcome.{why}
+use Rattle.circuit.proofs.Promises.{why}
 use Rattle.checking.specs.Compare.{outputsDiffer}
 use Rattle.checking.specs.Faults.{eachFrom}
-use Rattle.checking.proofs.faults.Loops.{each-next, each-fails, each-end}
+use Rattle.checking.proofs.lemmas.faults.Loops.{each-next, each-fails, each-end}
 use Rattle.checking.proofs.faults.check_differing.Statement.{statement}
 use Rattle.checking.proofs.faults.check_differing.Tie as tie
 

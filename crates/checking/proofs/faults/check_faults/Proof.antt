@@ -2,8 +2,8 @@
 use mathlib.Core.Path.{sym, ap, _∙_}
 use borrow.Author.Needs.{needs}
 use Rattle.circuit.specs.Words.{ofCount, ofPair}
-use Rattle.checking.proofs.compare.Laws.{pair-gates}
-use Rattle.checking.proofs.faults.Loops.{fault-pair, fault-state, fault-agree, fault-good}
+use Rattle.checking.proofs.lemmas.compare.Laws.{pair-gates}
+use Rattle.checking.proofs.lemmas.faults.Loops.{fault-pair, fault-state, fault-agree, fault-good}
 use Rattle.checking.proofs.faults.check_faults.Statement.{statement}
 use Rattle.checking.proofs.faults.check_faults.Tie as tie
 

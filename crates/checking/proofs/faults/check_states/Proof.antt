@@ -8,9 +8,9 @@ use lib.ListN.{length, drop}
 use borrow.Author.Needs.{needs}
 use borrow.Author.Tests.{not-true, not-false}
 use Rattle.circuit.specs.Refusal.{badState}
-use Rattle.circuit.proofs.Outcome.{why}
+use Rattle.circuit.proofs.Promises.{why}
 use Rattle.checking.specs.Faults.{eachFrom}
-use Rattle.checking.proofs.faults.Loops.{each-next, each-fails, each-end}
+use Rattle.checking.proofs.lemmas.faults.Loops.{each-next, each-fails, each-end}
 use Rattle.checking.proofs.faults.check_states.Statement.{statement}
 use Rattle.checking.proofs.faults.check_states.Tie as tie
 

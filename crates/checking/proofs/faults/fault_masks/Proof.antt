@@ -6,11 +6,10 @@ use Rattle.circuit.specs.Gate.{maxLines, maxGates}
 use Rattle.circuit.specs.Outcome.{served, refused}
 use Rattle.circuit.specs.Refusal.{noRoom}
 use Rattle.circuit.specs.Words.{Cascade, ofCount, gatesOf}
-use Rattle.circuit.proofs.Outcome.{why}
-use Rattle.circuit.proofs.words.Laws.{gates-length, valid-all-more}
+use Rattle.circuit.proofs.Promises.{why, gates-length, valid-all-more}
 use Rattle.checking.specs.Faults.{faultCheck}
 use Rattle.checking.specs.private.Narrowing.{narrowedBy}
-use Rattle.checking.proofs.faults.Loops.{fault-suspect, fault-told, fault-refused, fault-short, fault-made, all-narrowed}
+use Rattle.checking.proofs.lemmas.faults.Loops.{fault-suspect, fault-told, fault-refused, fault-short, fault-made, all-narrowed}
 use Rattle.checking.proofs.faults.fault_masks.Statement.{statement}
 use Rattle.checking.proofs.faults.fault_masks.Tie as tie
 

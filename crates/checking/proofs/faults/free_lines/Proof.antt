@@ -8,8 +8,8 @@ use lib.Dec.{lit<}
 use lib.Pow.{shl-exact}
 use borrow.Author.Needs.{needs}
 use Rattle.circuit.specs.Gate.{maxLines}
-use Rattle.circuit.proofs.gate.Laws.{valid-facts}
-use Rattle.checking.proofs.faults.Masks.{free-mask}
+use Rattle.circuit.proofs.Promises.{valid-facts}
+use Rattle.checking.proofs.lemmas.faults.Masks.{free-mask}
 use Rattle.checking.proofs.faults.free_lines.Statement.{statement}
 use Rattle.checking.proofs.faults.free_lines.Tie as tie
 

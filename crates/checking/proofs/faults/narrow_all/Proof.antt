@@ -6,7 +6,7 @@ use lib.ListN.{length, drop}
 use borrow.Author.Needs.{needs}
 use Rattle.circuit.specs.Words.{gatesOf}
 use Rattle.checking.specs.private.Narrowing.{narrowedBy}
-use Rattle.checking.proofs.faults.Loops.{states-next, states-end}
+use Rattle.checking.proofs.lemmas.faults.Loops.{states-next, states-end}
 use Rattle.checking.proofs.faults.narrow_all.Statement.{statement}
 use Rattle.checking.proofs.faults.narrow_all.Tie as tie
 

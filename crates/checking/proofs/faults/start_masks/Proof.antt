@@ -8,8 +8,8 @@ use lib.ListN.{length, drop, set, length-set}
 use borrow.Author.Needs.{needs}
 use Rattle.bits.specs.Lists.{over}
 use Rattle.circuit.specs.Words.{gatesOf, allValid}
-use Rattle.circuit.proofs.words.Laws.{gates-length, valid-next, valid-later}
-use Rattle.checking.proofs.faults.Loops.{freeMasks, freeLeft, free-masks, free-turn, free-end}
+use Rattle.circuit.proofs.Promises.{gates-length, valid-next, valid-later}
+use Rattle.checking.proofs.lemmas.faults.Loops.{freeMasks, freeLeft, free-masks, free-turn, free-end}
 use Rattle.checking.proofs.faults.start_masks.Statement.{statement}
 use Rattle.checking.proofs.faults.start_masks.Tie as tie
 

@@ -5,8 +5,8 @@ use borrow.Author.Needs.{needs}
 use Rattle.circuit.specs.Outcome.{served, refused}
 use Rattle.circuit.specs.Refusal.{noRoom}
 use Rattle.circuit.specs.Words.{ofPair, pairOutcome}
-use Rattle.circuit.proofs.Outcome.{why}
-use Rattle.checking.proofs.miter.Laws.{miter-told, miter-refused, miter-short, miter-made, miter-written, pair-few}
+use Rattle.circuit.proofs.Promises.{why}
+use Rattle.checking.proofs.lemmas.miter.Laws.{miter-told, miter-refused, miter-short, miter-made, miter-written, pair-few}
 use Rattle.checking.proofs.miter.miter.Statement.{statement}
 use Rattle.checking.proofs.miter.miter.Tie as tie
 

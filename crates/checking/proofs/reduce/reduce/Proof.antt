@@ -5,8 +5,8 @@ use borrow.Author.Needs.{needs}
 use Rattle.circuit.specs.Gate.{maxLines, maxMiterGates}
 use Rattle.circuit.specs.Outcome.{served}
 use Rattle.circuit.specs.Words.{ofCount, checkOutcome}
-use Rattle.circuit.proofs.words.Laws.{check-served, valid-all-more}
-use Rattle.checking.proofs.reduce.Laws.{reduce-refused, reduce-made}
+use Rattle.circuit.proofs.Promises.{check-served, valid-all-more}
+use Rattle.checking.proofs.lemmas.reduce.Laws.{reduce-refused, reduce-made}
 use Rattle.checking.proofs.reduce.reduce.Statement.{statement}
 use Rattle.checking.proofs.reduce.reduce.Tie as tie
 

@@ -9,7 +9,7 @@ use Rattle.checking.specs.Step.{found}
 use Rattle.checking.specs.Match.{ofKind}
 use Rattle.checking.specs.private.StepCode.{ofStepped}
 use Rattle.checking.specs.StepLaws.{taken}
-use Rattle.checking.proofs.reduce.Turns.{Standing, standing-first, lent-whole, lent-valid, ended, left-less, onward, pairsOf, mergesOf}
+use Rattle.checking.proofs.lemmas.reduce.Turns.{Standing, standing-first, lent-whole, lent-valid, ended, left-less, onward, pairsOf, mergesOf}
 use Rattle.checking.proofs.reduce.reduce_gates.Statement.{statement}
 use Rattle.checking.proofs.reduce.reduce_gates.Tie as tie
 

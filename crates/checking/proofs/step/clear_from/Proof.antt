@@ -5,7 +5,7 @@ use native.Mathlib.Omega.{arith}
 use lib.ListN.{length, length-set}
 use borrow.Author.Needs.{needs}
 use Rattle.bits.specs.Lists.{over}
-use Rattle.checking.proofs.step.Moving.{cleared, cleared-none, cleared-more, cleared-all}
+use Rattle.checking.proofs.lemmas.step.Moving.{cleared, cleared-none, cleared-more, cleared-all}
 use Rattle.checking.proofs.step.clear_from.Statement.{statement}
 use Rattle.checking.proofs.step.clear_from.Tie as tie
 

@@ -1,5 +1,5 @@
 -- `checking::step::close_gap` meets its contract. Assumes nothing.
-use Rattle.checking.proofs.step.Moving.{gap-closed}
+use Rattle.checking.proofs.lemmas.step.Moving.{gap-closed}
 use borrow.Author.Needs.{needs}
 use Rattle.checking.proofs.step.close_gap.Statement.{statement}
 use Rattle.checking.proofs.step.close_gap.Tie as tie

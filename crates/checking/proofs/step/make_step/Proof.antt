@@ -10,7 +10,7 @@ use Rattle.checking.specs.Match.{Match}
 use Rattle.checking.specs.Step.{Search, searchFrom}
 use Rattle.checking.specs.private.StepCode.{ofSearch}
 use Rattle.checking.specs.Match.{ofMatch}
-use Rattle.checking.proofs.step.Calls.{places, told-found, told-none}
+use Rattle.checking.proofs.lemmas.step.Calls.{places, told-found, told-none}
 use Rattle.checking.proofs.step.make_step.Statement.{statement}
 use Rattle.checking.proofs.step.make_step.Tie as tie
 

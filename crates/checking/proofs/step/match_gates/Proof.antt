@@ -3,7 +3,7 @@ use mathlib.Core.Path.{sym, _∙_}
 use borrow.Author.Needs.{needs}
 use borrow.Author.Tests.{not-true, not-false}
 use Rattle.checking.specs.Match.{controlRemoved, controlInverted, differing}
-use Rattle.checking.proofs.step.Matching.{match-targets, match-equal, match-many, match-opposite, match-longer}
+use Rattle.checking.proofs.lemmas.step.Matching.{match-targets, match-equal, match-many, match-opposite, match-longer}
 use Rattle.checking.proofs.step.match_gates.Statement.{statement}
 use Rattle.checking.proofs.step.match_gates.Tie as tie
 

@@ -7,8 +7,8 @@ use lib.ListN.{length, take, drop, length-take, length-drop}
 use Rattle.bits.specs.Lists.{over}
 use Rattle.bits.proofs.Lists.{rest-lent, rest-back}
 use Rattle.circuit.specs.Words.{gateWords}
-use Rattle.circuit.proofs.words.Laws.{put-fits}
-use Rattle.checking.proofs.step.Moving.{pair-merged}
+use Rattle.circuit.proofs.Promises.{put-fits}
+use Rattle.checking.proofs.lemmas.step.Moving.{pair-merged}
 use borrow.Author.Needs.{needs}
 use Rattle.checking.proofs.step.merge_pair.Statement.{statement}
 use Rattle.checking.proofs.step.merge_pair.Tie as tie

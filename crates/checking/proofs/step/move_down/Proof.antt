@@ -5,7 +5,7 @@ use native.Mathlib.Omega.{arith}
 use lib.ListN.{length, length-set}
 use borrow.Author.Needs.{needs}
 use Rattle.bits.specs.Lists.{over}
-use Rattle.checking.proofs.step.Moving.{moved, moved-none, moved-more}
+use Rattle.checking.proofs.lemmas.step.Moving.{moved, moved-none, moved-more}
 use Rattle.checking.proofs.step.move_down.Statement.{statement}
 use Rattle.checking.proofs.step.move_down.Tie as tie
 

@@ -1,6 +1,6 @@
 -- `checking::step::remove_pair` meets its contract. Assumes nothing.
 use borrow.Author.Needs.{needs}
-use Rattle.checking.proofs.step.Moving.{pair-removed}
+use Rattle.checking.proofs.lemmas.step.Moving.{pair-removed}
 use Rattle.checking.proofs.step.remove_pair.Statement.{statement}
 use Rattle.checking.proofs.step.remove_pair.Tie as tie
 

@@ -7,7 +7,7 @@ use borrow.Author.Needs.{needs}
 use Rattle.circuit.specs.Words.{gatesOf}
 use Rattle.checking.specs.Step.{searchFrom}
 use Rattle.checking.specs.private.StepCode.{ofScan}
-use Rattle.checking.proofs.step.Searching.{words-found, words-next, words-none}
+use Rattle.checking.proofs.lemmas.step.Searching.{words-found, words-next, words-none}
 use Rattle.checking.proofs.step.search_gates.Statement.{statement}
 use Rattle.checking.proofs.step.search_gates.Tie as tie
 

@@ -6,7 +6,7 @@ use lib.ListN.{length}
 use borrow.Author.Needs.{needs}
 use borrow.Author.Tests.{not-true, not-false}
 use Rattle.circuit.specs.private.Scan.{ofGate}
-use Rattle.circuit.proofs.file.Steps.{Judging, judging-start, judging-turn, judging-refused, judging-step, judging-end}
+use Rattle.circuit.proofs.lemmas.file.Steps.{Judging, judging-start, judging-turn, judging-refused, judging-step, judging-end}
 use Rattle.circuit.proofs.file.judge.Statement.{statement}
 use Rattle.circuit.proofs.file.judge.Tie as tie
 

@@ -5,8 +5,8 @@ use native.Mathlib.Omega.{arith}
 use lib.ListN.{length}
 use borrow.Author.Needs.{needs}
 use borrow.Rule.Slice.PartMut.{same-len-mid}
-use Rattle.circuit.proofs.file.put.Laws.{rest-length}
-use Rattle.circuit.proofs.file.Writes.{Typing, typing-start, typing-at, typing-room, typing-target, typing-on, typing-done}
+use Rattle.circuit.proofs.lemmas.file.put.Laws.{rest-length}
+use Rattle.circuit.proofs.lemmas.file.Writes.{Typing, typing-start, typing-at, typing-room, typing-target, typing-on, typing-done}
 use Rattle.circuit.proofs.file.put_lines.Statement.{statement}
 use Rattle.circuit.proofs.file.put_lines.Tie as tie
 

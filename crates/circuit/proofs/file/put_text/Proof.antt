@@ -5,8 +5,8 @@ use lib.ListN.{length}
 use borrow.Author.Needs.{needs}
 use Rattle.circuit.specs.Words.{gatesOf}
 use Rattle.circuit.specs.Text.{headerLine, gateLines, endLine}
-use Rattle.circuit.proofs.file.put.Laws.{written-first, written-more, written-put, room-after, rest-room}
-use Rattle.circuit.proofs.file.Writes.{text-parts}
+use Rattle.circuit.proofs.lemmas.file.put.Laws.{written-first, written-more, written-put, room-after, rest-room}
+use Rattle.circuit.proofs.lemmas.file.Writes.{text-parts}
 use Rattle.circuit.proofs.file.put_text.Statement.{statement}
 use Rattle.circuit.proofs.file.put_text.Tie as tie
 

@@ -9,9 +9,9 @@ use Rattle.circuit.specs.Refusal.{noRoom}
 use Rattle.circuit.specs.Words.{wordsOf}
 use Rattle.circuit.specs.File.{Reading, reading, ReadCounts, countsOf, gatesRead, ofRead}
 use Rattle.circuit.specs.private.Scan.{ofHeader}
-use Rattle.circuit.proofs.Outcome.{why}
-use Rattle.circuit.proofs.file.Laws.{read-bad, read-short, read-fits}
-use Rattle.circuit.proofs.file.Steps.{Started, header-bad, header-start, judged, judged-bad, judged-good, read-told}
+use Rattle.circuit.proofs.lemmas.Outcome.{why}
+use Rattle.circuit.proofs.lemmas.file.Laws.{read-bad, read-short, read-fits}
+use Rattle.circuit.proofs.lemmas.file.Steps.{Started, header-bad, header-start, judged, judged-bad, judged-good, read-told}
 use Rattle.circuit.proofs.file.read.Statement.{statement}
 use Rattle.circuit.proofs.file.read.Tie as tie
 

@@ -2,8 +2,8 @@
 use Prim.Native.Nat.{_-_}
 use native.Mathlib.Omega.{arith}
 use borrow.Author.Needs.{needs}
-use Rattle.circuit.proofs.file.scan.Laws.{width-two}
-use Rattle.circuit.proofs.file.Writes.{Sizing, sizing-start, sizing-on, sizing-done}
+use Rattle.circuit.proofs.lemmas.file.scan.Laws.{width-two}
+use Rattle.circuit.proofs.lemmas.file.Writes.{Sizing, sizing-start, sizing-on, sizing-done}
 use Rattle.circuit.proofs.file.text_size.Statement.{statement}
 use Rattle.circuit.proofs.file.text_size.Tie as tie
 

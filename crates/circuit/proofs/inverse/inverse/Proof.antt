@@ -6,8 +6,8 @@ use Rattle.circuit.specs.Gate.{maxGates}
 use Rattle.circuit.specs.Outcome.{served, refused}
 use Rattle.circuit.specs.Refusal.{noRoom}
 use Rattle.circuit.specs.Words.{ofCount, checkOutcome}
-use Rattle.circuit.proofs.Outcome.{why}
-use Rattle.circuit.proofs.inverse.Laws.{put-fits, inverse-refused, inverse-short, inverse-made, inverse-told}
+use Rattle.circuit.proofs.lemmas.Outcome.{why}
+use Rattle.circuit.proofs.lemmas.inverse.Laws.{put-fits, inverse-refused, inverse-short, inverse-made, inverse-told}
 use Rattle.circuit.proofs.inverse.inverse.Statement.{statement}
 use Rattle.circuit.proofs.inverse.inverse.Tie as tie
 

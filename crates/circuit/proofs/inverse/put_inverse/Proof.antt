@@ -7,7 +7,7 @@ use lib.ListN.{length}
 use borrow.Author.Needs.{needs}
 use borrow.Rule.Slice.PartMut.{same-len-mid}
 use Rattle.bits.specs.Lists.{over}
-use Rattle.circuit.proofs.inverse.Laws.{tailBack, back-none, back-turn, put-fits, put-short}
+use Rattle.circuit.proofs.lemmas.inverse.Laws.{tailBack, back-none, back-turn, put-fits, put-short}
 use Rattle.circuit.proofs.inverse.put_inverse.Statement.{statement}
 use Rattle.circuit.proofs.inverse.put_inverse.Tie as tie
 

@@ -72,7 +72,7 @@ use Rattle.circuit.proofs.run.RunAnswer.end.Symbol as finish-def
 use Rattle.circuit.proofs.run.RunAnswer.end.Symbol.{name as #finish}
 use Rattle.circuit.proofs.run.RunAnswer.end.Met as finish-thm
 use Rattle.circuit.proofs.run.Answers.{IsAnswer, told, as-told, makes-answer, lawful-answer}
-use Rattle.circuit.proofs.run.Records.{through, records-through, through-turn, through-end, begun-lines, goes-inside}
+use Rattle.circuit.proofs.lemmas.run.Records.{through, records-through, through-turn, through-end, begun-lines, goes-inside}
 use Rattle.circuit.proofs.run.run_records.Key.{name as #run-records}
 use Rattle.circuit.proofs.run.run_records as run-records
 use Rattle.circuit.proofs.run.run_records.Statement as stated

@@ -7,7 +7,7 @@ use borrow.Author.Needs.{needs}
 use Rattle.circuit.specs.Gate.{toggled}
 use Rattle.circuit.specs.Words.{gatesOf}
 use Rattle.circuit.specs.Run.{runTested}
-use Rattle.circuit.proofs.run.Laws.{fold-turn, fold-end}
+use Rattle.circuit.proofs.lemmas.run.Laws.{fold-turn, fold-end}
 use Rattle.circuit.proofs.run.run_tested.Statement.{statement}
 use Rattle.circuit.proofs.run.run_tested.Tie as tie
 

@@ -5,7 +5,7 @@ use Prim.Native.Nat.{ℕ, _+_, _≤_, _*_}
 use native.Mathlib.Omega.{arith}
 use lib.IntN.{ℤ}
 use lib.ListN.{length, length-append}
-use Rattle.circuit.proofs.file.put.Laws.{put-as}
+use Rattle.circuit.proofs.Promises.{put-as}
 use Rattle.text.specs.declared.plain.PlainSizes.{PlainSizes}
 use Rattle.text.specs.Dimacs.{headerText, clausesText, dimacsOf, decimal}
 use Rattle.text.specs.Plain.{plainClauses}

@@ -1,7 +1,7 @@
 -- `text::comparison::reduce_gates` meets its contract. Assumes nothing.
 use mathlib.Core.Path.{sym, ap, _∙_}
 use Rattle.checking.specs.Reduce.{ofReduce}
-use Rattle.circuit.proofs.Outcome.{never}
+use Rattle.circuit.proofs.Promises.{never}
 use Rattle.text.proofs.comparison.Laws.{reduce-served, left-in}
 use borrow.Author.Needs.{needs}
 use Rattle.text.proofs.comparison.reduce_gates.Statement.{statement}

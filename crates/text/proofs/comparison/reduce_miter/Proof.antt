@@ -6,7 +6,7 @@ use native.Mathlib.Omega.{arith}
 use lib.ListN.{length}
 use Rattle.circuit.specs.declared.gate.Gate.{Gate}
 use Rattle.circuit.specs.Words.{ofCount}
-use Rattle.circuit.proofs.Outcome.{never}
+use Rattle.circuit.proofs.Promises.{never}
 use Rattle.checking.specs.Reduce.{reduceGates}
 use Rattle.text.specs.private.Comparing.{LeftIn}
 use Rattle.text.proofs.list.Laws.{Mitered, miter-made, mitered}

@@ -2,8 +2,7 @@
 use mathlib.Core.Path.{refl, sym, ap, ap₂, _∙_}
 use Prim.Native.Nat.{ℕ}
 use Rattle.circuit.specs.Gate.{maxLines}
-use Rattle.circuit.proofs.words.Laws.{valid-all-more}
-use Rattle.circuit.proofs.run.Laws.{run-tested}
+use Rattle.circuit.proofs.Promises.{valid-all-more, run-tested}
 use Rattle.checking.specs.Compare.{none, lowest, ofDifference}
 use Rattle.text.specs.Compare.{differing}
 use Rattle.text.proofs.comparison.Laws.{swept-as, never-refused}

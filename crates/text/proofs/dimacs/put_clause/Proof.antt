@@ -4,7 +4,7 @@ use mathlib.Core.List.{_++_}
 use native.Mathlib.Omega.{arith}
 use lib.IntN.{ℤ}
 use lib.ListN.{length, length-append}
-use Rattle.circuit.proofs.file.put.Laws.{put-as}
+use Rattle.circuit.proofs.Promises.{put-as}
 use Rattle.text.specs.Dimacs.{literalsText, closing}
 use Rattle.text.specs.private.Words.{kindText}
 use Rattle.text.proofs.put.Laws.{two-put}

@@ -5,7 +5,7 @@ use Prim.Native.Nat.{ℕ, _+_}
 use native.Mathlib.Omega.{arith}
 use lib.ListN.{length, length-append}
 use Rattle.circuit.specs.Text.{lineFeed}
-use Rattle.circuit.proofs.file.put.Laws.{put-as}
+use Rattle.circuit.proofs.Promises.{put-as}
 use Rattle.text.specs.Dimacs.{blank, problemWord, cnfWord, decimal, headerText}
 use Rattle.text.proofs.put.Laws.{two-put}
 use borrow.Author.Needs.{needs}

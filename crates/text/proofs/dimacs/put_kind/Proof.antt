@@ -2,7 +2,7 @@
 use mathlib.Core.Path.{sym, ap}
 use native.Mathlib.Omega.{arith}
 use lib.ListN.{length}
-use Rattle.circuit.proofs.file.put.Laws.{put-as}
+use Rattle.circuit.proofs.Promises.{put-as}
 use Rattle.text.proofs.put.Laws.{put-none}
 use Rattle.text.proofs.dimacs.Signed.{kind-xor, kind-other}
 use borrow.Author.Needs.{needs}

@@ -3,7 +3,7 @@ use mathlib.Core.Path.{ap}
 use native.Mathlib.Omega.{arith}
 use lib.IntN.{ℤ}
 use lib.ListN.{length}
-use Rattle.circuit.proofs.file.put.Laws.{put-as}
+use Rattle.circuit.proofs.Promises.{put-as}
 use Rattle.text.specs.Dimacs.{literalText}
 use Rattle.text.proofs.put.Laws.{two-put}
 use Rattle.text.proofs.dimacs.Signed.{word-is}

@@ -3,7 +3,7 @@ use Prim.Native.Nat.{_-_}
 use native.Mathlib.Omega.{arith}
 use lib.ListN.{length}
 use borrow.Author.Needs.{needs, sfits-of}
-use Rattle.circuit.proofs.file.put.Laws.{rest-length}
+use Rattle.circuit.proofs.Promises.{rest-length}
 use Rattle.text.proofs.dimacs.Signed.{word-is}
 use Rattle.text.proofs.dimacs.Loops.{Typing, typing-start, typing-at, typing-room, typing-sum, typing-on, typing-done}
 use Rattle.text.proofs.dimacs.put_literals.Statement.{statement}

@@ -5,7 +5,7 @@ use Prim.Native.Nat.{ℕ, _+_}
 use native.Mathlib.Omega.{arith}
 use lib.IntN.{ℤ, pos, negsuc}
 use lib.ListN.{length, length-append}
-use Rattle.circuit.proofs.file.put.Laws.{put-as}
+use Rattle.circuit.proofs.Promises.{put-as}
 use Rattle.checking.specs.Satisfaction.{variableOf}
 use Rattle.text.specs.Dimacs.{decimal, literalText}
 use Rattle.text.specs.private.Words.{signText}

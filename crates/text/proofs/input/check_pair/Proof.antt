@@ -3,8 +3,7 @@ use mathlib.Core.Path.{sym, ap, ap₂, _∙_}
 use Rattle.circuit.specs.declared.refusal.Refusal.{Refusal}
 use Rattle.circuit.specs.Gate.{maxLines}
 use Rattle.circuit.specs.Words.{gatesOf}
-use Rattle.circuit.proofs.words.Laws.{valid-all-more}
-use Rattle.circuit.proofs.run.Laws.{run-tested}
+use Rattle.circuit.proofs.Promises.{valid-all-more, run-tested}
 use Rattle.text.specs.CheckInput.{outputs, refusedAt, checkedOn}
 use Rattle.text.specs.private.Checking.{ofState}
 use borrow.Author.Needs.{needs}

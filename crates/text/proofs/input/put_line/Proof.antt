@@ -4,7 +4,7 @@ use mathlib.Core.List.{List, [], _∷_, _++_}
 use native.Mathlib.Omega.{arith}
 use lib.ListN.{length, length-append}
 use Rattle.circuit.specs.Text.{tab, lineFeed}
-use Rattle.circuit.proofs.file.put.Laws.{put-as}
+use Rattle.circuit.proofs.Promises.{put-as}
 use Rattle.text.specs.CheckInput.{stateText}
 use Rattle.text.proofs.put.Laws.{two-put}
 use Rattle.text.proofs.input.Laws.{state-long}

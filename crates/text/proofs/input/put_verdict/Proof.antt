@@ -1,5 +1,5 @@
 -- `text::input::put_verdict` meets its contract. Assumes nothing.
-use Rattle.circuit.proofs.file.put.Laws.{put-as}
+use Rattle.circuit.proofs.Promises.{put-as}
 use Rattle.text.proofs.input.Laws.{verdict-agree, verdict-differ}
 use borrow.Author.Needs.{needs}
 use Rattle.text.proofs.input.put_verdict.Statement.{statement}

@@ -6,7 +6,7 @@ use native.Mathlib.Omega.{arith}
 use lib.Seq.{length-take-le}
 use Rattle.circuit.specs.declared.gate.Gate.{Gate}
 use Rattle.circuit.specs.Refusal.{noRoom}
-use Rattle.circuit.proofs.Outcome.{why}
+use Rattle.circuit.proofs.Promises.{why}
 use Rattle.bits.proofs.Lists.{rest-lent}
 use Rattle.circuit.specs.File.{ofRead}
 use Rattle.text.specs.Tomiter.{secondVerdict}

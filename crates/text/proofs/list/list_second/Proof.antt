@@ -5,7 +5,7 @@ use Prim.Native.Nat.{ℕ, _+_}
 use native.Mathlib.Omega.{arith}
 use lib.Seq.{length-take-le}
 use Rattle.circuit.specs.declared.gate.Gate.{Gate}
-use Rattle.circuit.proofs.Outcome.{why}
+use Rattle.circuit.proofs.Promises.{why}
 use Rattle.circuit.specs.Refusal.{wrongForm}
 use Rattle.circuit.specs.Words.{gatesOf}
 use Rattle.circuit.specs.File.{ofRead}

@@ -6,7 +6,7 @@ use lib.ListN.{length}
 use Rattle.circuit.specs.File.{Reading, ofRead}
 use Rattle.circuit.specs.Outcome.{refused}
 use Rattle.circuit.specs.Refusal.{wrongForm}
-use Rattle.circuit.proofs.Outcome.{why}
+use Rattle.circuit.proofs.Promises.{why}
 use Rattle.text.proofs.list.Laws.{FileRead, file-bad, file-read}
 use Rattle.text.proofs.pair.Laws.{whole-bad, whole-after, says-bad, says-good}
 use borrow.Author.Needs.{needs}

@@ -7,7 +7,7 @@ use mir.Syntax.{w16}
 use mir.Val.{toZ, ofZ}
 use lib.IntN.{ℤ, negℤ}
 use lib.ListN.{length}
-use Rattle.circuit.proofs.file.put.Laws.{put-as}
+use Rattle.circuit.proofs.Promises.{put-as}
 use Rattle.checking.specs.Clauses.{Clause, OR, XOR}
 use Rattle.text.specs.Dimacs.{clausesText}
 use Rattle.text.specs.Plain.{plainClause}

@@ -4,7 +4,7 @@ use mathlib.Core.List.{List, [], _∷_, _++_}
 use native.Mathlib.Omega.{arith}
 use lib.IntN.{ℤ}
 use lib.ListN.{length}
-use Rattle.circuit.proofs.file.put.Laws.{put-as}
+use Rattle.circuit.proofs.Promises.{put-as}
 use Rattle.checking.specs.Clauses.{OR}
 use Rattle.text.specs.Dimacs.{literalsText, closing, clausesText}
 use Rattle.text.proofs.plain.Laws.{or-text, or-long, three-words}

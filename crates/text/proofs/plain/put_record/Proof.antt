@@ -6,7 +6,7 @@ use lib.IntN.{ℤ}
 use lib.ListN.{length}
 use mir.Syntax.{w16}
 use mir.Val.{toZ, ofZ}
-use Rattle.circuit.proofs.file.put.Laws.{put-as}
+use Rattle.circuit.proofs.Promises.{put-as}
 use Rattle.checking.specs.Clauses.{Clause, XOR}
 use Rattle.text.specs.Dimacs.{clausesText}
 use Rattle.text.specs.Plain.{plainClause}

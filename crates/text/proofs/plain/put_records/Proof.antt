@@ -5,7 +5,7 @@ use native.Mathlib.Omega.{arith}
 use lib.ListN.{length}
 use borrow.Author.Needs.{needs, sfits-of}
 use Rattle.checking.specs.Satisfaction.{variableOf}
-use Rattle.circuit.proofs.file.put.Laws.{rest-length}
+use Rattle.circuit.proofs.Promises.{rest-length}
 use Rattle.text.proofs.dimacs.Signed.{word-is}
 use Rattle.text.proofs.plain.Laws.{count, left-inside, left-count, left-plainable, Plaining, plaining-start, plaining-at, plaining-room, plaining-on, plaining-done}
 use Rattle.text.proofs.plain.put_records.Statement.{statement}

@@ -6,11 +6,11 @@ use mir.Syntax.{w16}
 use mir.Val.{SFits, toZ, ofZ}
 use Rattle.checking.specs.Satisfaction.{variableOf}
 use Rattle.checking.specs.Stored.{wordLimit}
-use Rattle.checking.proofs.clauses.Bounds.{neg-size}
+use Rattle.checking.proofs.Promises.{neg-size}
 use native.Mathlib.Omega.{arith}
 use lib.IntN.{ℤ, negℤ}
 use lib.ListN.{length}
-use Rattle.circuit.proofs.file.put.Laws.{put-as}
+use Rattle.circuit.proofs.Promises.{put-as}
 use Rattle.checking.specs.Clauses.{Clause, OR, XOR}
 use Rattle.text.specs.Dimacs.{clausesText}
 use Rattle.text.specs.Plain.{plainClause}

@@ -2,7 +2,7 @@
 use mathlib.Core.Path.{sym, subst}
 use Prim.Native.Nat.{ℕ, _<_, _≤_, _/_}
 use native.Mathlib.Omega.{arith}
-use Rattle.circuit.proofs.file.put.Laws.{put-as}
+use Rattle.circuit.proofs.Promises.{put-as}
 use Rattle.text.proofs.Decimal.{decimal-hundreds, hundreds-length}
 use Rattle.text.proofs.put.Laws.{then-put}
 use borrow.Author.Needs.{needs}

@@ -1,7 +1,7 @@
 -- `text::put::put_middle` meets its contract. Assumes nothing.
 use mathlib.Core.Path.{sym}
 use native.Mathlib.Omega.{arith}
-use Rattle.circuit.proofs.file.put.Laws.{put-as}
+use Rattle.circuit.proofs.Promises.{put-as}
 use Rattle.text.proofs.Decimal.{decimal-hundreds, hundreds-length}
 use Rattle.text.proofs.put.Laws.{then-put}
 use borrow.Author.Needs.{needs}

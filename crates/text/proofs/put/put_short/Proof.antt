@@ -7,7 +7,7 @@ use lib.ListN.{length}
 use lib.Seq.{sets-eq}
 use borrow.Author.Needs.{needs}
 use Rattle.bits.specs.Lists.{over}
-use Rattle.circuit.proofs.file.put.Laws.{put-as}
+use Rattle.circuit.proofs.Promises.{put-as}
 use Rattle.text.proofs.Decimal.{decimal-short, decimal-two}
 use Rattle.text.proofs.put.put_short.Statement.{statement}
 use Rattle.text.proofs.put.put_short.Tie as tie

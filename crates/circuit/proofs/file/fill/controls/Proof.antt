@@ -10,7 +10,7 @@ use Rattle.circuit.specs.declared.gate.Gate.{Gate}
 use Rattle.circuit.specs.Gate.{maxLines, Control}
 use Rattle.circuit.specs.declared.file.scan.Numeral.{Numeral}
 use Rattle.circuit.specs.private.Fill.{ControlsAt}
-use Rattle.circuit.proofs.file.fill.Laws.{Passing, passing-start, passing-inside, Next, passing-next, passing-done, sign-told}
+use Rattle.circuit.proofs.lemmas.file.fill.Laws.{Passing, passing-start, passing-inside, Next, passing-next, passing-done, sign-told}
 use Rattle.circuit.proofs.file.fill.controls.Statement.{statement}
 use Rattle.circuit.proofs.file.fill.controls.Tie as tie
 

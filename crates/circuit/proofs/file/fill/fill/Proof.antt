@@ -9,7 +9,7 @@ use borrow.Rule.Slice.PartMut.{same-len-mid}
 use Rattle.circuit.specs.declared.gate.Gate.{Gate}
 use Rattle.circuit.specs.declared.file.fill.GateRead.{GateRead}
 use Rattle.circuit.specs.private.Fill.{GatesAt}
-use Rattle.circuit.proofs.file.fill.Laws.{Filling, filling-start, NextLine, filling-next, filling-done}
+use Rattle.circuit.proofs.lemmas.file.fill.Laws.{Filling, filling-start, NextLine, filling-next, filling-done}
 use Rattle.circuit.proofs.file.fill.fill.Statement.{statement}
 use Rattle.circuit.proofs.file.fill.fill.Tie as tie
 

@@ -5,7 +5,7 @@ use native.Mathlib.Omega.{arith}
 use Rattle.circuit.specs.Gate.{controlsOf}
 use Rattle.circuit.specs.declared.file.scan.Numeral.{Numeral}
 use Rattle.circuit.specs.private.Fill.{ControlsAt}
-use Rattle.circuit.proofs.file.fill.Laws.{gate-parts, digits-there, gate-there}
+use Rattle.circuit.proofs.lemmas.file.fill.Laws.{gate-parts, digits-there, gate-there}
 use Rattle.circuit.proofs.file.fill.gate_line.Statement.{statement}
 use Rattle.circuit.proofs.file.fill.gate_line.Tie as tie
 

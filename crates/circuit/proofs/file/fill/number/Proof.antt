@@ -3,7 +3,7 @@ use Prim.Native.Nat.{_+_, _≤_, _<_}
 use native.Mathlib.Omega.{arith}
 use lib.ListN.{length}
 use borrow.Author.Needs.{needs}
-use Rattle.circuit.proofs.file.fill.Laws.{digits-there, number-low, number-one, number-two}
+use Rattle.circuit.proofs.lemmas.file.fill.Laws.{digits-there, number-low, number-one, number-two}
 use Rattle.circuit.proofs.file.fill.number.Statement.{statement}
 use Rattle.circuit.proofs.file.fill.number.Tie as tie
 

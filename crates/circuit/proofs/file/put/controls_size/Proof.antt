@@ -3,7 +3,7 @@ use mathlib.Core.Path.{ap₂, _∙_}
 use Prim.Native.Nat.{ℕ, _+_, _*_}
 use native.Mathlib.Omega.{arith}
 use borrow.Author.Needs.{needs}
-use Rattle.circuit.proofs.file.put.Laws.{controls-long}
+use Rattle.circuit.proofs.lemmas.file.put.Laws.{controls-long}
 use Rattle.circuit.proofs.file.put.controls_size.Statement.{statement}
 use Rattle.circuit.proofs.file.put.controls_size.Tie as tie
 

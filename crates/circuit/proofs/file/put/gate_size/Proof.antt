@@ -3,8 +3,8 @@ use mathlib.Core.Path.{ap}
 use native.Mathlib.Omega.{arith}
 use lib.ListN.{length}
 use borrow.Author.Needs.{needs}
-use Rattle.circuit.proofs.file.scan.Laws.{width-two}
-use Rattle.circuit.proofs.file.put.Laws.{gate-length, same-controls}
+use Rattle.circuit.proofs.lemmas.file.scan.Laws.{width-two}
+use Rattle.circuit.proofs.lemmas.file.put.Laws.{gate-length, same-controls}
 use Rattle.circuit.proofs.file.put.gate_size.Statement.{statement}
 use Rattle.circuit.proofs.file.put.gate_size.Tie as tie
 

@@ -7,7 +7,7 @@ use lib.ListN.{length, set, length-set}
 use borrow.Author.Needs.{needs}
 use borrow.Rule.Slice.PartMut.{putMid}
 use Rattle.circuit.specs.Text.{tab, numberText}
-use Rattle.circuit.proofs.file.put.Laws.{Written, written-two, written-more, written-put, rest-length, put-as}
+use Rattle.circuit.proofs.lemmas.file.put.Laws.{Written, written-two, written-more, written-put, rest-length, put-as}
 use Rattle.circuit.proofs.file.put.put_control.Statement.{statement}
 use Rattle.circuit.proofs.file.put.put_control.Tie as tie
 

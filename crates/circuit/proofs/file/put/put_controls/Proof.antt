@@ -10,9 +10,9 @@ use lib.ListN.{length}
 use borrow.Author.Needs.{needs}
 use Rattle.bits.specs.Digits.{bit}
 use Rattle.circuit.specs.Gate.{maxLines}
-use Rattle.circuit.proofs.gate.Controls.{controlOn}
+use Rattle.circuit.proofs.lemmas.gate.Controls.{controlOn}
 use Rattle.circuit.specs.Text.{tab, controlText}
-use Rattle.circuit.proofs.file.put.Laws.{Putting, putting-start, putting-room, putting-on, putting-done, line-below, control-length, rest-length}
+use Rattle.circuit.proofs.lemmas.file.put.Laws.{Putting, putting-start, putting-room, putting-on, putting-done, line-below, control-length, rest-length}
 use Rattle.circuit.proofs.file.put.put_controls.Statement.{statement}
 use Rattle.circuit.proofs.file.put.put_controls.Tie as tie
 

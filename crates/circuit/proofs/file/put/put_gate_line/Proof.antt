@@ -2,7 +2,7 @@
 use native.Mathlib.Omega.{arith}
 use borrow.Author.Needs.{needs}
 use Rattle.circuit.specs.Text.{gateText}
-use Rattle.circuit.proofs.file.put.Laws.{written-first, written-more, written-put, room-after, rest-room, line-length}
+use Rattle.circuit.proofs.lemmas.file.put.Laws.{written-first, written-more, written-put, room-after, rest-room, line-length}
 use Rattle.circuit.proofs.file.put.put_gate_line.Statement.{statement}
 use Rattle.circuit.proofs.file.put.put_gate_line.Tie as tie
 

@@ -9,7 +9,7 @@ use Rattle.circuit.specs.Text.{tab, numberText}
 use Rattle.circuit.specs.Gate.{controlsOf}
 use Rattle.circuit.specs.Text.{controlsText}
 use Rattle.circuit.specs.private.Put.{maskGate}
-use Rattle.circuit.proofs.file.put.Laws.{written-first, written-more, written-put, room-after, rest-room, put-as, text-length, same-controls}
+use Rattle.circuit.proofs.lemmas.file.put.Laws.{written-first, written-more, written-put, room-after, rest-room, put-as, text-length, same-controls}
 use Prim.Native.Nat.{ℕ}
 use Rattle.circuit.proofs.file.put.put_gate_text.Statement.{statement}
 use Rattle.circuit.proofs.file.put.put_gate_text.Tie as tie

@@ -1,8 +1,8 @@
 -- `circuit::file::put::put_header` meets its contract. Assumes nothing.
 use native.Mathlib.Omega.{arith}
 use borrow.Author.Needs.{needs}
-use Rattle.circuit.proofs.file.Texts.{headerText}
-use Rattle.circuit.proofs.file.put.Laws.{written-first, written-more, written-put, room-after, rest-room, header-text-length}
+use Rattle.circuit.proofs.lemmas.file.Texts.{headerText}
+use Rattle.circuit.proofs.lemmas.file.put.Laws.{written-first, written-more, written-put, room-after, rest-room, header-text-length}
 use Rattle.circuit.proofs.file.put.put_header.Statement.{statement}
 use Rattle.circuit.proofs.file.put.put_header.Tie as tie
 

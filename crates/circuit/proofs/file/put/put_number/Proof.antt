@@ -8,7 +8,7 @@ use lib.Seq.{sets-eq}
 use borrow.Author.Needs.{needs}
 use Rattle.bits.specs.Lists.{over}
 use Rattle.circuit.specs.Text.{digit}
-use Rattle.circuit.proofs.file.Numbers.{text-short, text-long}
+use Rattle.circuit.proofs.lemmas.file.Numbers.{text-short, text-long}
 use Rattle.circuit.proofs.file.put.put_number.Statement.{statement}
 use Rattle.circuit.proofs.file.put.put_number.Tie as tie
 

@@ -1,7 +1,7 @@
 -- `circuit::file::put::put_numbered` meets its contract. Assumes nothing.
 use native.Mathlib.Omega.{arith}
 use borrow.Author.Needs.{needs}
-use Rattle.circuit.proofs.file.put.Laws.{written-first, written-more, written-put}
+use Rattle.circuit.proofs.lemmas.file.put.Laws.{written-first, written-more, written-put}
 use Rattle.circuit.proofs.file.put.put_numbered.Statement.{statement}
 use Rattle.circuit.proofs.file.put.put_numbered.Tie as tie
 

@@ -2,7 +2,7 @@
 use mathlib.Core.Path.{sym, _∙_}
 use lib.ListN.{List·getD-eq-default}
 use borrow.Author.Needs.{needs}
-use Rattle.circuit.proofs.file.scan.Laws.{default-any}
+use Rattle.circuit.proofs.lemmas.file.scan.Laws.{default-any}
 use Rattle.circuit.proofs.file.scan.byte.Statement.{statement}
 use Rattle.circuit.proofs.file.scan.byte.Tie as tie
 

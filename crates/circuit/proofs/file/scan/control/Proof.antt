@@ -12,8 +12,8 @@ use Rattle.circuit.specs.Text.{plusSign, minusSign}
 use Rattle.circuit.specs.File.{lineOf}
 use Rattle.circuit.specs.Outcome.{served}
 use Rattle.circuit.specs.private.Scan.{fieldAt, ofLine, LineEnds}
-use Rattle.circuit.proofs.Outcome.{why}
-use Rattle.circuit.proofs.file.scan.Laws.{byte-at, sign-inside, control-unsigned, control-refused, control-good}
+use Rattle.circuit.proofs.lemmas.Outcome.{why}
+use Rattle.circuit.proofs.lemmas.file.scan.Laws.{byte-at, sign-inside, control-unsigned, control-refused, control-good}
 use borrow.Author.Needs.{needs}
 use Rattle.circuit.proofs.file.scan.control.Statement.{statement}
 use Rattle.circuit.proofs.file.scan.control.Tie as tie

@@ -8,9 +8,9 @@ use borrow.Author.Tests.{not-true, not-false}
 use Rattle.circuit.specs.Gate.{maxLines, Control}
 use Rattle.circuit.specs.Text.{tab}
 use Rattle.circuit.specs.private.Scan.{width, ofControl, ControlEnds}
-use Rattle.circuit.proofs.Outcome.{why}
-use Rattle.circuit.proofs.file.scan.Laws.{byte-at}
-use Rattle.circuit.proofs.file.scan.Rest.{Going, going-start, going-room, going-refused, going-below, going-inside, going-on, going-open, going-controlled, going-falls, going-gate}
+use Rattle.circuit.proofs.lemmas.Outcome.{why}
+use Rattle.circuit.proofs.lemmas.file.scan.Laws.{byte-at}
+use Rattle.circuit.proofs.lemmas.file.scan.Rest.{Going, going-start, going-room, going-refused, going-below, going-inside, going-on, going-open, going-controlled, going-falls, going-gate}
 use Rattle.circuit.proofs.file.scan.controls.Statement.{statement}
 use Rattle.circuit.proofs.file.scan.controls.Tie as tie
 

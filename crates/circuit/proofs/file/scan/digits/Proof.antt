@@ -1,6 +1,6 @@
 -- `circuit::file::scan::digits` meets its contract. Assumes nothing.
 use mathlib.Core.Path.{sym}
-use Rattle.circuit.proofs.file.scan.Laws.{width-short, width-long}
+use Rattle.circuit.proofs.lemmas.file.scan.Laws.{width-short, width-long}
 use Rattle.circuit.proofs.file.scan.digits.Statement.{statement}
 use Rattle.circuit.proofs.file.scan.digits.Tie as tie
 

@@ -1,6 +1,6 @@
 -- `circuit::file::scan::ends` meets its contract. Assumes nothing.
 use mathlib.Core.Path.{_∙_}
-use Rattle.circuit.proofs.file.scan.Rest.{end-line}
+use Rattle.circuit.proofs.lemmas.file.scan.Rest.{end-line}
 use borrow.Author.Needs.{needs}
 use Rattle.circuit.proofs.file.scan.ends.Statement.{statement}
 use Rattle.circuit.proofs.file.scan.ends.Tie as tie

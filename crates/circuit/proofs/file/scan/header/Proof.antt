@@ -9,9 +9,9 @@ use borrow.Author.Tests.{not-true, not-false}
 use Rattle.circuit.specs.Outcome.{served}
 use Rattle.circuit.specs.Words.{lineCountGood}
 use Rattle.circuit.specs.private.Scan.{startsWith, width}
-use Rattle.circuit.proofs.Outcome.{why}
-use Rattle.circuit.proofs.file.scan.Laws.{default-any}
-use Rattle.circuit.proofs.file.scan.Rest.{header-other, header-room, header-wrong, header-outside, header-missing, header-further, header-good}
+use Rattle.circuit.proofs.lemmas.Outcome.{why}
+use Rattle.circuit.proofs.lemmas.file.scan.Laws.{default-any}
+use Rattle.circuit.proofs.lemmas.file.scan.Rest.{header-other, header-room, header-wrong, header-outside, header-missing, header-further, header-good}
 use borrow.Author.Needs.{needs}
 use Rattle.circuit.proofs.file.scan.header.Statement.{statement}
 use Rattle.circuit.proofs.file.scan.header.Tie as tie

@@ -1,7 +1,7 @@
 -- `circuit::file::scan::line` meets its contract. Assumes nothing.
 use mathlib.Core.Path.{sym, _∙_}
-use Rattle.circuit.proofs.Outcome.{why}
-use Rattle.circuit.proofs.file.scan.Laws.{line-wrong, line-outside, line-good}
+use Rattle.circuit.proofs.lemmas.Outcome.{why}
+use Rattle.circuit.proofs.lemmas.file.scan.Laws.{line-wrong, line-outside, line-good}
 use borrow.Author.Needs.{needs}
 use Rattle.circuit.proofs.file.scan.line.Statement.{statement}
 use Rattle.circuit.proofs.file.scan.line.Tie as tie

@@ -10,7 +10,7 @@ use borrow.Author.Tests.{not-true, not-false}
 use Rattle.circuit.specs.declared.file.scan.Numeral.{Numeral}
 use Rattle.circuit.specs.File.{isDigit}
 use Rattle.circuit.specs.private.Scan.{isStop, width}
-use Rattle.circuit.proofs.file.scan.Laws.{width-short, width-long, byte-at, byte-after, digit-low, digit-high, number-first, number-one, number-zero, number-second, number-third, number-two}
+use Rattle.circuit.proofs.lemmas.file.scan.Laws.{width-short, width-long, byte-at, byte-after, digit-low, digit-high, number-first, number-one, number-zero, number-second, number-third, number-two}
 use Rattle.circuit.proofs.file.scan.number.Statement.{statement}
 use Rattle.circuit.proofs.file.scan.number.Tie as tie
 

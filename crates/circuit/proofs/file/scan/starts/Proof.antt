@@ -4,7 +4,7 @@ use Prim.Native.Nat.{ℕ, _+_, _-_, _≤_}
 use native.Mathlib.Omega.{arith}
 use lib.ListN.{length, drop, length-drop}
 use Rattle.circuit.specs.private.Scan.{startsWith}
-use Rattle.circuit.proofs.file.scan.Laws.{starts-short, starts-more, starts-other, starts-all}
+use Rattle.circuit.proofs.lemmas.file.scan.Laws.{starts-short, starts-more, starts-other, starts-all}
 use Rattle.circuit.proofs.file.scan.starts.Statement.{statement}
 use Rattle.circuit.proofs.file.scan.starts.Tie as tie
 

@@ -2,7 +2,7 @@
 use mathlib.Core.Path.{sym, _∙_}
 use borrow.Author.Needs.{needs}
 use borrow.Author.Tests.{le-leb, lt-leb, not-true, not-false}
-use Rattle.circuit.proofs.Outcome.{why, demand-met, demand-failed}
+use Rattle.circuit.proofs.lemmas.Outcome.{why, demand-met, demand-failed}
 use Rattle.circuit.proofs.run.RunAnswer.begin.Statement.{statement}
 use Rattle.circuit.proofs.run.RunAnswer.begin.Tie as tie
 

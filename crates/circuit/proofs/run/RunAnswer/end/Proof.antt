@@ -3,7 +3,7 @@ use mathlib.Core.Path.{sym, ap, _∙_}
 use borrow.Author.Needs.{needs}
 use borrow.Author.Tests.{not-true, not-false}
 use Rattle.circuit.specs.Run.{ofRun}
-use Rattle.circuit.proofs.Outcome.{why, demand-met, demand-failed, then-served, then-refused}
+use Rattle.circuit.proofs.lemmas.Outcome.{why, demand-met, demand-failed, then-served, then-refused}
 use Rattle.circuit.proofs.run.RunAnswer.end.Statement.{statement}
 use Rattle.circuit.proofs.run.RunAnswer.end.Tie as tie
 

@@ -1,0 +1,243 @@
+-- Every literal is one of a variable from 1 to V, and every stored word fits 16 bits. Assumes nothing.
+use mathlib.Core.Path.{_≡_, refl, sym, subst}
+use mathlib.Core.Bool.{Bool, true, false, cond}
+use mathlib.Core.List.{List, [], _∷_, _++_, map}
+use Prim.Native.Nat.{ℕ, zero, suc, _+_, _*_, _<_, _≤_}
+use native.Mathlib.Omega.{arith}
+use lib.Dec.{eqb, leb}
+use lib.IntN.{ℤ, pos, negsuc, negℤ}
+use lib.ListN.{length, length-map}
+use borrow.Author.Tests.{le-leb}
+use Rattle.bits.proofs.Bools.{either, cond-true, cond-false}
+use Rattle.circuit.specs.declared.gate.Gate.{Gate}
+use Rattle.circuit.specs.Gate.{maxLines, maxMiterGates, Control, controlsOf}
+use Rattle.circuit.specs.Words.{allValid}
+use Rattle.circuit.proofs.Promises.{valid-facts, few-controls, valid-parts}
+use Rattle.checking.specs.Clauses.{Clause, OR, XOR, plus, minus, inputOf, literalOf, implied, manyClauses, gateClauses, newVariable, usedBy, moved, clausesOfGate, gatesClauses, usedAfter, currentAfter, targeted, upFrom, differenceClause, differenceClauses, clausesOf, variablesOf, countP}
+use Rattle.checking.specs.Satisfaction.{variableOf, LiteralsWithin, clauseLiterals, ClausesWithin}
+use Rattle.checking.specs.Stored.{stored, FitsWord, AllFit, wordLimit}
+use Rattle.checking.proofs.lemmas.clauses.Gates.{Within, controls-within, new-named}
+use Rattle.checking.proofs.lemmas.clauses.Forced.{Inside, inside-upFrom, used-more, length-upFrom}
+
+pub within-append : (m : ℕ) (xs ys : List Clause) → ClausesWithin m xs → ClausesWithin m ys → ClausesWithin m (xs ++ ys)
+within-append m [] ys a b = b
+within-append m (x ∷ xs) ys a b = (a .0, within-append m xs ys (a .1) b)
+
+minus-size : (v : ℕ) → variableOf (minus v) ≡ v
+minus-size zero = refl
+minus-size (suc v) = refl
+
+pub neg-size : (l : ℤ) → variableOf (negℤ l) ≡ variableOf l
+neg-size (pos zero) = refl
+neg-size (pos (suc v)) = refl
+neg-size (negsuc i) = refl
+
+-- the current variables of lines below n are from 1 to m
+pub record Named (n m : ℕ) (current : ℕ → ℕ) : Type 0 where
+  pub low : (k : ℕ) → k < n → 1 ≤ current k
+  pub high : (k : ℕ) → k < n → current k ≤ m
+
+module _ (n m : ℕ) (current : ℕ → ℕ) (named : Named n m current) where
+  literal-size : (c : Control) → variableOf (literalOf current c) ≡ current (c .line)
+  literal-size c = by (c .positive) (current (c .line))
+    where
+      by : (p : Bool) (v : ℕ) → variableOf (cond p (plus v) (minus v)) ≡ v
+      by true v = refl
+      by false v = minus-size v
+
+  literals-within : (cs : List Control) → Within n cs → LiteralsWithin m (map (literalOf current) cs)
+  literals-within [] w = tt
+  literals-within (c ∷ cs) w =
+      (omega (arith, literal-size c, named .low (c .line) (w .0)), (omega (arith, literal-size c, named .high (c .line) (w .0)), literals-within cs (w .1)))
+
+  implied-within : (p : ℕ) → p < m → (ls : List ℤ) → LiteralsWithin m ls → ClausesWithin m (implied (suc p) ls)
+  implied-within p h [] w = tt
+  implied-within p h (l ∷ ls) w = ((omega arith, (omega arith, (w .0, (w .1 .0, tt)))), implied-within p h ls (w .1 .1))
+
+  negated-within : (ls : List ℤ) → LiteralsWithin m ls → LiteralsWithin m (map negℤ ls)
+  negated-within [] w = tt
+  negated-within (l ∷ ls) w = (omega (arith, neg-size l, w .0), (omega (arith, neg-size l, w .1 .0), negated-within ls (w .1 .1)))
+
+  many-within : (used t : ℕ) (ls : List ℤ) → suc (suc used) ≤ m → t < n → LiteralsWithin m ls
+      → ClausesWithin m (manyClauses (suc used) (suc (suc used)) (current t) ls)
+  many-within used t ls h ht w = (
+    (omega arith, (omega arith, negated-within ls w)),
+    within-append m (implied (suc used) ls) _ (implied-within used (omega arith) ls w)
+        ((omega arith, (h, (named .low t ht, (named .high t ht, (omega arith, (omega arith, tt)))))), tt),
+  )
+
+  gate-within : (used t : ℕ) (cs : List Control) → newVariable used (length cs) ≤ m → t < n → Within n cs
+      → ClausesWithin m (gateClauses used (current t) (map (literalOf current) cs))
+  gate-within used t [] h ht w = ((omega arith, (h, (named .low t ht, (named .high t ht, tt)))), tt)
+  gate-within used t (c ∷ []) h ht w =
+      ((omega arith, (h, (named .low t ht, (named .high t ht, literals-within (c ∷ []) w)))), tt)
+  gate-within used t (c ∷ d ∷ cs) h ht w = many-within used t (map (literalOf current) (c ∷ d ∷ cs)) h ht (literals-within (c ∷ d ∷ cs) w)
+
+moved-named : (n m used : ℕ) (current : ℕ → ℕ) (g : Gate) → usedBy used g ≤ m → Named n m current → Named n m (moved used current g)
+unfolding moved
+moved-named n m used current g h named =
+    record {
+      low = λ k l.
+          either (eqb k (g .target))
+          (λ e. subst (λ (x : ℕ). 1 ≤ x) (sym (cond-true _ (usedBy used g) (current k) e)) (omega (arith, new-named used (length (controlsOf g)))))
+          (λ e. subst (λ (x : ℕ). 1 ≤ x) (sym (cond-false _ (usedBy used g) (current k) e)) (named .low k l));
+      high = λ k l.
+          either (eqb k (g .target))
+          (λ e. subst (λ (x : ℕ). x ≤ m) (sym (cond-true _ (usedBy used g) (current k) e)) h)
+          (λ e. subst (λ (x : ℕ). x ≤ m) (sym (cond-false _ (usedBy used g) (current k) e)) (named .high k l));
+    }
+
+gates-within : (n m used : ℕ) (current : ℕ → ℕ) (gs : List Gate) → n ≤ maxLines → allValid n gs ≡ true → usedAfter used gs ≤ m → Named n m current
+    → ClausesWithin m (gatesClauses used current gs)
+unfolding gatesClauses usedAfter
+gates-within n m used current [] few v h named = tt
+gates-within n m used current (g ∷ gs) few v h named =
+    let (a, b) = valid-parts n g gs v in
+    let w : usedBy used g ≤ m = omega (arith, used-more (usedBy used g) gs) in
+    within-append m (clausesOfGate used current g) _
+    (gate-within n m current named used (g .target) (controlsOf g) w (valid-facts n g a .target-below) (controls-within n g few a))
+    (gates-within n m (usedBy used g) (moved used current g) gs few b h (moved-named n m used current g w named))
+
+pub after-named : (n m used : ℕ) (current : ℕ → ℕ) (gs : List Gate) → usedAfter used gs ≤ m → Named n m current → Named n m (currentAfter used current gs)
+unfolding usedAfter currentAfter
+after-named n m used current [] h named = named
+after-named n m used current (g ∷ gs) h named =
+    let w : usedBy used g ≤ m = omega (arith, used-more (usedBy used g) gs) in
+    after-named n m (usedBy used g) (moved used current g) gs h (moved-named n m used current g w named)
+
+difference-within : (m d a b : ℕ) (hit : Bool) → suc d ≤ m → 1 ≤ a → a ≤ m → 1 ≤ b → b ≤ m → LiteralsWithin m (clauseLiterals (differenceClause hit (suc d) a b))
+difference-within m d a b true h a₁ a₂ b₁ b₂ = (omega arith, (h, (a₁, (a₂, (b₁, (b₂, tt))))))
+difference-within m d a b false h a₁ a₂ b₁ b₂ = (omega arith, (h, tt))
+
+differences-within : (n m : ℕ) (hit : ℕ → Bool) (left right : ℕ → ℕ) → Named n m left → Named n m right
+    → (used : ℕ) (ks : List ℕ) → used + length ks ≤ m → Inside n ks → ClausesWithin m (differenceClauses hit left right used ks)
+unfolding differenceClauses
+differences-within n m hit left right a b used [] h w = tt
+differences-within n m hit left right a b used (k ∷ ks) h w = (
+  difference-within m used (left k) (right k) (hit k) (omega arith) (a .low k (w .0)) (a .high k (w .0)) (b .low k (w .0)) (b .high k (w .0)),
+  differences-within n m hit left right a b (suc used) ks (omega arith) (w .1),
+)
+
+last-within : (m i k : ℕ) → 1 ≤ i → i + k ≤ suc m → LiteralsWithin m (map plus (upFrom i k))
+unfolding upFrom
+last-within m i zero one h = tt
+last-within m i (suc k) one h = (one, (omega arith, last-within m (suc i) k (omega arith) (omega arith)))
+
+pub inputs-named : (n m : ℕ) → n ≤ m → Named n m inputOf
+inputs-named n m h = record { low = λ k l. omega arith; high = λ k l. omega arith }
+
+-- every literal of the list is one of a variable from 1 to V
+pub clauses-within : (n : ℕ) (gs : List Gate) → n ≤ maxLines → allValid n gs ≡ true → ClausesWithin (variablesOf n gs) (clausesOf n gs)
+unfolding variablesOf clausesOf
+clauses-within n gs few v =
+    let m = usedAfter n gs + n in
+    let more = used-more n gs in
+    let start : Named n m inputOf = inputs-named n m (omega arith) in
+    within-append m (gatesClauses n inputOf gs) _ (gates-within n m n inputOf gs few v (omega arith) start)
+    (within-append m (differenceClauses (targeted gs) inputOf (currentAfter n inputOf gs) (usedAfter n gs) (upFrom 0 n)) _
+    (differences-within n m (targeted gs) inputOf (currentAfter n inputOf gs) start (after-named n m n inputOf gs (omega arith) start)
+    (usedAfter n gs) (upFrom 0 n) (omega (arith, length-upFrom 0 n)) (inside-upFrom n 0 n (omega arith)))
+    (last-within m (suc (usedAfter n gs)) n (omega arith) (omega arith), tt))
+
+-- ---- words
+
+-- at most two new variables a gate
+pub new-bound : (used k : ℕ) → newVariable used k ≤ used + 2
+new-bound used zero = omega arith
+new-bound used (suc zero) = omega arith
+new-bound used (suc (suc k)) = omega arith
+
+pub used-bound : (used : ℕ) (gs : List Gate) → usedAfter used gs ≤ used + 2 * length gs
+unfolding usedAfter
+used-bound used [] = omega arith
+used-bound used (g ∷ gs) = omega (arith, new-bound used (length (controlsOf g)), used-bound (usedBy used g) gs)
+
+pub variables-bound : (n : ℕ) (gs : List Gate) → variablesOf n gs ≤ 2 * n + 2 * length gs
+unfolding variablesOf
+variables-bound n gs = omega (arith, used-bound n gs)
+
+pub variables-few : (n : ℕ) (gs : List Gate) → n ≤ maxLines → length gs ≤ maxMiterGates → variablesOf n gs ≤ 4224
+variables-few n gs few short = omega (arith, variables-bound n gs)
+
+-- a w for each gate, and a p for each with two controls or more
+used-counted : (used : ℕ) (gs : List Gate) → usedAfter used gs ≡ used + (length gs + countP gs)
+unfolding usedAfter countP
+used-counted used [] = omega arith
+used-counted used (g ∷ gs) = omega (arith, used-counted (usedBy used g) gs, new-counted used (length (controlsOf g)))
+  where
+    new-counted : (used k : ℕ) → newVariable used k ≡ used + (1 + cond (leb 2 k) 1 0)
+    new-counted used zero = omega arith
+    new-counted used (suc zero) = omega arith
+    new-counted used (suc (suc k)) = let e : cond {A = ℕ} (leb 2 (suc (suc k))) 1 0 ≡ 1 = cond-true (leb 2 (suc (suc k))) 1 0 (le-leb 2 (suc (suc k)) (omega arith)) in omega arith
+
+pub variables-counted : (n : ℕ) (gs : List Gate) → variablesOf n gs ≡ n + (length gs + countP gs) + n
+unfolding variablesOf
+variables-counted n gs = omega (arith, used-counted n gs)
+
+-- no clause has more than m literals
+abbrev Short : ℕ → List Clause → Type 0
+Short m [] = Unit {0}
+Short m (c ∷ cs) = (length (clauseLiterals c) ≤ m) × Short m cs
+
+short-append : (m : ℕ) (xs ys : List Clause) → Short m xs → Short m ys → Short m (xs ++ ys)
+short-append m [] ys a b = b
+short-append m (x ∷ xs) ys a b = (a .0, short-append m xs ys (a .1) b)
+
+short-implied : (m p : ℕ) (ls : List ℤ) → 2 ≤ m → Short m (implied p ls)
+short-implied m p [] h = tt
+short-implied m p (l ∷ ls) h = (h, short-implied m p ls h)
+
+short-many : (m p w v : ℕ) (ls : List ℤ) → length ls + 3 ≤ m → Short m (manyClauses p w v ls)
+short-many m p w v ls h = (
+  omega (arith, length-map ls negℤ),
+  short-append m (implied p ls) _ (short-implied m p ls (omega arith)) (omega arith, tt),
+)
+
+short-gate : (m used v : ℕ) (ls : List ℤ) → length ls + 3 ≤ m → Short m (gateClauses used v ls)
+short-gate m used v [] h = (omega arith, tt)
+short-gate m used v (c ∷ []) h = (omega arith, tt)
+short-gate m used v (c ∷ d ∷ ls) h = short-many m (suc used) (suc (suc used)) v (c ∷ d ∷ ls) h
+
+short-gates : (m used : ℕ) (current : ℕ → ℕ) (gs : List Gate) → maxLines + 3 ≤ m → Short m (gatesClauses used current gs)
+unfolding gatesClauses
+short-gates m used current [] h = tt
+short-gates m used current (g ∷ gs) h =
+    short-append m (clausesOfGate used current g) _
+    (short-gate m used (current (g .target)) (map (literalOf current) (controlsOf g)) (omega (arith, length-map (controlsOf g) (literalOf current), few-controls maxLines g)))
+    (short-gates m (usedBy used g) (moved used current g) gs h)
+
+short-differences : (m : ℕ) (hit : ℕ → Bool) (left right : ℕ → ℕ) (used : ℕ) (ks : List ℕ) → 3 ≤ m → Short m (differenceClauses hit left right used ks)
+unfolding differenceClauses
+short-differences m hit left right used [] h = tt
+short-differences m hit left right used (k ∷ ks) h = (one (hit k) (suc used) (left k) (right k) h, short-differences m hit left right (suc used) ks h)
+  where
+    one : (b : Bool) (d x y : ℕ) → 3 ≤ m → length (clauseLiterals (differenceClause b d x y)) ≤ m
+    one true d x y h = h
+    one false d x y h = omega arith
+
+pub counts-small : (n : ℕ) (gs : List Gate) → n ≤ maxLines → Short (maxLines + 3) (clausesOf n gs)
+unfolding clausesOf
+counts-small n gs few =
+    short-append (maxLines + 3) (gatesClauses n inputOf gs) _ (short-gates (maxLines + 3) n inputOf gs (omega arith))
+    (short-append (maxLines + 3) (differenceClauses (targeted gs) inputOf (currentAfter n inputOf gs) (usedAfter n gs) (upFrom 0 n)) _
+    (short-differences (maxLines + 3) (targeted gs) inputOf (currentAfter n inputOf gs) (usedAfter n gs) (upFrom 0 n) (omega arith))
+    (omega (arith, length-map (upFrom (suc (usedAfter n gs)) n) plus, length-upFrom (suc (usedAfter n gs)) n), tt))
+
+size-fits : (l : ℤ) → variableOf l < wordLimit → FitsWord l
+size-fits (pos v) h = h
+size-fits (negsuc i) h = omega arith
+
+literals-fit : (m : ℕ) (ls ws : List ℤ) → m < wordLimit → LiteralsWithin m ls → AllFit ws → AllFit (ls ++ ws)
+literals-fit m [] ws h w f = f
+literals-fit m (l ∷ ls) ws h w f = (size-fits l (omega (arith, w .1 .0)), literals-fit m ls ws h (w .1 .1) f)
+
+stored-fits : (m k : ℕ) (cs : List Clause) → m < wordLimit → k < wordLimit → ClausesWithin m cs → Short k cs → AllFit (stored cs)
+unfolding stored
+stored-fits m k [] h l a b = tt
+stored-fits m k (OR ls ∷ cs) h l a b = (omega arith, (omega (arith, b .0), literals-fit m ls (stored cs) h (a .0) (stored-fits m k cs h l (a .1) (b .1))))
+stored-fits m k (XOR ls ∷ cs) h l a b = (omega arith, (omega (arith, b .0), literals-fit m ls (stored cs) h (a .0) (stored-fits m k cs h l (a .1) (b .1))))
+
+-- every word of a list fits 16 bits
+pub words-fit : (n : ℕ) (gs : List Gate) → n ≤ maxLines → length gs ≤ maxMiterGates → allValid n gs ≡ true → AllFit (stored (clausesOf n gs))
+words-fit n gs few short v =
+    stored-fits (variablesOf n gs) (maxLines + 3) (clausesOf n gs) (omega (arith, variables-bound n gs)) (omega arith) (clauses-within n gs few v) (counts-small n gs few)

@@ -1,0 +1,66 @@
+-- The clauses of gates on n lines depend on the current variables of lines below n only, and gates in a row add up. Assumes nothing.
+use mathlib.Core.Path.{_≡_, refl, sym, ap, ap₂, _∙_}
+use mathlib.Core.Bool.{Bool, true, cond}
+use mathlib.Core.List.{List, [], _∷_, _++_, map, append-assoc}
+use Prim.Native.Nat.{ℕ, suc, _≤_, _<_}
+use lib.Dec.{eqb}
+use lib.IntN.{ℤ}
+use Rattle.circuit.specs.declared.gate.Gate.{Gate}
+use Rattle.circuit.specs.Gate.{maxLines, valid, Control, controlsOf}
+use Rattle.circuit.specs.Words.{allValid}
+use Rattle.circuit.proofs.Promises.{valid-facts, valid-parts}
+use Rattle.checking.specs.Clauses.{Clause, plus, minus, literalOf, gateClauses, usedBy, moved, clausesOfGate, gatesClauses, usedAfter, currentAfter, differenceClause, differenceClauses}
+use Rattle.checking.proofs.lemmas.clauses.Gates.{Within, controls-within}
+use Rattle.checking.proofs.lemmas.clauses.Forced.{Inside}
+
+-- two maps with the same variables for the lines below n
+abbrev pub Agree : ℕ → (ℕ → ℕ) → (ℕ → ℕ) → Type 0
+Agree n a b = (k : ℕ) → k < n → a k ≡ b k
+
+literals-local : (n : ℕ) (a b : ℕ → ℕ) → Agree n a b → (cs : List Control) → Within n cs → map (literalOf a) cs ≡ map (literalOf b) cs
+literals-local n a b h [] w = refl
+literals-local n a b h (c ∷ cs) w =
+    ap₂ (λ (x : ℤ) (xs : List ℤ). x ∷ xs) (ap (λ (v : ℕ). cond (c .positive) (plus v) (minus v)) (h (c .line) (w .0))) (literals-local n a b h cs (w .1))
+
+pub gate-local : (n used : ℕ) (a b : ℕ → ℕ) (g : Gate) → n ≤ maxLines → valid n g ≡ true → Agree n a b → clausesOfGate used a g ≡ clausesOfGate used b g
+gate-local n used a b g few v h =
+    ap₂ (gateClauses used) (h (g .target) (valid-facts n g v .target-below)) (literals-local n a b h (controlsOf g) (controls-within n g few v))
+
+pub moved-local : (n used : ℕ) (a b : ℕ → ℕ) (g : Gate) → Agree n a b → Agree n (moved used a g) (moved used b g)
+unfolding moved
+moved-local n used a b g h k l = ap (cond (eqb k (g .target)) (usedBy used g)) (h k l)
+
+pub gates-local : (n used : ℕ) (a b : ℕ → ℕ) (gs : List Gate) → n ≤ maxLines → allValid n gs ≡ true → Agree n a b → gatesClauses used a gs ≡ gatesClauses used b gs
+unfolding gatesClauses
+gates-local n used a b [] few v h = refl
+gates-local n used a b (g ∷ gs) few v h =
+    let (x, y) = valid-parts n g gs v in
+    ap₂ (λ (p q : List Clause). p ++ q) (gate-local n used a b g few x h)
+    (gates-local n (usedBy used g) (moved used a g) (moved used b g) gs few y (moved-local n used a b g h))
+
+pub differences-local : (n : ℕ) (hit : ℕ → Bool) (left a b : ℕ → ℕ) (used : ℕ) (ks : List ℕ) → Inside n ks → Agree n a b
+    → differenceClauses hit left a used ks ≡ differenceClauses hit left b used ks
+unfolding differenceClauses
+differences-local n hit left a b used [] w h = refl
+differences-local n hit left a b used (k ∷ ks) w h =
+    ap₂ (λ (c : Clause) (cs : List Clause). c ∷ cs) (ap (differenceClause (hit k) (suc used) (left k)) (h k (w .0))) (differences-local n hit left a b (suc used) ks (w .1) h)
+
+-- gates in a row
+pub used-append : (used : ℕ) (xs ys : List Gate) → usedAfter used (xs ++ ys) ≡ usedAfter (usedAfter used xs) ys
+unfolding usedAfter
+used-append used [] ys = refl
+used-append used (x ∷ xs) ys = used-append (usedBy used x) xs ys
+
+pub current-append : (used : ℕ) (current : ℕ → ℕ) (xs ys : List Gate)
+    → currentAfter used current (xs ++ ys) ≡ currentAfter (usedAfter used xs) (currentAfter used current xs) ys
+unfolding usedAfter currentAfter
+current-append used current [] ys = refl
+current-append used current (x ∷ xs) ys = current-append (usedBy used x) (moved used current x) xs ys
+
+pub gates-append : (used : ℕ) (current : ℕ → ℕ) (xs ys : List Gate)
+    → gatesClauses used current (xs ++ ys) ≡ gatesClauses used current xs ++ gatesClauses (usedAfter used xs) (currentAfter used current xs) ys
+unfolding gatesClauses usedAfter currentAfter
+gates-append used current [] ys = refl
+gates-append used current (x ∷ xs) ys =
+    ap (λ (cs : List Clause). clausesOfGate used current x ++ cs) (gates-append (usedBy used x) (moved used current x) xs ys)
+    ∙ sym (append-assoc (clausesOfGate used current x) (gatesClauses (usedBy used x) (moved used current x) xs) _)

@@ -1,0 +1,149 @@
+-- Truth tables, and the two kinds of clauses as folds over their literals. Assumes nothing.
+use mathlib.Core.Path.{_≡_, refl, sym, ap, _∙_}
+use mathlib.Core.Bool.{Bool, true, false, not, _&&_, _||_, xor, cond, true≢false, false≢true, and-assoc, Bool·not-not}
+use mathlib.Core.List.{List, [], _∷_, _++_}
+use Prim.Native.Nat.{ℕ, zero, suc, _+_, _%_, _<_, _≤_}
+use native.Mathlib.Omega.{arith}
+use lib.Dec.{eqb, leb}
+use lib.IntN.{ℤ, pos, negsuc, negℤ}
+use borrow.Author.Tests.{le-leb}
+use Rattle.checking.specs.Clauses.{Clause, OR, XOR}
+use Rattle.checking.specs.Satisfaction.{variable, value, trueCount, holds, satisfies, variableOf}
+
+-- two truth values are the same
+abbrev pub same : Bool → Bool → Bool
+same a b = cond a b (not b)
+
+pub same-true : (a b : Bool) → same a b ≡ true → a ≡ b
+same-true true b h = sym h
+same-true false true h = h
+same-true false false h = refl
+
+pub same-self : (a : Bool) → same a a ≡ true
+same-self true = refl
+same-self false = refl
+
+-- the second part is needed only where the first holds
+pub and-cong : (a a′ b b′ : Bool) → a ≡ a′ → (a′ ≡ true → b ≡ b′) → (a && b) ≡ (a′ && b′)
+and-cong true true b b′ e f = f refl
+and-cong true false b b′ e f = absurd (true≢false e)
+and-cong false true b b′ e f = absurd (false≢true e)
+and-cong false false b b′ e f = refl
+
+pub not-and : (a b : Bool) → not (a && b) ≡ (not a || not b)
+not-and true b = refl
+not-and false b = refl
+
+pub or-and : (p a b : Bool) → ((not p || a) && (not p || b)) ≡ (not p || (a && b))
+or-and true a b = refl
+or-and false a b = refl
+
+pub xor-self : (a : Bool) → xor a a ≡ false
+unfolding xor
+xor-self true = refl
+xor-self false = refl
+
+pub xor-none : (a : Bool) → xor a false ≡ a
+unfolding xor
+xor-none true = refl
+xor-none false = refl
+
+-- ---- the shapes of a gate's clauses, and of a line's
+
+pub shape-0 : (w v : Bool) → (xor w (xor v false) && true) ≡ (same w (xor v true) && true)
+unfolding xor
+shape-0 true true = refl
+shape-0 true false = refl
+shape-0 false true = refl
+shape-0 false false = refl
+
+pub shape-1 : (w v f : Bool) → (xor (not w) (xor v (xor f false)) && true) ≡ (same w (xor v f) && true)
+unfolding xor
+shape-1 true true true = refl
+shape-1 true true false = refl
+shape-1 true false true = refl
+shape-1 true false false = refl
+shape-1 false true true = refl
+shape-1 false true false = refl
+shape-1 false false true = refl
+shape-1 false false false = refl
+
+pub shape-2 : (p w v f : Bool) → ((p || not f) && ((not p || f) && (xor (not w) (xor v (xor p false)) && true))) ≡ (same p f && (same w (xor v f) && true))
+unfolding xor
+shape-2 true true true true = refl
+shape-2 true true true false = refl
+shape-2 true true false true = refl
+shape-2 true true false false = refl
+shape-2 true false true true = refl
+shape-2 true false true false = refl
+shape-2 true false false true = refl
+shape-2 true false false false = refl
+shape-2 false true true true = refl
+shape-2 false true true false = refl
+shape-2 false true false true = refl
+shape-2 false true false false = refl
+shape-2 false false true true = refl
+shape-2 false false true false = refl
+shape-2 false false false true = refl
+shape-2 false false false false = refl
+
+pub shape-d : (d a b : Bool) → xor (not d) (xor a (xor b false)) ≡ same d (xor a b)
+unfolding xor
+shape-d true true true = refl
+shape-d true true false = refl
+shape-d true false true = refl
+shape-d true false false = refl
+shape-d false true true = refl
+shape-d false true false = refl
+shape-d false false true = refl
+shape-d false false false = refl
+
+-- ---- an OR is the or of its literals, an XOR their xor
+
+abbrev pub someTrue : List Bool → List ℤ → Bool
+someTrue σ [] = false
+someTrue σ (l ∷ ls) = value σ l || someTrue σ ls
+
+abbrev pub oddTrue : List Bool → List ℤ → Bool
+oddTrue σ [] = false
+oddTrue σ (l ∷ ls) = xor (value σ l) (oddTrue σ ls)
+
+some-step : (v : Bool) (c : ℕ) → leb 1 (cond v 1 0 + c) ≡ (v || leb 1 c)
+some-step true c = le-leb 1 (1 + c) (omega arith)
+some-step false c = let e : 0 + c ≡ c = omega arith in ap (leb 1) e
+
+odd-step : (v : Bool) (c : ℕ) → eqb ((cond v 1 0 + c) % 2) 1 ≡ xor v (eqb (c % 2) 1)
+unfolding xor
+odd-step true c = let e : (1 + c) % 2 ≡ (1 + c % 2) % 2 = omega arith in ap (λ (r : ℕ). eqb r 1) e ∙ flip (c % 2) (omega arith)
+  where
+    flip : (r : ℕ) → r < 2 → eqb ((1 + r) % 2) 1 ≡ xor true (eqb r 1)
+    flip zero h = refl
+    flip (suc zero) h = refl
+    flip (suc (suc r)) h = absurd (omega arith)
+odd-step false c = let e : 0 + c ≡ c = omega arith in ap (λ (k : ℕ). eqb (k % 2) 1) e ∙ keep (eqb (c % 2) 1)
+  where
+    keep : (b : Bool) → b ≡ xor false b
+    keep true = refl
+    keep false = refl
+
+pub holds-or : (σ : List Bool) (ls : List ℤ) → holds σ (OR ls) ≡ someTrue σ ls
+unfolding holds
+holds-or σ [] = refl
+holds-or σ (l ∷ ls) = some-step (value σ l) (trueCount σ ls) ∙ ap (λ (b : Bool). value σ l || b) (holds-or σ ls)
+
+pub holds-xor : (σ : List Bool) (ls : List ℤ) → holds σ (XOR ls) ≡ oddTrue σ ls
+unfolding holds
+holds-xor σ [] = refl
+holds-xor σ (l ∷ ls) = odd-step (value σ l) (trueCount σ ls) ∙ ap (xor (value σ l)) (holds-xor σ ls)
+
+-- a literal of a variable has the opposite value of its negation
+pub value-neg : (σ : List Bool) (l : ℤ) → 1 ≤ variableOf l → value σ (negℤ l) ≡ not (value σ l)
+value-neg σ (pos zero) h = absurd (omega arith)
+value-neg σ (pos (suc i)) h = refl
+value-neg σ (negsuc i) h = sym (Bool·not-not (variable σ (suc i)))
+
+pub satisfies-append : (σ : List Bool) (xs ys : List Clause) → satisfies σ (xs ++ ys) ≡ (satisfies σ xs && satisfies σ ys)
+unfolding satisfies
+satisfies-append σ [] ys = refl
+satisfies-append σ (x ∷ xs) ys =
+    ap (λ (b : Bool). holds σ x && b) (satisfies-append σ xs ys) ∙ sym (and-assoc (holds σ x) (satisfies σ xs) (satisfies σ ys))
