@@ -1,5 +1,5 @@
 -- What is written for one input. Assumes nothing.
-use mathlib.Core.Path.{_≡_, refl, sym, ap, ap₂, subst, _∙_}
+use mathlib.Core.Path.{_≡_, refl, sym, ap, ap₂, _∙_}
 use mathlib.Core.Bool.{Bool, true, false, cond, _&&_}
 use mathlib.Core.List.{List, [], _∷_, _++_, append-nil}
 use mathlib.Core.Option.{Option, none, some}
@@ -8,26 +8,26 @@ use native.Mathlib.Nat.{le-trans}
 use native.Mathlib.Omega.{arith}
 use lib.Dec.{eqb, leb}
 use lib.ListN.{length}
-use borrow.Author.Tests.{le-leb, lt-leb, leb-true, ne-eqb, eq-eqb}
-use Rattle.bits.proofs.Bools.{either, and-parts, both, cond-true, cond-false}
+use borrow.Author.Tests.{le-leb, leb-true, ne-eqb, eq-eqb}
+use Rattle.bits.proofs.Bools.{and-parts, both, cond-true, cond-false}
 use Rattle.circuit.specs.declared.gate.Gate.{Gate}
 use Rattle.circuit.specs.Outcome.{served}
 use Rattle.circuit.specs.Run.{run, Differs}
 use Rattle.circuit.specs.Text.{digit}
-use Rattle.circuit.specs.File.{Reading, reading}
+use Rattle.circuit.specs.File.{reading}
 use Rattle.circuit.proofs.Promises.{reader, demand-met}
 use Rattle.text.specs.Dimacs.{thenRead}
 use Rattle.text.specs.Tomiter.{refusalText}
 use Rattle.text.specs.Compare.{fileWords, Files, cascades, faulty, wholeFile, filesOf, differWord, fitOutcome}
 use Rattle.text.specs.CompareLaws.{TwoFiles}
-use Rattle.text.specs.CheckInput.{maxChecked, stateText, stateRead, agreeWord, outputsText, Checked, checkedOn, checkedFiles, checked, checkedText, checkText, checkOutcome}
+use Rattle.text.specs.CheckInput.{maxChecked, stateText, stateRead, agreeWord, outputsText, checkedOn, checkedFiles, checked, checkedText, checkText, checkOutcome}
 use Rattle.text.specs.CheckInputLaws.{saidOf}
 use Rattle.text.proofs.pair.Laws as pair
 use Rattle.text.proofs.Longest.{fault-few}
 use Rattle.text.proofs.Verdicts.{Judged, judged}
 use Rattle.text.proofs.Decimal.{decimal-few}
 use Rattle.text.proofs.answer.Laws.{refusal-long}
-use Rattle.text.proofs.input.Laws.{parts, rooms-good}
+use Rattle.text.proofs.input.Laws.{parts}
 
 -- ---- a state in characters
 

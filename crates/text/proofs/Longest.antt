@@ -1,7 +1,7 @@
 -- No text that is written for two files is longer than `maxCompared`. Assumes nothing.
-use mathlib.Core.Path.{_≡_, refl, sym, ap, subst, _∙_}
-use mathlib.Core.List.{List, [], _∷_, _++_}
-use Prim.Native.Nat.{ℕ, suc, _+_, _*_, _^_, _≤_, _<_}
+use mathlib.Core.Path.{_≡_, sym, subst, _∙_}
+use mathlib.Core.List.{List, _∷_, _++_}
+use Prim.Native.Nat.{ℕ, _+_, _*_, _^_, _≤_, _<_}
 use native.Mathlib.Nat.{le-trans}
 use native.Mathlib.Omega.{arith}
 use lib.Dec.{eqb, leb}
@@ -11,8 +11,7 @@ use borrow.Author.Tests.{leb-true, le-leb}
 use Rattle.bits.proofs.Bools.{either, cond-true, cond-false}
 use Rattle.circuit.specs.declared.gate.Gate.{Gate}
 use Rattle.circuit.specs.Outcome.{served}
-use Rattle.circuit.specs.Run.{run, Differs}
-use Rattle.circuit.specs.FileLaws.{FileRefused}
+use Rattle.circuit.specs.Run.{run}
 use Rattle.circuit.proofs.Promises.{demand-met, run-below}
 use Rattle.checking.specs.Compare.{maxSweepLines, Difference, none, lowest, lowestFrom}
 use Rattle.checking.specs.Compare as sweep
@@ -22,12 +21,12 @@ use Rattle.checking.proofs.Promises.{sweep-says, clause-laws}
 use Rattle.text.specs.Dimacs.{headerText, clausesText, dimacsOf}
 use Rattle.text.specs.Plain.{plainClauses}
 use Rattle.text.specs.Tomiter.{refusalText}
-use Rattle.text.specs.Compare.{maxList, maxCompared, fileWords, miterWords, Files, cascades, faulty, filesOf, Comparison, gatesLeft, sweptAs, listAs, compared, comparedFiles, comparison, differText, comparisonText, compareText, fitOutcome, Rooms, compareOutcome}
+use Rattle.text.specs.Compare.{maxList, maxCompared, fileWords, miterWords, Files, cascades, faulty, filesOf, Comparison, gatesLeft, sweptAs, listAs, compared, comparedFiles, comparison, comparisonText, compareText, fitOutcome, Rooms, compareOutcome}
 use Rattle.text.specs.CompareLaws.{TwoFiles, FilesFault, first-long, second-long, first-file, after-first, second-file, after-second, lines-differ, list-long}
 use Rattle.text.proofs.Decimal.{decimal-few}
 use Rattle.text.proofs.Sizes.{fault-small}
 use Rattle.text.proofs.Rooms.{rooms-good}
-use Rattle.text.proofs.Verdicts.{Judged, judged, valid, lines, kept, left-few}
+use Rattle.text.proofs.Verdicts.{Judged, judged, lines, kept, left-few}
 use Rattle.text.proofs.plain.Laws.{plain-few}
 use Rattle.text.proofs.comparison.Laws.{list-short, list-within}
 use Rattle.text.proofs.answer.Laws.{digits-few, differ-long, refusal-long, header-long}

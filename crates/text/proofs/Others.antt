@@ -1,5 +1,5 @@
 -- Stand-ins for a program that compares two files do not have its claim. Assumes nothing.
-use mathlib.Core.Path.{_≡_, refl, sym, ap, ap₂, subst, _∙_}
+use mathlib.Core.Path.{_≡_, refl, sym, ap, ap₂, _∙_}
 use mathlib.Core.List.{List, [], _∷_, _++_, append-nil}
 use mathlib.Core.Option.{some}
 use Prim.Native.Nat.{ℕ, _^_, _≤_, _<_}
@@ -18,7 +18,7 @@ use Rattle.circuit.specs.Text.{tab, lineFeed, numberText, controlsText, gateLin
 use Rattle.circuit.specs.File.{Reading, reading}
 use Rattle.circuit.specs.FileLaws.{FileCascade}
 use Rattle.circuit.proofs.Promises.{reader}
-use Rattle.text.specs.Dimacs.{Dimacs, decimal, numberRead, headerText, clausesText, dimacsRead, partedBy}
+use Rattle.text.specs.Dimacs.{Dimacs, decimal, numberRead, headerText, dimacsRead, partedBy}
 use Rattle.text.specs.Tomiter.{refusalText}
 use Rattle.text.specs.BytesTell.{TextTells}
 use Rattle.text.specs.Compare.{maxFile, equalText, differWord, differText}

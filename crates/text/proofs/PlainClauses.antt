@@ -5,11 +5,11 @@ use mathlib.Core.Bool.{Bool, true, false, not, _&&_, _||_, xor}
 use mathlib.Core.List.{List, [], _∷_, _++_, map}
 use Prim.Native.Nat.{ℕ, _≤_, _<_}
 use native.Mathlib.Omega.{arith}
-use lib.IntN.{ℤ, pos, negsuc, negℤ}
+use lib.IntN.{ℤ, negℤ}
 use Rattle.circuit.specs.declared.gate.Gate.{Gate}
 use Rattle.checking.specs.Clauses.{Clause, OR, XOR}
-use Rattle.checking.specs.Satisfaction.{value, holds, satisfies, variableOf, spelled, LiteralsWithin, clauseLiterals, ClausesWithin, Satisfying, Tells}
-use Rattle.checking.proofs.Promises.{someTrue, oddTrue, holds-or, holds-xor, value-neg, satisfies-append, within-append, neg-size}
+use Rattle.checking.specs.Satisfaction.{value, holds, satisfies, variableOf, LiteralsWithin, clauseLiterals, ClausesWithin, Satisfying, Tells}
+use Rattle.checking.proofs.Promises.{oddTrue, holds-or, holds-xor, value-neg, satisfies-append, within-append, neg-size}
 use Rattle.text.specs.Plain.{negations, plainClause, plainClauses, AllOr}
 
 -- ---- satisfaction

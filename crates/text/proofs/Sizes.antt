@@ -1,17 +1,17 @@
 -- No text is longer than `maxText`. Assumes nothing.
 use mathlib.Core.Path.{_≡_, refl, sym, ap, subst}
 use mathlib.Core.List.{List, [], _∷_, _++_}
-use Prim.Native.Nat.{ℕ, zero, suc, _*_, _^_, _/_, _≤_, _<_}
+use Prim.Native.Nat.{ℕ, suc, _*_, _^_, _/_, _≤_, _<_}
 use native.Mathlib.Nat.{le-trans}
 use native.Mathlib.Omega.{arith}
-use lib.Dec.{eqb, leb, ltb}
+use lib.Dec.{eqb, leb}
 use lib.IntN.{ℤ, pos, negsuc}
 use lib.ListN.{length, drop, length-append}
-use borrow.Author.Tests.{eqb-true, leb-true, ltb-true, ltb-false}
+use borrow.Author.Tests.{eqb-true, leb-true}
 use Rattle.bits.proofs.Bools.{either, cond-true, cond-false}
 use Rattle.circuit.specs.declared.gate.Gate.{Gate}
 use Rattle.circuit.specs.Outcome.{Outcome, served, refused}
-use Rattle.circuit.specs.Text.{tab, lineFeed, digit}
+use Rattle.circuit.specs.Text.{tab, lineFeed}
 use Rattle.circuit.specs.File.{Line, Reading, reading}
 use Rattle.circuit.specs.FileLaws.{FileCascade, HeaderOffence, no-lines, no-number, outside, ControlsOffence, form, value, later, LineOffence, no-gate, many, target-form, target-value, controls, controlled, not-rising, FileRefused, header-line, later-line}
 use Rattle.circuit.specs.FileLaws as laws

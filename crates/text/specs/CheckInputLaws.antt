@@ -1,7 +1,7 @@
 -- What is proved of the text that is written for one input.
 use mathlib.Core.Path.{_≡_}
 use mathlib.Core.List.{List, [], _∷_, _++_}
-use mathlib.Core.Option.{none, some}
+use mathlib.Core.Option.{some}
 use Prim.Native.Nat.{ℕ, _^_, _<_, _≤_}
 use lib.ListN.{length}
 use Rattle.circuit.specs.declared.gate.Gate.{Gate}
@@ -10,7 +10,7 @@ use Rattle.circuit.specs.Run.{run, Differs}
 use Rattle.circuit.specs.Text.{tab, lineFeed}
 use Rattle.text.specs.Tomiter.{refusalText}
 use Rattle.text.specs.Compare.{fileWords, differWord}
-use Rattle.text.specs.CompareLaws.{TwoFiles, FilesFault}
+use Rattle.text.specs.CompareLaws.{TwoFiles}
 use Rattle.text.specs.CheckInput.{maxChecked, stateText, stateRead, agreeWord, checkText, checkOutcome}
 
 -- a word and the outputs of two cascades on x

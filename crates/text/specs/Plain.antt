@@ -1,7 +1,6 @@
 -- A clause list as OR clauses alone, with no variable added.
 use mathlib.Core.Bool.{Bool, true, false, not}
 use mathlib.Core.List.{List, [], _∷_, _++_, map}
-use Prim.Native.Nat.{ℕ}
 use lib.IntN.{ℤ, negℤ}
 use Rattle.checking.specs.Clauses.{Clause, OR, XOR}
 

@@ -1,7 +1,7 @@
 // The text of a clause list, and the program's whole job on slices.
 
 use circuit::refusal::Refusal;
-ghost use Rattle.text.specs.Tomiter.{WritesText, tomiterOutcome, tomiterBuffer};
+ghost use Rattle.text.specs.Tomiter.{WritesText};
 ghost use lib.ListN.{length};
 ghost use Rattle.circuit.specs.Outcome.{Yields};
 ghost use Rattle.text.specs.Compare.{rooms, compareOutcome, compareBuffer};

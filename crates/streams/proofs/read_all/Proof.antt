@@ -1,6 +1,5 @@
 -- `streams::read_all` meets its contract. Assumes nothing.
 use mathlib.Core.Path.{_≡_}
-use native.Mathlib.Omega.{arith}
 use Prim.Native.Nat.{_≤_, _+_, _-_}
 use lib.ListN.{length}
 use borrow.Author.Needs.{needs}

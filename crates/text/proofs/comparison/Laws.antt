@@ -8,22 +8,20 @@ use lib.Dec.{eqb, leb}
 use lib.IntN.{ℤ}
 use lib.ListN.{length, take, drop, length-append}
 use lib.Seq.{length-take-le, take-append-le}
-use borrow.Author.Tests.{eq-eqb, ne-eqb, le-leb, lt-leb, leb-true, leb-false}
+use borrow.Author.Tests.{eq-eqb, ne-eqb, le-leb, lt-leb, leb-false}
 use Rattle.bits.proofs.Bools.{either, cond-true, cond-false}
 use Rattle.circuit.specs.declared.gate.Gate.{Gate}
 use Rattle.circuit.specs.declared.refusal.Refusal.{Refusal}
-use Rattle.circuit.specs.Gate.{Control, controlsOf, maxLines, maxMiterGates}
+use Rattle.circuit.specs.Gate.{controlsOf, maxLines, maxMiterGates}
 use Rattle.circuit.specs.Outcome.{Outcome, served, refused}
 use Rattle.circuit.specs.Refusal.{refusal, noRoom}
 use Rattle.circuit.specs.Words.{gatesOf, allValid, Cascade}
-use Rattle.circuit.specs.Run.{run}
 use Rattle.circuit.proofs.Promises.{never, demand-met, demand-failed, gates-length, served-pair}
 use Rattle.checking.specs.declared.clauses.Totals.{Totals}
-use Rattle.checking.specs.Miter.{miterGates}
 use Rattle.checking.specs.Reduce.{Reduced, reduceGates, numbered, reduceOutcome, reduceBuffer}
-use Rattle.checking.specs.Compare.{maxSweepLines, Difference, none, lowest, lowestFrom, differenceOutcome}
-use Rattle.checking.specs.Clauses.{Clause, OR, XOR, inputOf, moved, usedBy, literalOf, implied, gateClauses, gatesClauses, usedAfter, currentAfter, targeted, upFrom, differenceClause, differenceClauses, clausesOf, variablesOf}
-use Rattle.checking.specs.Satisfaction.{variableOf, LiteralsWithin, clauseLiterals, ClausesWithin}
+use Rattle.checking.specs.Compare.{maxSweepLines, Difference, lowestFrom, differenceOutcome}
+use Rattle.checking.specs.Clauses.{Clause, inputOf, moved, usedBy, literalOf, implied, gateClauses, gatesClauses, usedAfter, currentAfter, targeted, upFrom, differenceClause, differenceClauses, clausesOf, variablesOf}
+use Rattle.checking.specs.Satisfaction.{LiteralsWithin, clauseLiterals, ClausesWithin}
 use Rattle.checking.specs.Stored.{stored}
 use Rattle.checking.specs.Emit.{emitOutcome, emitBuffer}
 use Rattle.checking.proofs.Promises.{reduce-laws, difference-made, clause-laws}
@@ -31,9 +29,9 @@ use Rattle.text.specs.declared.comparison.ComparedAnswer.{ComparedAnswer
 use Rattle.text.specs.declared.comparison.ComparedAnswer.the-variants as answer
 use Rattle.text.specs.declared.pair.FilesAnswer.the-variants as files
 use Rattle.text.specs.private.Lists.{FileWords, ListStands}
-use Rattle.text.specs.private.Words.{ShortClause, AllShort, maxVariables, storedIn, StoresPlain}
-use Rattle.text.specs.Compare.{maxList, Comparison, reduced, swept, differing, unsolved, refusedAt, gatesLeft, sweptAs, listAs, compared, filesOf, comparedFiles, comparison}
-use Rattle.text.specs.private.Comparing.{InRoom, MiterWords, MiterCascade, LeftIn, ofCompared, InClauses, SaysFiles, SaysCompared, SaysAny}
+use Rattle.text.specs.private.Words.{ShortClause, AllShort, maxVariables}
+use Rattle.text.specs.Compare.{maxList, Comparison, reduced, unsolved, refusedAt, gatesLeft, sweptAs, listAs, compared, filesOf, comparedFiles, comparison}
+use Rattle.text.specs.private.Comparing.{InRoom, MiterWords, MiterCascade, LeftIn, SaysFiles, SaysCompared, SaysAny}
 use Rattle.text.proofs.list.Laws.{emit-is, emit-stands}
 use Rattle.text.proofs.plain.Laws.{stored-in}
 

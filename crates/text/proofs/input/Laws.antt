@@ -8,12 +8,12 @@ use native.Mathlib.Numerals.{add-one}
 use native.Mathlib.Omega.{arith}
 use lib.Dec.{eqb, leb}
 use mir.Val.{boolByte}
-use lib.ListN.{length, take, drop, set, getD, length-set, length-append, length-drop}
+use lib.ListN.{length, take, drop, set, getD, length-set, length-append}
 use lib.Pow.{pow-mono}
 use lib.Seq.{drop-cons, take-all}
 use borrow.Author.Tests.{le-leb, lt-leb, eq-eqb, ne-eqb}
 use Rattle.bits.specs.Lists.{over}
-use Rattle.bits.proofs.Bools.{both, and-second, either, cond-true, cond-false}
+use Rattle.bits.proofs.Bools.{both, and-second, cond-true, cond-false}
 use Rattle.bits.proofs.Lists.{over-prefix}
 use Rattle.circuit.specs.declared.refusal.Refusal.{Refusal}
 use Rattle.circuit.specs.Outcome.{Outcome, refused, written, Yields}

@@ -15,12 +15,12 @@ use Rattle.bits.proofs.Lists.{over-length}
 use Rattle.circuit.specs.declared.gate.Gate.{Gate}
 use Rattle.circuit.specs.declared.refusal.Refusal.{Refusal}
 use Rattle.circuit.specs.Gate.{maxGates, maxMiterGates}
-use Rattle.circuit.specs.Outcome.{Outcome, served, refused, demand, andThen, before, then, fails, written}
+use Rattle.circuit.specs.Outcome.{Outcome, served, refused, demand, before, then, fails}
 use Rattle.circuit.specs.Refusal.{wrongForm, lineCountsDiffer, noRoom}
 use Rattle.circuit.specs.Words.{gatesOf, wordsOf, Cascade}
-use Rattle.circuit.proofs.Promises.{never, demand-met, demand-failed, then-served, gates-words, words-length, served-check, pair-refused, reader, read-served, read-refused, read-leaves}
+use Rattle.circuit.proofs.Promises.{never, demand-met, demand-failed, gates-words, words-length, pair-refused, reader, read-served, read-refused, read-leaves}
 use Rattle.circuit.specs.Text.{textOf}
-use Rattle.circuit.specs.File.{Reading, reading, ReadCounts, gatesRead, readOutcome, readBuffer}
+use Rattle.circuit.specs.File.{Reading, reading, ReadCounts, readOutcome, readBuffer}
 use Rattle.circuit.specs.FileLaws.{ReadRefused}
 use Rattle.checking.specs.declared.clauses.Totals.{Totals}
 use Rattle.checking.specs.Miter.{miterGates, miterOutcome, miterBuffer}

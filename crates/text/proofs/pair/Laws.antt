@@ -1,24 +1,22 @@
 -- What a file and two files say, case by case. Assumes nothing.
-use mathlib.Core.Path.{_≡_, refl, sym, ap, ap₂, subst, _∙_}
+use mathlib.Core.Path.{_≡_, sym, ap, ap₂, subst, _∙_}
 use mathlib.Core.List.{List}
 use Prim.Native.Nat.{ℕ, _+_, _*_, _≤_, _<_}
 use lib.Dec.{eqb, leb}
-use lib.ListN.{length, take}
+use lib.ListN.{length}
 use borrow.Author.Tests.{eq-eqb, ne-eqb, le-leb, lt-leb}
 use Rattle.bits.proofs.Bools.{cond-true, cond-false}
 use Rattle.circuit.specs.declared.gate.Gate.{Gate}
 use Rattle.circuit.specs.declared.refusal.Refusal.{Refusal}
 use Rattle.circuit.specs.Outcome.{Outcome, served, refused}
 use Rattle.circuit.specs.Refusal.{refusal, wrongForm, lineCountsDiffer, noRoom}
-use Rattle.circuit.specs.Words.{gatesOf}
 use Rattle.circuit.specs.File.{Reading, reading}
 use Rattle.circuit.proofs.Promises.{demand-met, demand-failed, then-served, then-refused}
 use Rattle.text.specs.declared.pair.WholeAnswer.{WholeAnswer}
 use Rattle.text.specs.declared.pair.WholeAnswer.the-variants as whole
-use Rattle.text.specs.declared.pair.FilesAnswer.{FilesAnswer}
 use Rattle.text.specs.declared.pair.FilesAnswer.the-variants as files
 use Rattle.text.specs.Compare.{maxFile, Files, cascades, faulty, wholeFile, inFile, secondFile, filesOf}
-use Rattle.text.specs.private.Comparing.{InRoom, SaysWhole, SaysFiles}
+use Rattle.text.specs.private.Comparing.{SaysWhole, SaysFiles}
 use Rattle.text.proofs.list.Laws.{FileRead}
 
 -- ---- a file

@@ -13,7 +13,7 @@ use Rattle.circuit.specs.Gate.{maxMiterGates}
 use Rattle.circuit.specs.Outcome.{Outcome, served, refused, demand, Untouched, Yields}
 use Rattle.circuit.specs.Refusal.{noRoom}
 use Rattle.circuit.specs.Words.{gatesOf, checkOutcome, WordsRefused, Cascade}
-use Rattle.circuit.proofs.Promises.{told, written-served, written-refused, then-served, then-refused, then-both, demand-met, demand-failed, demanded, wrong-refused, fails-refused, same-refused, above, check-served, served-check, check-refused, refused-check, then-fails, then-either, last-failed}
+use Rattle.circuit.proofs.Promises.{told, written-served, written-refused, then-served, then-refused, then-both, demand-met, demand-failed, demanded, wrong-refused, fails-refused, same-refused, above, check-served, served-check, check-refused, refused-check}
 use Rattle.checking.specs.declared.clauses.Totals.{Totals}
 use Rattle.checking.specs.Clauses.{clausesOf, variablesOf}
 use Rattle.checking.specs.Stored.{stored}

@@ -13,12 +13,12 @@ use Rattle.circuit.specs.Outcome.{served, refused}
 use Rattle.circuit.specs.Refusal.{badState, agreeingState, noRoom, tooWide}
 use Rattle.circuit.specs.Words.{gatesOf, pairOutcome, GoodPair, PairRefused}
 use Rattle.circuit.specs.Run.{run}
-use Rattle.circuit.proofs.Promises.{never, unserved, demand-met, demand-failed, demanded, then-both, same-refusal, wrong-refused, fails-refused, same-refused, at-least, above, pair-served, served-pair, pair-refused, pair-wrong, then-fails, then-either, last-failed}
+use Rattle.circuit.proofs.Promises.{never, unserved, demand-met, demand-failed, demanded, then-both, same-refusal, wrong-refused, fails-refused, same-refused, at-least, above, pair-served, served-pair, pair-refused, pair-wrong}
 use Rattle.checking.specs.Compare.{outputsDiffer, maxSweepLines, differenceOutcome, differsOutcome, pickOutcome}
 use Rattle.checking.specs.Faults.{gateMasks, eachFrom, faultCheck, faultOutcome}
 use Rattle.checking.specs.RefusalLaws.{SweepRefused, DiffersRefused, Every, First, AtFirst, at-first, StatesRefused, StatesGood, MasksRefused, RefusalLaws}
-use Rattle.checking.proofs.lemmas.compare.Laws.{differ-no, no-differ, differ-yes, yes-differ, difference-refused, difference-wide, differs-refused, differs-outside, pick-refused}
-use Rattle.checking.proofs.lemmas.faults.Loops.{fault-good, fault-made, fault-pair, fault-state, fault-agree, fault-refused, fault-short}
+use Rattle.checking.proofs.lemmas.compare.Laws.{differ-no, no-differ, differ-yes, yes-differ, pick-refused}
+use Rattle.checking.proofs.lemmas.faults.Loops.{fault-good, fault-made}
 
 -- ---- the tests of the states
 

@@ -19,7 +19,7 @@ use Rattle.circuit.specs.Refusal.{noRoom}
 use Rattle.circuit.specs.Words.{gatesOf, wordsOf, allValid, Counts, pairOutcome}
 use Rattle.circuit.specs.Run.{run}
 use Rattle.circuit.specs.Inverse.{inverse, putInverse}
-use Rattle.circuit.proofs.Promises.{told, demand-met, demand-failed, demanded, then-served, then-refused, then-both, above, written-refused, gates-length, gates-words, words-gates, words-append, words-length, valid-append, pair-served, served-pair, pair-wrong, run-append, run-inverse, inverse-run, inverse-valid, inverse-fits, never, served-check, pair-refused}
+use Rattle.circuit.proofs.Promises.{told, demand-met, demand-failed, demanded, then-served, then-refused, then-both, above, written-refused, gates-length, gates-words, words-gates, words-append, words-length, valid-append, pair-served, served-pair, pair-wrong, run-append, run-inverse, inverse-run, inverse-valid, inverse-fits}
 use Rattle.checking.specs.Miter.{miterGates, miterOutcome, miterBuffer}
 use Rattle.checking.specs.MiterLaws.{MiterServed, MiterRefused, MiterStands, MiterLaws}
 

@@ -18,8 +18,8 @@ use Rattle.circuit.specs.File.{Line, noLine, firstLine, laterLines, line
 use Rattle.circuit.specs.FileLaws as laws
 use Rattle.circuit.specs.FileLaws.{FileCascade, LineOffence, FileRefused, ReaderLaws, Readable, ReadAs, ReadRefused, Writable, WriteRefused}
 use Rattle.circuit.specs.Words.{gatesOf, checkOutcome}
-use Rattle.circuit.proofs.lemmas.words.Laws.{check-served, served-check, words-wrong, check-refused, refused-check}
-use Rattle.circuit.proofs.lemmas.Outcome.{never, demand-met, demand-failed, then-served, then-refused, then-both, demanded, wrong-refused, fails-refused, above, then-either, last-failed, same-refusal}
+use Rattle.circuit.proofs.lemmas.words.Laws.{check-served, served-check, words-wrong}
+use Rattle.circuit.proofs.lemmas.Outcome.{never, demand-met, demand-failed, then-served, then-refused, then-both, demanded, wrong-refused, fails-refused, above}
 use Rattle.circuit.proofs.lemmas.file.Lines.{Cut, cut-first}
 use Rattle.circuit.proofs.lemmas.file.Texts.{headerText, start-read, text-read}
 use Rattle.circuit.proofs.lemmas.file.Offences.{HeaderFound, header-found, header-refused, offence-refused, offence-open, Walked, whole-text, stopped, walked}

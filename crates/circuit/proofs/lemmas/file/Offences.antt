@@ -6,7 +6,7 @@ use Prim.Native.Nat.{ℕ, _+_, _≤_, _<_}
 use native.Mathlib.Omega.{arith}
 use lib.Dec.{eqb, leb, ltb}
 use lib.ListN.{length, drop, length-append}
-use borrow.Author.Tests.{le-leb, lt-leb, lt-ltb, le-ltb, ltb-true, ltb-false, leb-true, leb-false, eqb-true}
+use borrow.Author.Tests.{le-leb, lt-leb, lt-ltb, le-ltb, ltb-true, ltb-false, leb-false, eqb-true}
 use Rattle.bits.proofs.Bools.{either, and-parts, both, not-held, refuted, cond-true, cond-false, and-second}
 use Rattle.circuit.specs.declared.gate.Gate.{Gate}
 use Rattle.circuit.specs.Gate.{maxLines, maxGates, valid, Control}

@@ -8,7 +8,7 @@ use native.Mathlib.Omega.{arith}
 use lib.Dec.{leb}
 use lib.ListN.{length, drop, take, length-reverse, length-drop}
 use lib.Seq.{take-at, drop-at}
-use borrow.Author.Tests.{le-leb, lt-leb, leb-true, leb-false}
+use borrow.Author.Tests.{le-leb, lt-leb, leb-true}
 use borrow.Rule.Slice.PartMut.{putMid}
 use Rattle.bits.specs.Lists.{over}
 use Rattle.bits.proofs.Bools.{and-parts, both}
@@ -22,8 +22,8 @@ use Rattle.circuit.specs.Inverse.{inverse, putInverse, inverseOutcome, i
 use Rattle.circuit.specs.Run.{run}
 use Rattle.circuit.specs.Laws.{InverseRefused, InverseStands}
 use Rattle.circuit.proofs.lemmas.gate.Laws.{apply-twice}
-use Rattle.circuit.proofs.lemmas.Outcome.{demand-met, demand-failed, then-served, then-refused, then-both, demanded, written-refused, told, above, then-either, last-failed}
-use Rattle.circuit.proofs.lemmas.words.Laws.{words-wrong, gates-next, gates-end, gates-length, words-length, gates-words, words-reverse, valid-append, words-cascade, cascade-count, cascade-words, check-served, served-check, check-refused, refused-check}
+use Rattle.circuit.proofs.lemmas.Outcome.{demand-met, demand-failed, then-served, then-refused, then-both, demanded, written-refused, told, above}
+use Rattle.circuit.proofs.lemmas.words.Laws.{words-wrong, gates-next, gates-end, gates-length, words-length, gates-words, words-reverse, valid-append, words-cascade, cascade-count, cascade-words, check-served, served-check}
 
 -- the words of the gates from j on, in reverse order
 abbrev pub tailBack : List ℕ → ℕ → List ℕ

@@ -6,20 +6,20 @@ use mathlib.Core.List.{List, [], _∷_, _++_}
 use Prim.Native.Nat.{ℕ, _+_, _*_, _/_, _^_, _<_, _≤_}
 use lib.Dec.{eqb, ltb}
 use lib.ListN.{length, drop}
-use borrow.Author.Tests.{eqb-true, eqb-false, lt-ltb, le-ltb, ltb-true, ltb-false}
+use borrow.Author.Tests.{eqb-true, eqb-false, lt-ltb, ltb-true}
 use Rattle.bits.specs.Lists.{fold}
 use Rattle.bits.proofs.Lists.{fold-append}
 use Rattle.bits.proofs.Bools.{and-parts, either}
 use Rattle.circuit.specs.declared.gate.Gate.{Gate}
-use Rattle.circuit.specs.Gate.{maxLines, maxGates, apply, toggled, valid}
+use Rattle.circuit.specs.Gate.{maxLines, maxGates, apply, valid}
 use Rattle.circuit.specs.Outcome.{Outcome, served, refused, andThen}
 use Rattle.circuit.specs.Refusal.{badState, badLineCount}
 use Rattle.circuit.specs.Words.{gateAt, gatesOf, allValid, lineCountGood, validFrom, sizeOutcome, checkOutcome, Cascade}
 use Rattle.circuit.specs.Run.{run, runTested, Equal, Differs, runOutcome}
 use Rattle.circuit.specs.Laws.{RunRefused}
-use Rattle.circuit.proofs.lemmas.Outcome.{demand-met, demand-failed, then-served, then-refused, then-both, then-fails, demanded, at-least, then-either, last-failed}
+use Rattle.circuit.proofs.lemmas.Outcome.{demand-met, demand-failed, then-served, then-refused, then-both, then-fails, demanded, at-least}
 use Rattle.circuit.proofs.lemmas.gate.Laws.{apply-below, toggled-apply}
-use Rattle.circuit.proofs.lemmas.words.Laws.{words-wrong, gates-next, gates-end, check-lines, check-gates, gates-refused, gates-sized, check-served, served-check, check-refused, refused-check}
+use Rattle.circuit.proofs.lemmas.words.Laws.{words-wrong, gates-next, gates-end, check-lines, check-gates, gates-refused, gates-sized, check-served, served-check}
 
 -- a turn over the words: gate i acts, by the rule f, and the others after it
 module _ (f : Gate → ℕ → ℕ) where

@@ -1,15 +1,14 @@
 -- `text::answer::fit_clauses` meets its contract. Assumes nothing.
 use mathlib.Core.Path.{_≡_, ap, sym, _∙_}
-use mathlib.Core.List.{List, _++_}
+use mathlib.Core.List.{_++_}
 use Prim.Native.Nat.{ℕ, _+_, _≤_, _*_}
 use native.Mathlib.Omega.{arith}
-use lib.IntN.{ℤ}
 use lib.ListN.{length, length-append}
 use Rattle.circuit.proofs.Promises.{put-as}
 use Rattle.text.specs.declared.plain.PlainSizes.{PlainSizes}
-use Rattle.text.specs.Dimacs.{headerText, clausesText, dimacsOf, decimal}
+use Rattle.text.specs.Dimacs.{headerText, dimacsOf, decimal}
 use Rattle.text.specs.Plain.{plainClauses}
-use Rattle.text.specs.private.Words.{storedIn, StoresPlain, plainText, plainSizes}
+use Rattle.text.specs.private.Words.{storedIn, plainText}
 use Rattle.text.proofs.plain.Laws.{sizing-start}
 use Rattle.text.proofs.answer.Laws.{fit-refused, fit-put, digits-few, header-long}
 use borrow.Author.Needs.{needs}

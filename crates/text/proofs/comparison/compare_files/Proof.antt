@@ -1,11 +1,10 @@
 -- `text::comparison::compare_files` meets its contract. Assumes nothing.
-use mathlib.Core.Path.{refl, sym, ap, subst, _∙_}
-use Prim.Native.Nat.{ℕ}
+use mathlib.Core.Path.{sym, subst, _∙_}
 use native.Mathlib.Omega.{arith}
 use lib.Seq.{length-take-le}
 use Rattle.text.specs.declared.pair.FilesAnswer.{FilesAnswer}
 use Rattle.text.specs.declared.pair.FilesAnswer.the-variants as files
-use Rattle.text.specs.Compare.{Files, filesOf, comparedFiles, comparison}
+use Rattle.text.specs.Compare.{filesOf}
 use Rattle.text.specs.private.Comparing.{SaysFiles}
 use Rattle.text.proofs.comparison.Laws.{room-few, compared-as, refused-as}
 use borrow.Author.Needs.{needs}

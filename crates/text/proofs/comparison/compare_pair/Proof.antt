@@ -1,9 +1,6 @@
 -- `text::comparison::compare_pair` meets its contract. Assumes nothing.
-use mathlib.Core.Path.{refl, sym, ap, subst, _∙_}
-use mathlib.Core.List.{List}
+use mathlib.Core.Path.{refl, sym, ap, _∙_}
 use native.Mathlib.Omega.{arith}
-use Rattle.circuit.specs.declared.gate.Gate.{Gate}
-use Rattle.circuit.specs.Words.{gatesOf}
 use Rattle.text.specs.Compare.{reduced, listAs}
 use Rattle.text.proofs.comparison.Laws.{by-reduction, by-sweep, by-clauses, says-as}
 use borrow.Author.Needs.{needs}

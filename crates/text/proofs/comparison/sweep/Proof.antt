@@ -1,6 +1,5 @@
 -- `text::comparison::sweep` meets its contract. Assumes nothing.
-use mathlib.Core.Path.{refl, sym, ap, ap₂, _∙_}
-use Prim.Native.Nat.{ℕ}
+use mathlib.Core.Path.{refl, ap, ap₂, _∙_}
 use Rattle.circuit.specs.Gate.{maxLines}
 use Rattle.circuit.proofs.Promises.{valid-all-more, run-tested}
 use Rattle.checking.specs.Compare.{none, lowest, ofDifference}

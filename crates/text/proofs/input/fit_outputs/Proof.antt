@@ -1,6 +1,5 @@
 -- `text::input::fit_outputs` meets its contract. Assumes nothing.
 use native.Mathlib.Omega.{arith}
-use lib.ListN.{length}
 use Rattle.text.specs.CheckInput.{outputsText}
 use Rattle.text.proofs.answer.Laws.{fit-refused, fit-put}
 use Rattle.text.proofs.input.Laws.{size-is, parts}

@@ -1,10 +1,9 @@
 -- `text::input::put_outputs` meets its contract. Assumes nothing.
-use mathlib.Core.Path.{_≡_, refl, sym, ap, ap₂, subst, _∙_}
-use mathlib.Core.List.{List, [], _∷_, _++_}
+use mathlib.Core.Path.{_≡_, _∙_}
+use mathlib.Core.List.{[], _∷_, _++_}
 use native.Mathlib.Omega.{arith}
-use lib.ListN.{length, length-append}
-use Rattle.circuit.specs.Text.{tab, lineFeed}
-use Rattle.circuit.proofs.Promises.{put-as}
+use lib.ListN.{length-append}
+use Rattle.circuit.specs.Text.{lineFeed}
 use Rattle.text.specs.CheckInput.{stateText}
 use Rattle.text.proofs.put.Laws.{two-put}
 use Rattle.text.proofs.input.Laws.{state-long}

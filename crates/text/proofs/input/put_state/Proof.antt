@@ -1,9 +1,7 @@
 -- `text::input::put_state` meets its contract. The loop's invariant: the characters of the lines that were passed stand at the buffer's start. Assumes nothing.
 use Prim.Native.Nat.{_-_}
 use native.Mathlib.Omega.{arith}
-use lib.ListN.{length}
 use Rattle.text.proofs.input.Laws.{Stating, stating-start, stating-on, stating-done}
-use borrow.Author.Needs.{needs}
 use Rattle.text.proofs.input.put_state.Statement.{statement}
 use Rattle.text.proofs.input.put_state.Tie as tie
 

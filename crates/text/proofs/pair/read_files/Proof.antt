@@ -1,9 +1,6 @@
 -- `text::pair::read_files` meets its contract. Assumes nothing.
-use mathlib.Core.Path.{refl, sym, ap, subst, _∙_}
-use mathlib.Core.List.{List}
-use Prim.Native.Nat.{ℕ}
+use mathlib.Core.Path.{refl, sym, _∙_}
 use native.Mathlib.Omega.{arith}
-use Rattle.text.specs.private.Comparing.{SaysFiles}
 use Rattle.text.proofs.pair.Laws.{first-long, second-long, first-refused, first-served, says-fault, told-whole}
 use borrow.Author.Needs.{needs}
 use Rattle.text.proofs.pair.read_files.Statement.{statement}

@@ -1,10 +1,7 @@
 -- `text::pair::read_second` meets its contract. Assumes nothing.
-use mathlib.Core.Path.{refl, sym, ap, ap₂, subst, _∙_}
-use mathlib.Core.List.{List}
+use mathlib.Core.Path.{refl, sym, subst, _∙_}
 use Prim.Native.Nat.{ℕ}
-use Rattle.circuit.specs.declared.gate.Gate.{Gate}
-use Rattle.text.specs.Compare.{cascades}
-use Rattle.text.specs.private.Comparing.{SaysWhole, InRoom}
+use Rattle.text.specs.private.Comparing.{InRoom}
 use Rattle.text.proofs.pair.Laws.{second-refused, second-differs, second-same, says-fault, told-whole}
 use borrow.Author.Needs.{needs}
 use Rattle.text.proofs.pair.read_second.Statement.{statement}

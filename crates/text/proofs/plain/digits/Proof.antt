@@ -6,7 +6,6 @@ use native.Mathlib.Omega.{arith}
 use lib.Dec.{ltb}
 use lib.ListN.{length, length-append}
 use borrow.Author.Tests.{ltb-true, ltb-false}
-use borrow.Author.Needs.{needs}
 use Rattle.bits.proofs.Bools.{either}
 use Rattle.circuit.specs.Text.{digit}
 use Rattle.text.specs.Dimacs.{decimal}

@@ -1,16 +1,14 @@
 -- `text::plain::put_both` meets its contract. Assumes nothing.
-use mathlib.Core.Path.{_≡_, refl, sym, ap, ap₂, subst, _∙_}
+use mathlib.Core.Path.{_≡_, ap, ap₂, _∙_}
 use mathlib.Core.List.{List, [], _∷_, _++_}
-use Prim.Native.Nat.{ℕ, _+_}
+use Prim.Native.Nat.{_+_}
 use native.Mathlib.Omega.{arith}
 use mir.Syntax.{w16}
 use mir.Val.{toZ, ofZ}
 use lib.IntN.{ℤ, negℤ}
 use lib.ListN.{length}
-use Rattle.circuit.proofs.Promises.{put-as}
-use Rattle.checking.specs.Clauses.{Clause, OR, XOR}
+use Rattle.checking.specs.Clauses.{Clause, OR}
 use Rattle.text.specs.Dimacs.{clausesText}
-use Rattle.text.specs.Plain.{plainClause}
 use Rattle.text.specs.private.Words.{bothOrs}
 use Rattle.text.proofs.dimacs.Signed.{word-is}
 use Rattle.text.proofs.plain.Laws.{passed-opposite, clauses-long, halves-put, three-words}

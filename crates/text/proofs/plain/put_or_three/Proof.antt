@@ -1,12 +1,10 @@
 -- `text::plain::put_or_three` meets its contract. Assumes nothing.
 use mathlib.Core.Path.{_≡_, ap, sym, _∙_}
 use mathlib.Core.List.{List, [], _∷_, _++_}
-use native.Mathlib.Omega.{arith}
 use lib.IntN.{ℤ}
 use lib.ListN.{length}
 use Rattle.circuit.proofs.Promises.{put-as}
-use Rattle.checking.specs.Clauses.{OR}
-use Rattle.text.specs.Dimacs.{literalsText, closing, clausesText}
+use Rattle.text.specs.Dimacs.{literalsText, closing}
 use Rattle.text.proofs.plain.Laws.{or-text, or-long, three-words}
 use borrow.Author.Needs.{needs}
 use Rattle.text.proofs.plain.put_or_three.Statement.{statement}

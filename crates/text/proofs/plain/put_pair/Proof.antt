@@ -1,7 +1,7 @@
 -- `text::plain::put_pair` meets its contract. Assumes nothing.
-use mathlib.Core.Path.{_≡_, refl, sym, ap, ap₂, subst, _∙_}
+use mathlib.Core.Path.{_≡_, sym, ap, ap₂, _∙_}
 use mathlib.Core.List.{List, [], _∷_, _++_}
-use Prim.Native.Nat.{ℕ, _+_}
+use Prim.Native.Nat.{_+_}
 use native.Mathlib.Omega.{arith}
 use mir.Syntax.{w16}
 use mir.Val.{toZ, ofZ}
@@ -11,8 +11,6 @@ use Rattle.circuit.proofs.Promises.{put-as}
 use Rattle.checking.specs.Clauses.{Clause, OR, XOR}
 use Rattle.text.specs.Dimacs.{clausesText}
 use Rattle.text.specs.Plain.{plainClause}
-use Rattle.text.specs.private.Words.{bothOrs}
-use Rattle.text.proofs.dimacs.Signed.{word-is}
 use Rattle.text.proofs.plain.Laws.{passed-opposite, clauses-long, halves-put, pair-parts, two-words}
 use borrow.Author.Needs.{needs}
 use Rattle.text.proofs.plain.put_pair.Statement.{statement}

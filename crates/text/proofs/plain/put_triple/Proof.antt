@@ -1,7 +1,7 @@
 -- `text::plain::put_triple` meets its contract. Assumes nothing.
-use mathlib.Core.Path.{_≡_, refl, sym, ap, ap₂, subst, _∙_}
+use mathlib.Core.Path.{_≡_, sym, ap, ap₂, _∙_}
 use mathlib.Core.List.{List, [], _∷_, _++_}
-use Prim.Native.Nat.{ℕ, _+_, _<_}
+use Prim.Native.Nat.{_+_, _<_}
 use mir.Syntax.{w16}
 use mir.Val.{SFits, toZ, ofZ}
 use Rattle.checking.specs.Satisfaction.{variableOf}
@@ -11,7 +11,7 @@ use native.Mathlib.Omega.{arith}
 use lib.IntN.{ℤ, negℤ}
 use lib.ListN.{length}
 use Rattle.circuit.proofs.Promises.{put-as}
-use Rattle.checking.specs.Clauses.{Clause, OR, XOR}
+use Rattle.checking.specs.Clauses.{Clause, XOR}
 use Rattle.text.specs.Dimacs.{clausesText}
 use Rattle.text.specs.Plain.{plainClause}
 use Rattle.text.specs.private.Words.{bothOrs}

@@ -1,6 +1,5 @@
 -- `text::plain::record_clauses` meets its contract. Assumes nothing.
 use mathlib.Core.Path.{sym, ap, _∙_}
-use native.Mathlib.Omega.{arith}
 use lib.ListN.{length}
 use Rattle.text.proofs.plain.Laws.{xor-kind, or-record, two-literals, three-literals, pair-count, triple-count}
 use Rattle.text.proofs.plain.record_clauses.Statement.{statement}
