@@ -36,6 +36,11 @@ type Run = fn(u64, &[u64], u64) -> RunAnswer;
 type Inverse = fn(u64, &[u64], &mut [u64]) -> CountAnswer;
 type Sizes = fn(u64, &[u64]) -> SizesAnswer;
 
+const RUN: [Run; 2] = [library_run, plain::run];
+const HINTED_RUN: [Run; 2] = [library_run, plain::run_hinted];
+const INVERSE: [Inverse; 2] = [library_inverse, plain::inverse];
+const SIZES: [Sizes; 2] = [library_sizes, plain::sizes];
+
 fn library_run(n: u64, words: &[u64], state: u64) -> RunAnswer {
     unsafe { capi::cascade_run(n, words.as_ptr(), words.len(), state) }
 }
@@ -51,6 +56,9 @@ fn library_sizes(n: u64, words: &[u64]) -> SizesAnswer {
 
 type Read = fn(&[u8], &mut [u64]) -> ReadAnswer;
 type Write = fn(u64, &[u64], &mut [u8]) -> WriteAnswer;
+
+const READ: [Read; 2] = [library_read, plain_file::read];
+const WRITE: [Write; 2] = [library_write, plain_file::write];
 
 fn library_read(text: &[u8], out: &mut [u64]) -> ReadAnswer {
     let (start, room) = (out.as_mut_ptr(), out.len());
@@ -255,18 +263,11 @@ fn compare(
     ratio
 }
 
-/// Prints a row for each work, with the times of `call` given one side or the other, and gives the
-/// highest ratio.
-fn rows<F: Copy>(
-    name: &str,
-    works: &[Work],
-    call: fn(&Work, F) -> f64,
-    library: F,
-    plain: F,
-) -> f64 {
+/// Prints a row for each work, with the times of the two sides, and gives the highest ratio.
+fn rows<F: Copy>(call: &str, works: &[Work], time: fn(&Work, F) -> f64, sides: [F; 2]) -> f64 {
     let ratio = |work: &Work| {
-        let (library, plain) = (|| call(work, library), || call(work, plain));
-        compare(name, work.name, ROUNDS, library, plain)
+        let [library, plain] = sides.map(|side| move || time(work, side));
+        compare(call, work.name, ROUNDS, library, plain)
     };
     works.iter().map(ratio).fold(0.0, f64::max)
 }
@@ -278,21 +279,9 @@ fn main() {
     let [call, work, ours, theirs, ratio] = head;
     println!("{call:<16} {work:<38} {ours:>9} {theirs:>9} {ratio:>6}");
     let ratios = [
-        rows::<Run>("cascade_run", &works, time_run, library_run, plain::run),
-        rows::<Inverse>(
-            "cascade_inverse",
-            &works,
-            time_inverse,
-            library_inverse,
-            plain::inverse,
-        ),
-        rows::<Sizes>(
-            "cascade_sizes",
-            &works,
-            time_sizes,
-            library_sizes,
-            plain::sizes,
-        ),
+        rows("cascade_run", &works, time_run, RUN),
+        rows("cascade_inverse", &works, time_inverse, INVERSE),
+        rows("cascade_sizes", &works, time_sizes, SIZES),
         steps::highest(),
         faults::highest(),
         emit::highest(),
@@ -300,31 +289,13 @@ fn main() {
     let highest = ratios.into_iter().fold(0.0, f64::max);
     println!("bench: the highest ratio is {highest:.2}, the limit {LIMIT}");
     let ratios = [
-        rows::<Read>(
-            "cascade_read",
-            &works,
-            time_read,
-            library_read,
-            plain_file::read,
-        ),
-        rows::<Write>(
-            "cascade_write",
-            &works,
-            time_write,
-            library_write,
-            plain_file::write,
-        ),
+        rows("cascade_read", &works, time_read, READ),
+        rows("cascade_write", &works, time_write, WRITE),
     ];
     let file_highest = ratios.into_iter().fold(0.0, f64::max);
     println!("bench: of files {file_highest:.2}, the limit {FILE_LIMIT}");
     println!("\nagainst plain Rust with std::hint::select_unpredictable (not judged)");
-    rows::<Run>(
-        "cascade_run",
-        &works,
-        time_run,
-        library_run,
-        plain::run_hinted,
-    );
+    rows("cascade_run", &works, time_run, HINTED_RUN);
     if highest > LIMIT || file_highest > FILE_LIMIT {
         std::process::exit(1);
     }
