@@ -6,6 +6,7 @@
 mod capi;
 mod emit;
 mod faults;
+mod inputs;
 mod plain;
 mod plain_emit;
 mod plain_file;
@@ -35,6 +36,11 @@ type Run = fn(u64, &[u64], u64) -> RunAnswer;
 type Inverse = fn(u64, &[u64], &mut [u64]) -> CountAnswer;
 type Sizes = fn(u64, &[u64]) -> SizesAnswer;
 
+const RUN: [Run; 2] = [library_run, plain::run];
+const HINTED_RUN: [Run; 2] = [library_run, plain::run_hinted];
+const INVERSE: [Inverse; 2] = [library_inverse, plain::inverse];
+const SIZES: [Sizes; 2] = [library_sizes, plain::sizes];
+
 fn library_run(n: u64, words: &[u64], state: u64) -> RunAnswer {
     unsafe { capi::cascade_run(n, words.as_ptr(), words.len(), state) }
 }
@@ -50,6 +56,9 @@ fn library_sizes(n: u64, words: &[u64]) -> SizesAnswer {
 
 type Read = fn(&[u8], &mut [u64]) -> ReadAnswer;
 type Write = fn(u64, &[u64], &mut [u8]) -> WriteAnswer;
+
+const READ: [Read; 2] = [library_read, plain_file::read];
+const WRITE: [Write; 2] = [library_write, plain_file::write];
 
 fn library_read(text: &[u8], out: &mut [u64]) -> ReadAnswer {
     let (start, room) = (out.as_mut_ptr(), out.len());
@@ -74,16 +83,7 @@ struct Work {
 /// Valid gates; `controls` draws the mask of control lines.
 fn work(name: &'static str, lines: u64, gates: usize, controls: fn(&mut Random) -> u64) -> Work {
     let mut random = Random::new(lines);
-    let mut cascade = || {
-        let mut words = Vec::with_capacity(3 * gates);
-        for _ in 0..gates {
-            let target = random.below(lines);
-            let mask = controls(&mut random) & (u64::MAX >> (64 - lines)) & !(1 << target);
-            let positive = mask & random.word();
-            words.extend([positive, mask & !positive, target]);
-        }
-        words
-    };
+    let mut cascade = || inputs::cascade(&mut random, lines, gates, |random, _| controls(random));
     let cascades: Vec<Vec<u64>> = (0..CASCADES).map(|_| cascade()).collect();
     let texts = cascades.iter().map(|words| text(lines, words)).collect();
     Work {
@@ -103,7 +103,7 @@ fn text(lines: u64, words: &[u64]) -> Vec<u8> {
 
 fn works() -> Vec<Work> {
     let none = |_: &mut Random| 0;
-    let few = |random: &mut Random| (1 << random.below(64)) | (1 << random.below(64));
+    let few = |random: &mut Random| inputs::two_lines(random, 64);
     let half = |random: &mut Random| random.word();
     let quarter = |random: &mut Random| random.word() & random.word();
     vec![
@@ -170,64 +170,64 @@ fn same_file(n: u64, words: &[u64]) {
 
 // ---- time
 
-/// Nanoseconds of one call; each call's state is the one before's output.
+/// Nanoseconds of one of so many calls.
+fn time(calls: usize, mut call: impl FnMut(usize)) -> f64 {
+    let start = Instant::now();
+    for index in 0..calls {
+        call(index);
+    }
+    start.elapsed().as_nanos() as f64 / calls as f64
+}
+
+impl Work {
+    /// Nanoseconds of one of the calls between two readings of the clock, each on the cascade at an
+    /// index.
+    fn time(&self, gates_a_round: usize, mut call: impl FnMut(usize)) -> f64 {
+        let calls = gates_a_round / (self.cascades[0].len() / 3);
+        time(calls, |index| call(index % CASCADES))
+    }
+}
+
+/// Each call's state is the one before's output.
 fn time_run(work: &Work, run: Run) -> f64 {
-    let calls = GATES_A_ROUND / (work.cascades[0].len() / 3);
     let mut state = 1;
-    let start = Instant::now();
-    for call in 0..calls {
-        let words = &work.cascades[call % CASCADES];
-        state = run(work.lines, black_box(words), state).state;
-    }
+    let time = work.time(GATES_A_ROUND, |index| {
+        state = run(work.lines, black_box(&work.cascades[index]), state).state;
+    });
     black_box(state);
-    start.elapsed().as_nanos() as f64 / calls as f64
+    time
 }
 
-/// Nanoseconds of one call, into a buffer of exactly the answer's length.
+/// Into a buffer of exactly the answer's length.
 fn time_inverse(work: &Work, inverse: Inverse) -> f64 {
-    let calls = GATES_A_ROUND / (work.cascades[0].len() / 3);
     let mut out = vec![0; work.cascades[0].len()];
-    let start = Instant::now();
-    for call in 0..calls {
-        let words = &work.cascades[call % CASCADES];
-        black_box(inverse(work.lines, black_box(words), black_box(&mut out)));
-    }
-    start.elapsed().as_nanos() as f64 / calls as f64
+    work.time(GATES_A_ROUND, |index| {
+        let words = black_box(&work.cascades[index]);
+        black_box(inverse(work.lines, words, black_box(&mut out)));
+    })
 }
 
-/// Nanoseconds of one call.
 fn time_sizes(work: &Work, sizes: Sizes) -> f64 {
-    let calls = GATES_A_ROUND / (work.cascades[0].len() / 3);
-    let start = Instant::now();
-    for call in 0..calls {
-        let words = &work.cascades[call % CASCADES];
-        black_box(sizes(work.lines, black_box(words)));
-    }
-    start.elapsed().as_nanos() as f64 / calls as f64
+    work.time(GATES_A_ROUND, |index| {
+        black_box(sizes(work.lines, black_box(&work.cascades[index])));
+    })
 }
 
-/// Nanoseconds of one call on the text of a cascade.
+/// On the text of a cascade.
 fn time_read(work: &Work, read: Read) -> f64 {
-    let calls = FILE_GATES_A_ROUND / (work.cascades[0].len() / 3);
     let mut out = vec![0; work.cascades[0].len()];
-    let start = Instant::now();
-    for call in 0..calls {
-        let text = &work.texts[call % CASCADES];
-        black_box(read(black_box(text), black_box(&mut out)));
-    }
-    start.elapsed().as_nanos() as f64 / calls as f64
+    work.time(FILE_GATES_A_ROUND, |index| {
+        black_box(read(black_box(&work.texts[index]), black_box(&mut out)));
+    })
 }
 
-/// Nanoseconds of one call, into a buffer that is long enough.
+/// Into a buffer that is long enough.
 fn time_write(work: &Work, write: Write) -> f64 {
-    let calls = FILE_GATES_A_ROUND / (work.cascades[0].len() / 3);
     let mut out = vec![0; 1 << 18];
-    let start = Instant::now();
-    for call in 0..calls {
-        let words = &work.cascades[call % CASCADES];
-        black_box(write(work.lines, black_box(words), black_box(&mut out)));
-    }
-    start.elapsed().as_nanos() as f64 / calls as f64
+    work.time(FILE_GATES_A_ROUND, |index| {
+        let words = black_box(&work.cascades[index]);
+        black_box(write(work.lines, words, black_box(&mut out)));
+    })
 }
 
 fn median(mut numbers: Vec<f64>) -> f64 {
@@ -263,57 +263,39 @@ fn compare(
     ratio
 }
 
+/// Prints a row for each work, with the times of the two sides, and gives the highest ratio.
+fn rows<F: Copy>(call: &str, works: &[Work], time: fn(&Work, F) -> f64, sides: [F; 2]) -> f64 {
+    let ratio = |work: &Work| {
+        let [library, plain] = sides.map(|side| move || time(work, side));
+        compare(call, work.name, ROUNDS, library, plain)
+    };
+    works.iter().map(ratio).fold(0.0, f64::max)
+}
+
 fn main() {
     let works = works();
     check_equal(&works);
     let head = ["call", "cascades", "ns", "plain ns", "ratio"];
     let [call, work, ours, theirs, ratio] = head;
     println!("{call:<16} {work:<38} {ours:>9} {theirs:>9} {ratio:>6}");
-    let mut highest: f64 = 0.0;
-    for work in &works {
-        let library = || time_run(work, library_run);
-        let plain = || time_run(work, plain::run);
-        highest = highest.max(compare("cascade_run", work.name, ROUNDS, library, plain));
-    }
-    for work in &works {
-        let library = || time_inverse(work, library_inverse);
-        let plain = || time_inverse(work, plain::inverse);
-        highest = highest.max(compare(
-            "cascade_inverse",
-            work.name,
-            ROUNDS,
-            library,
-            plain,
-        ));
-    }
-    for work in &works {
-        let library = || time_sizes(work, library_sizes);
-        let plain = || time_sizes(work, plain::sizes);
-        highest = highest.max(compare("cascade_sizes", work.name, ROUNDS, library, plain));
-    }
-    highest = highest.max(steps::highest());
-    highest = highest.max(faults::highest());
-    highest = highest.max(emit::highest());
+    let ratios = [
+        rows("cascade_run", &works, time_run, RUN),
+        rows("cascade_inverse", &works, time_inverse, INVERSE),
+        rows("cascade_sizes", &works, time_sizes, SIZES),
+        steps::highest(),
+        faults::highest(),
+        emit::highest(),
+    ];
+    let highest = ratios.into_iter().fold(0.0, f64::max);
     println!("bench: the highest ratio is {highest:.2}, the limit {LIMIT}");
-    let mut file_highest: f64 = 0.0;
-    for work in &works {
-        let library = || time_read(work, library_read);
-        let plain = || time_read(work, plain_file::read);
-        file_highest = file_highest.max(compare("cascade_read", work.name, ROUNDS, library, plain));
-    }
-    for work in &works {
-        let library = || time_write(work, library_write);
-        let plain = || time_write(work, plain_file::write);
-        file_highest =
-            file_highest.max(compare("cascade_write", work.name, ROUNDS, library, plain));
-    }
+    let ratios = [
+        rows("cascade_read", &works, time_read, READ),
+        rows("cascade_write", &works, time_write, WRITE),
+    ];
+    let file_highest = ratios.into_iter().fold(0.0, f64::max);
     println!("bench: of files {file_highest:.2}, the limit {FILE_LIMIT}");
     println!("\nagainst plain Rust with std::hint::select_unpredictable (not judged)");
-    for work in &works {
-        let library = || time_run(work, library_run);
-        let plain = || time_run(work, plain::run_hinted);
-        compare("cascade_run", work.name, ROUNDS, library, plain);
-    }
+    rows("cascade_run", &works, time_run, HINTED_RUN);
     if highest > LIMIT || file_highest > FILE_LIMIT {
         std::process::exit(1);
     }

@@ -2,9 +2,8 @@
 
 use crate::capi::{self, SizesAnswer};
 use crate::random::Random;
-use crate::{compare, plain_emit};
+use crate::{compare, inputs, plain_emit, time};
 use std::hint::black_box;
-use std::time::Instant;
 
 const LINES: u64 = 64;
 const GATES: usize = 2048;
@@ -21,18 +20,10 @@ fn library_emit(n: u64, words: &[u64], out: &mut [i16]) -> SizesAnswer {
 
 /// Gates with as many controls as `controls` draws.
 fn cascade(random: &mut Random, controls: impl Fn(&mut Random) -> u32) -> Vec<u64> {
-    let mut words = Vec::with_capacity(3 * GATES);
-    for _ in 0..GATES {
-        let target = random.below(LINES);
+    inputs::cascade(random, LINES, GATES, |random, target| {
         let k = controls(random);
-        let mut mask: u64 = 0;
-        while mask.count_ones() < k {
-            mask |= (1 << random.below(LINES)) & !(1 << target);
-        }
-        let positive = mask & random.word();
-        words.extend([positive, mask & !positive, target]);
-    }
-    words
+        inputs::lines_besides(random, LINES, target, k)
+    })
 }
 
 /// Both sides give the same answer and the same buffer, and serve exactly where there is room.
@@ -59,15 +50,6 @@ fn check_equal(words: &[u64]) {
     }
 }
 
-/// Nanoseconds of one call.
-fn time(words: &[u64], emit: Emit, out: &mut [i16]) -> f64 {
-    let start = Instant::now();
-    for _ in 0..CALLS {
-        black_box(emit(LINES, black_box(words), black_box(&mut *out)));
-    }
-    start.elapsed().as_nanos() as f64 / CALLS as f64
-}
-
 /// Prints a row for each number of controls and one for any number, and gives the highest ratio.
 pub fn highest() -> f64 {
     let random = &mut Random::new(9);
@@ -77,7 +59,12 @@ pub fn highest() -> f64 {
         let side = |emit: Emit| {
             let words = &words;
             let out = std::cell::RefCell::new(vec![0; ROOM]);
-            move || time(words, emit, &mut out.borrow_mut())
+            move || {
+                time(CALLS, |_| {
+                    let out = &mut *out.borrow_mut();
+                    black_box(emit(LINES, black_box(words), black_box(out)));
+                })
+            }
         };
         let (library, plain) = (side(library_emit), side(plain_emit::emit));
         let ratio = compare("cascade_emit", &name, ROUNDS, library, plain);

@@ -2,9 +2,8 @@
 
 use crate::capi::{self, CountAnswer, StateAnswer};
 use crate::random::Random;
-use crate::{compare, plain};
+use crate::{compare, inputs, plain, time};
 use std::hint::black_box;
-use std::time::Instant;
 
 fn library_first_difference(na: u64, a: &[u64], nb: u64, b: &[u64]) -> StateAnswer {
     unsafe { capi::cascade_first_difference(na, a.as_ptr(), a.len(), nb, b.as_ptr(), b.len()) }
@@ -35,29 +34,9 @@ fn library_fault_masks(
     }
 }
 
-/// Valid gates with few controls.
-fn cascade(random: &mut Random, lines: u64, gates: usize) -> Vec<u64> {
-    let mut words = Vec::new();
-    for _ in 0..gates {
-        let target = random.below(lines);
-        let controls = (1 << random.below(lines)) | (1 << random.below(lines));
-        let mask = controls & !(1 << target);
-        let positive = mask & random.word();
-        words.extend([positive, mask & !positive, target]);
-    }
-    words
-}
-
-/// Nanoseconds of one call.
-fn time<A>(call: impl FnOnce() -> A) -> f64 {
-    let start = Instant::now();
-    black_box(call());
-    start.elapsed().as_nanos() as f64
-}
-
 /// The ratio of a sweep of two equal cascades of 200 gates on 16 lines.
 fn sweep(random: &mut Random) -> f64 {
-    let a = cascade(random, 16, 200);
+    let a = inputs::few_controls(random, 16, 200);
     let late = [&a[..], &[!1 & 0xffff, 0, 0]].concat();
     for b in [&a, &late] {
         let library = library_first_difference(16, &a, 16, b);
@@ -69,7 +48,9 @@ fn sweep(random: &mut Random) -> f64 {
     }
     let b = a.clone();
     let sweep = |call: fn(u64, &[u64], u64, &[u64]) -> StateAnswer| {
-        time(|| call(16, black_box(&a), 16, black_box(&b)))
+        time(1, |_| {
+            black_box(call(16, black_box(&a), 16, black_box(&b)));
+        })
     };
     compare(
         "first_difference",
@@ -85,7 +66,7 @@ type FaultMasks = fn(u64, &[u64], u64, &[u64], &[u64], &mut [u64]) -> CountAnswe
 /// The ratio of the fault masks of 1,024 gates over 1,000 states on 64 lines. The last gate of the
 /// suspect lacks a control that is 0 there for each of the states.
 fn masks(random: &mut Random) -> f64 {
-    let mut suspect = cascade(random, 64, 1023);
+    let mut suspect = inputs::few_controls(random, 64, 1023);
     suspect.extend([0, 0, 0]);
     let mut reference = suspect.clone();
     reference[3 * 1023] = 2;
@@ -109,7 +90,9 @@ fn masks(random: &mut Random) -> f64 {
     assert_eq!(outs[0][2 * 1023] & 2, 2);
     let masks = |side: FaultMasks| {
         let mut out = vec![0; 2_048];
-        time(|| call(side, black_box(&mut out)))
+        time(1, |_| {
+            black_box(call(side, black_box(&mut out)));
+        })
     };
     compare(
         "fault_masks",

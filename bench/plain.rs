@@ -279,7 +279,7 @@ pub fn step(n: u64, words: &mut [u64]) -> StepAnswer {
     } else {
         None
     };
-    let (i, j, kind, gates) = found.unwrap_or((0, 0, 0, 0));
+    let (i, j, kind, gates) = found.unwrap_or((0, 0, 0, words.len() / 3));
     StepAnswer {
         number,
         place,
@@ -294,10 +294,9 @@ pub fn step(n: u64, words: &mut [u64]) -> StepAnswer {
 #[inline(never)]
 pub fn reduce(n: u64, words: &mut [u64]) -> ReduceAnswer {
     let (number, place) = refusal(n, words, MITER_LIMIT);
-    let (mut left, mut pairs, mut merges) = (0, 0, 0);
+    let (mut left, mut pairs, mut merges) = (words.len() / 3, 0, 0);
     if number == 0 {
         let gates: &mut [[u64; 3]] = words.as_chunks_mut().0;
-        left = gates.len();
         while let Some((_, _, kind, now)) = step_gates(&mut gates[..left]) {
             left = now;
             pairs += (kind == 0) as u64;

@@ -2,9 +2,8 @@
 
 use crate::capi::{self, CountAnswer, ReduceAnswer, StepAnswer};
 use crate::random::Random;
-use crate::{compare, plain};
+use crate::{compare, inputs, plain, time};
 use std::hint::black_box;
-use std::time::Instant;
 
 const GATES: usize = 1024;
 
@@ -53,19 +52,6 @@ fn work(name: &'static str, lines: u64, a: Vec<u64>, b: Vec<u64>) -> Work {
     }
 }
 
-/// Valid gates with few controls.
-fn cascade(random: &mut Random, lines: u64) -> Vec<u64> {
-    let mut words = Vec::new();
-    for _ in 0..GATES {
-        let target = random.below(lines);
-        let controls = (1 << random.below(lines)) | (1 << random.below(lines));
-        let mask = controls & !(1 << target);
-        let positive = mask & random.word();
-        words.extend([positive, mask & !positive, target]);
-    }
-    words
-}
-
 /// Gates of which none blocks another and none matches: controls on lines 0 to 31, targets above.
 fn open_cascade(random: &mut Random) -> Vec<u64> {
     let mut words = Vec::new();
@@ -79,8 +65,9 @@ fn open_cascade(random: &mut Random) -> Vec<u64> {
 
 fn works() -> Vec<Work> {
     let random = &mut Random::new(4);
-    let (narrow, wide) = (cascade(random, 16), cascade(random, 64));
-    let (other_narrow, other_wide) = (cascade(random, 16), cascade(random, 64));
+    let mut cascade = |lines| inputs::few_controls(random, lines, GATES);
+    let (narrow, wide) = (cascade(16), cascade(64));
+    let (other_narrow, other_wide) = (cascade(16), cascade(64));
     let (open, other_open) = (open_cascade(random), open_cascade(random));
     vec![
         work("equal, 16 lines", 16, narrow.clone(), narrow.clone()),
@@ -109,21 +96,33 @@ fn check_equal(work: &Work) {
 }
 
 /// Nanoseconds of one call on a fresh copy of the miter.
-fn time<A>(work: &Work, call: fn(u64, &mut [u64]) -> A) -> f64 {
+fn time_on_miter<A>(work: &Work, call: fn(u64, &mut [u64]) -> A) -> f64 {
     let mut words = work.miter.clone();
-    let start = Instant::now();
-    black_box(call(work.lines, black_box(&mut words)));
-    start.elapsed().as_nanos() as f64
+    time(1, |_| {
+        black_box(call(work.lines, black_box(&mut words)));
+    })
 }
 
-fn time_miter(work: &Work, call: fn(u64, &[u64], u64, &[u64], &mut [u64]) -> CountAnswer) -> f64 {
+type Miter = fn(u64, &[u64], u64, &[u64], &mut [u64]) -> CountAnswer;
+
+fn time_miter(work: &Work, call: Miter) -> f64 {
     let mut out = vec![0; work.miter.len()];
-    let start = Instant::now();
-    for _ in 0..16 {
+    time(16, |_| {
         let (a, b) = (black_box(&work.a), black_box(&work.b));
         black_box(call(work.lines, a, work.lines, b, black_box(&mut out)));
-    }
-    start.elapsed().as_nanos() as f64 / 16.0
+    })
+}
+
+/// Prints a row of a call on the miter, and gives the ratio.
+fn row<A>(
+    name: &str,
+    work: &Work,
+    rounds: usize,
+    library: fn(u64, &mut [u64]) -> A,
+    plain: fn(u64, &mut [u64]) -> A,
+) -> f64 {
+    let side = |call| move || time_on_miter(work, call);
+    compare(name, work.name, rounds, side(library), side(plain))
 }
 
 /// Prints a row for each call and work, and gives the highest ratio of a step and of a reduction. No
@@ -132,33 +131,19 @@ pub fn highest() -> f64 {
     let mut highest: f64 = 0.0;
     for work in &works() {
         check_equal(work);
-        let (name, steps, reductions) = (work.name, 101, 31);
-        let (ours, theirs) = (library_step, plain::step);
-        let ratio = compare(
-            "cascade_step",
-            name,
-            steps,
-            || time(work, ours),
-            || time(work, theirs),
-        );
-        highest = highest.max(ratio);
-        let (ours, theirs) = (library_reduce, plain::reduce);
-        let ratio = compare(
+        let (steps, reductions) = (101, 31);
+        let step = row("cascade_step", work, steps, library_step, plain::step);
+        let reduce = row(
             "cascade_reduce",
-            name,
+            work,
             reductions,
-            || time(work, ours),
-            || time(work, theirs),
+            library_reduce,
+            plain::reduce,
         );
-        highest = highest.max(ratio);
-        let (ours, theirs) = (library_miter, plain::miter);
-        compare(
-            "cascade_miter",
-            name,
-            steps,
-            || time_miter(work, ours),
-            || time_miter(work, theirs),
-        );
+        highest = highest.max(step).max(reduce);
+        let side = |call: Miter| move || time_miter(work, call);
+        let (library, plain) = (side(library_miter), side(plain::miter));
+        compare("cascade_miter", work.name, steps, library, plain);
     }
     highest
 }

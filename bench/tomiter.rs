@@ -3,6 +3,8 @@
 //! time on an empty input, or where the two write different bytes.
 
 #[allow(dead_code)]
+mod inputs;
+#[allow(dead_code)]
 #[path = "../tests/random.rs"]
 mod random;
 
@@ -23,10 +25,7 @@ fn file(random: &mut Random, controls: impl Fn(usize) -> u32) -> String {
     let mut text = String::from("lines\t64\n");
     for gate in 0..1024 {
         let target = random.below(64);
-        let mut mask: u64 = 0;
-        while mask.count_ones() < controls(gate) {
-            mask |= (1 << random.below(64)) & !(1 << target);
-        }
+        let mask = inputs::lines_besides(random, 64, target, controls(gate));
         text += &format!("g\t{target}");
         for line in (0..64).filter(|line| mask >> line & 1 != 0) {
             text += &format!("\t{}{line}", if random.below(2) == 0 { '+' } else { '-' });

@@ -1,11 +1,12 @@
-//! Classes of cases that must occur for every call that is given a cascade.
+//! Classes of cases that must occur for every call that is given a cascade, or two.
 
+use crate::cases::{Pair, Single};
 use crate::harness::Counts;
 use crate::inputs::Cascade;
 use crate::reference::{self, has, Gate, CASCADE_GATES, MITER_GATES};
 
 /// The classes that `count_cascade` counts.
-pub const CASCADE: &[&str] = &[
+const CASCADE: &[&str] = &[
     "2: n = 0",
     "2: n = 65",
     "2: n = 2^32",
@@ -41,8 +42,8 @@ pub const CASCADE: &[&str] = &[
     "served: n = 64, all lines in a gate",
 ];
 
-/// The classes that `count_buffer` counts.
-pub const BUFFER: &[&str] = &[
+/// The classes that `count_out` counts, the pointers aside.
+const BUFFER: &[&str] = &[
     "served: buffer exact",
     "served: buffer one longer",
     "served: buffer more than one longer",
@@ -50,52 +51,106 @@ pub const BUFFER: &[&str] = &[
     "10: empty buffer",
 ];
 
-/// The numbers of the tests 2, 11, 6, 7 that hold of a cascade, each judged by itself.
-pub fn cascade_offences(lines: u64, words: &[u64], limit: usize) -> Vec<u64> {
+/// The classes that `count_targets` counts.
+pub const TARGETS: &[&str] = &[
+    "served: a line targeted twice",
+    "served: as many gates as the limit, 63 controls each",
+];
+
+/// The tests of a cascade, in their order.
+const TESTS: [u64; 4] = [2, 11, 6, 7];
+
+/// The table of a call on one cascade: its further tests in their order, its buffers, and the classes
+/// of its own.
+pub fn single_counts(
+    call: &'static str,
+    further: &[u64],
+    buffers: &[&str],
+    own: &[&str],
+) -> Counts {
+    let mut counts = Counts::new(call);
+    counts.require_refusals(&[&TESTS, further].concat());
+    counts.require(CASCADE);
+    require_buffers(&mut counts, buffers);
+    counts.require(own);
+    counts
+}
+
+/// The same for a call on two cascades. The tests by name are those of the first, those of the second,
+/// 8, and the further ones.
+pub fn pair_counts(call: &'static str, further: &[u64], buffers: &[&str], own: &[&str]) -> Counts {
+    let mut names = Vec::new();
+    for which in ["first", "second"] {
+        names.extend(TESTS.map(|number| of(number, which)));
+    }
+    names.extend([&[8], further].concat().iter().map(u64::to_string));
+    let mut counts = Counts::new(call);
+    counts.require_tests(&names);
+    require_buffers(&mut counts, buffers);
+    counts.require(own);
+    counts
+}
+
+fn of(number: u64, which: &str) -> String {
+    format!("{number} of the {which}")
+}
+
+/// Each of the buffers must be empty with both kinds of pointer; the one that the call writes, `out`,
+/// must have the lengths around what the answer needs.
+pub fn require_buffers(counts: &mut Counts, buffers: &[&str]) {
+    for buffer in buffers {
+        counts.require(&[&empty(buffer, false), &empty(buffer, true)]);
+    }
+    if buffers.contains(&"out") {
+        counts.require(BUFFER);
+    }
+}
+
+/// Counts a call on a cascade of up to `limit` gates that answered the number. `further` tells of each
+/// test after those of the cascade whether it holds, judged by itself.
+pub fn count_single<T>(
+    counts: &mut Counts,
+    case: &Single<T>,
+    limit: usize,
+    further: &[(u64, bool)],
+    number: u64,
+) {
+    let Cascade { lines, words, .. } = &case.cascade;
+    let mut offences = cascade_offences(*lines, words, limit);
+    offences.extend(holding(further));
+    counts.add_case(&offences);
+    count_cascade(counts, *lines, words, limit, number);
+    count_pointer(counts, "words", words, case.dangling);
+}
+
+/// The same for a call on two cascades.
+pub fn count_pair(counts: &mut Counts, case: &Pair, further: &[(u64, bool)]) {
     let mut offences = Vec::new();
-    let tests = [
+    for (cascade, which) in [(&case.a, "first"), (&case.b, "second")] {
+        let numbers = cascade_offences(cascade.lines, &cascade.words, CASCADE_GATES);
+        offences.extend(numbers.into_iter().map(|number| of(number, which)));
+    }
+    let lines_differ = (8, case.a.lines != case.b.lines);
+    let later = holding(&[&[lines_differ], further].concat());
+    offences.extend(later.iter().map(u64::to_string));
+    counts.add_tested_case(&offences);
+    count_pointer(counts, "a", &case.a.words, case.dangling);
+    count_pointer(counts, "b", &case.b.words, case.dangling);
+}
+
+/// The numbers of the tests 2, 11, 6, 7 that hold of a cascade, each judged by itself.
+fn cascade_offences(lines: u64, words: &[u64], limit: usize) -> Vec<u64> {
+    holding(&[
         (2, reference::bad_line_count(lines)),
         (11, reference::bad_word_count(words)),
         (6, reference::too_many_gates(words, limit)),
         (7, reference::first_bad_gate(lines, words).is_some()),
-    ];
-    for (number, holds) in tests {
-        if holds {
-            offences.push(number);
-        }
-    }
-    offences
+    ])
 }
 
-/// The tests of two cascades by name: those of the first, those of the second, then 8.
-pub fn pair_tests() -> Vec<String> {
-    let mut names = Vec::new();
-    for which in ["first", "second"] {
-        names.extend([2, 11, 6, 7].map(|number| format!("{number} of the {which}")));
-    }
-    names.push("8".to_string());
-    names
-}
-
-/// The names of the tests that hold of two cascades, each judged by itself.
-pub fn pair_offences(a: &Cascade, b: &Cascade) -> Vec<String> {
-    let mut offences = Vec::new();
-    for (cascade, which) in [(a, "first"), (b, "second")] {
-        for number in cascade_offences(cascade.lines, &cascade.words, CASCADE_GATES) {
-            offences.push(format!("{number} of the {which}"));
-        }
-    }
-    if a.lines != b.lines {
-        offences.push("8".to_string());
-    }
-    offences
-}
-
-/// Each of the buffers must be empty with both kinds of pointer.
-pub fn require_pointers(counts: &mut Counts, buffers: &[&str]) {
-    for buffer in buffers {
-        counts.require(&[&empty(buffer, false), &empty(buffer, true)]);
-    }
+fn holding(tests: &[(u64, bool)]) -> Vec<u64> {
+    let held = tests.iter().filter(|(_, holds)| *holds);
+    held.map(|(number, _)| *number).collect()
 }
 
 /// Counts the kind of pointer of a buffer that is empty.
@@ -114,9 +169,10 @@ fn empty(buffer: &str, dangling: bool) -> String {
     format!("{buffer}: empty, {pointer}")
 }
 
-/// Counts the length of the buffer for an answer of `needed` elements, in a call that answered the
-/// number.
-pub fn count_buffer<T>(counts: &mut Counts, out: &[T], needed: usize, number: u64) {
+/// Counts the buffer that a call writes, for an answer of `needed` elements, in a call that answered
+/// the number.
+pub fn count_out<T>(counts: &mut Counts, out: &[T], dangling: bool, needed: usize, number: u64) {
+    count_pointer(counts, "out", out, dangling);
     if number == 0 {
         let longer = out.len() - needed;
         counts.add_if(longer == 0, "served: buffer exact");
@@ -129,15 +185,8 @@ pub fn count_buffer<T>(counts: &mut Counts, out: &[T], needed: usize, number: u6
     }
 }
 
-/// Counts a call that is given up to 2,048 gates and no other buffer, and answered the number.
-pub fn count_call(counts: &mut Counts, lines: u64, words: &[u64], dangling: bool, number: u64) {
-    counts.add_case(&cascade_offences(lines, words, MITER_GATES));
-    count_cascade(counts, lines, words, MITER_GATES, number);
-    count_pointer(counts, "words", words, dangling);
-}
-
 /// Counts the classes of a cascade in a call that answered the number.
-pub fn count_cascade(counts: &mut Counts, lines: u64, words: &[u64], limit: usize, number: u64) {
+fn count_cascade(counts: &mut Counts, lines: u64, words: &[u64], limit: usize, number: u64) {
     let gates = words.len() / 3;
     match number {
         0 => count_served(counts, lines, words, limit),
@@ -184,6 +233,22 @@ fn count_served(counts: &mut Counts, lines: u64, words: &[u64], limit: usize) {
         lines == 64 && any(&all_lines),
         "served: n = 64, all lines in a gate",
     );
+}
+
+/// Counts the gates of a cascade on n lines whose clauses are asked for. Returns how many gates each
+/// line is the target of.
+pub fn count_targets(counts: &mut Counts, n: u64, gates: &[Gate]) -> Vec<u64> {
+    let mut targets = vec![0; n as usize];
+    for gate in gates {
+        targets[gate.target as usize] += 1;
+    }
+    counts.add_if(targets.contains(&2), "served: a line targeted twice");
+    let most = |gate: &Gate| (gate.positive | gate.negative).count_ones() == 63;
+    counts.add_if(
+        gates.len() == MITER_GATES && gates.iter().all(most),
+        "served: as many gates as the limit, 63 controls each",
+    );
+    targets
 }
 
 /// Where the first bad gate stands, and what is wrong with it where that is one thing.

@@ -2,7 +2,9 @@
 //! and in every buffer. The argument is the seed, where another than the fixed one is wanted.
 //!
 //! A further call is added by its declaration in capi.rs, its rule in reference.rs, its answer in
-//! expected.rs, and a file in calls/ whose `section` stands in the list below.
+//! expected.rs, and a file in calls/ whose `section` stands in the list below. That file has what is
+//! the call's own: its classes, its inputs and its laws. cases.rs has what a call on one cascade or
+//! on two is given and how its answer and its buffers are compared, classes.rs what is counted of it.
 
 mod calls {
     pub mod differs;
@@ -20,6 +22,7 @@ mod calls {
     pub mod write;
 }
 mod capi;
+mod cases;
 mod classes;
 mod expected;
 mod files;

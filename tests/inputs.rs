@@ -11,6 +11,16 @@ pub struct Cascade {
     pub state: u64,
 }
 
+/// The words with state 0.
+pub fn from_zero(lines: u64, words: Vec<u64>) -> Cascade {
+    let state = 0;
+    Cascade {
+        lines,
+        words,
+        state,
+    }
+}
+
 // ---- lines and states
 
 const BAD_LINE_COUNTS: [u64; 12] = [
@@ -405,6 +415,34 @@ pub fn any_control(random: &mut Random, cascade: &Cascade) -> Option<Missing> {
     (!controls.is_empty()).then(|| random.pick(&controls))
 }
 
+// ---- gates by the number of their controls
+
+/// Hands over every k from 0 to 63 with the masks of all positive, all negative and mixed controls.
+pub fn each_control_count(check: &mut impl FnMut(u32, u64)) {
+    for controls in 0..64 {
+        for positive in [u64::MAX, 0, 0x5555_5555_5555_5555] {
+            check(controls, positive);
+        }
+    }
+}
+
+/// A gate on 64 lines with so many controls, those in `positive` positive.
+pub fn with_controls(random: &mut Random, controls: u32, positive: u64) -> [u64; 3] {
+    let target = random.below(64);
+    let mut mask: u64 = 0;
+    while mask.count_ones() < controls {
+        mask |= (1 << random.below(64)) & !(1 << target);
+    }
+    [mask & positive, mask & !positive, target]
+}
+
+/// As many gates as a miter may have, each with all lines of 64.
+pub fn longest(random: &mut Random) -> Vec<u64> {
+    (0..MITER_GATES)
+        .flat_map(|_| with_controls(random, 63, 0x0123_4567_89ab_cdef))
+        .collect()
+}
+
 // ---- every edge of the rules
 
 /// Hands over cascades of one gate at every edge of the rules, and long ones around the limit.
@@ -416,11 +454,7 @@ pub fn each_edge(random: &mut Random, limit: usize, check: &mut impl FnMut(Casca
 }
 
 fn one_gate(lines: u64, gate: [u64; 3]) -> Cascade {
-    Cascade {
-        lines,
-        words: gate.to_vec(),
-        state: 0,
-    }
+    from_zero(lines, gate.to_vec())
 }
 
 /// All words of one gate that go at most one line over n, for n up to 3.

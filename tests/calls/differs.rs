@@ -1,9 +1,10 @@
 //! cascade_differs.
 
 use crate::capi;
+use crate::cases::{Lent, Pair};
 use crate::classes;
 use crate::expected;
-use crate::harness::{compare, compare_buffer, Buffer, Counts};
+use crate::harness::Counts;
 use crate::inputs::{self, Cascade};
 use crate::random::Random;
 use crate::reference;
@@ -21,90 +22,46 @@ const CLASSES: &[&str] = &[
     "9: state 2^n",
 ];
 
-#[derive(Debug)]
-struct Case {
-    a: Cascade,
-    b: Cascade,
-    state: u64,
-    dangling: bool,
-}
-
+/// The state is that of the first cascade.
 pub fn section(random: &mut Random) -> Counts {
-    let mut counts = Counts::new("cascade_differs");
-    let mut tests = classes::pair_tests();
-    tests.push("9".to_string());
-    counts.require_tests(&tests);
-    classes::require_pointers(&mut counts, &["a", "b"]);
-    counts.require(CLASSES);
+    let mut counts = classes::pair_counts("cascade_differs", &[9], &["a", "b"], CLASSES);
+    let mut check = |case: Pair| check(&case, &mut counts);
     inputs::each_faulty_pair(random, &mut |random, a, b| {
         for state in inputs::edge_states(a.lines).into_iter().rev().take(4) {
             let (a, b) = (a.clone(), b.clone());
-            let dangling = random.one_in(2);
-            check(
-                &Case {
-                    a,
-                    b,
-                    state,
-                    dangling,
-                },
-                &mut counts,
-            );
+            check(Pair::new(Cascade { state, ..a }, b, random.one_in(2)));
         }
     });
     for _ in 0..RANDOM_CASES {
         let (a, b) = inputs::pair(random);
         let state = inputs::state(random, &a);
-        let dangling = random.one_in(2);
-        check(
-            &Case {
-                a,
-                b,
-                state,
-                dangling,
-            },
-            &mut counts,
-        );
+        check(Pair::new(Cascade { state, ..a }, b, random.one_in(2)));
     }
     counts
 }
 
-fn check(case: &Case, counts: &mut Counts) {
-    let mut a = Buffer::placed(&case.a.words, case.dangling);
-    let mut b = Buffer::placed(&case.b.words, case.dangling);
-    let (na, a_len, nb, b_len) = (case.a.lines, a.len(), case.b.lines, b.len());
-    let (a_start, b_start) = (a.pointer(), b.pointer());
-    let library =
-        unsafe { capi::cascade_differs(na, a_start, a_len, nb, b_start, b_len, case.state) };
-    let answer = reference::differs(na, &case.a.words, nb, &case.b.words, case.state);
+fn check(case: &Pair, counts: &mut Counts) {
+    let (na, nb, state) = (case.a.lines, case.b.lines, case.a.state);
+    let library = |Lent { a, b, .. }: &mut Lent| unsafe {
+        capi::cascade_differs(na, a.pointer(), a.len(), nb, b.pointer(), b.len(), state)
+    };
+    let answer = reference::differs(na, &case.a.words, nb, &case.b.words, state);
     let reference = expected::differs_answer(answer);
-    compare(case, "cascade_differs: answer", library, reference);
-    compare_buffer(case, "cascade_differs: a", &a, &case.a.words);
-    compare_buffer(case, "cascade_differs: b", &b, &case.b.words);
+    case.check("cascade_differs", library, reference, &[]);
+    classes::count_pair(counts, case, &[(9, reference::bad_state(na, state))]);
     count(case, answer, counts);
 }
 
-fn count(case: &Case, answer: Result<bool, reference::Refusal>, counts: &mut Counts) {
-    let Case {
-        a,
-        b,
-        state,
-        dangling,
-    } = case;
-    let mut offences = classes::pair_offences(a, b);
-    if reference::bad_state(a.lines, *state) {
-        offences.push("9".to_string());
-    }
-    counts.add_tested_case(&offences);
-    classes::count_pointer(counts, "a", &a.words, *dangling);
-    classes::count_pointer(counts, "b", &b.words, *dangling);
+fn count(Pair { a, b, .. }: &Pair, answer: Result<bool, reference::Refusal>, counts: &mut Counts) {
+    let state = a.state;
     let last = inputs::all_lines(a.lines);
     match answer {
         Ok(differ) => {
             counts.add(["served: agree", "served: differ"][usize::from(differ)]);
             counts.add_if(!differ && a.words != b.words, "served: agree, other gates");
             counts.add_if(a.lines == 64, "served: n = 64");
-            counts.add_if(*state == u64::MAX, "served: n = 64, state 2^64 - 1");
-            counts.add_if(*state == last, "served: state 2^n - 1");
+            counts.add_if(state == u64::MAX, "served: n = 64, state 2^64 - 1");
+            counts.add_if(state == last, "served: state 2^n - 1");
             counts.add_if(
                 a.words.is_empty() && b.words.is_empty(),
                 "served: both empty",

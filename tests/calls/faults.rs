@@ -2,9 +2,10 @@
 //! added on a struck line leaves some given state wrong.
 
 use crate::capi::{self, CountAnswer};
+use crate::cases::{Lent, Pair};
 use crate::classes;
 use crate::expected;
-use crate::harness::{compare, compare_buffer, Buffer, Counts};
+use crate::harness::{compare, Counts};
 use crate::inputs::{self, Cascade, Missing};
 use crate::random::Random;
 use crate::reference::{self, has, Gate};
@@ -37,25 +38,17 @@ const CLASSES: &[&str] = &[
     "12: the two are equal",
 ];
 
-/// What the call is given, and the control that was left out of the suspect, where one was.
+/// What the call is given, the suspect first, and the control that was left out of the suspect, where
+/// one was.
 #[derive(Debug)]
 struct Case {
-    suspect: Cascade,
-    reference: Cascade,
-    states: Vec<u64>,
-    out: Vec<u64>,
-    dangling: bool,
+    given: Pair,
     missing: Option<Missing>,
 }
 
 pub fn section(random: &mut Random) -> Counts {
-    let mut counts = Counts::new("cascade_fault_masks");
-    let mut tests = classes::pair_tests();
-    tests.extend(["9", "12", "10"].map(String::from));
-    counts.require_tests(&tests);
-    classes::require_pointers(&mut counts, &["a", "b", "states", "out"]);
-    counts.require(classes::BUFFER);
-    counts.require(CLASSES);
+    let (name, buffers) = ("cascade_fault_masks", &["a", "b", "states", "out"]);
+    let mut counts = classes::pair_counts(name, &[9, 12, 10], buffers, CLASSES);
     inputs::each_faulty_pair(random, &mut |random, a, b| {
         for states in [vec![], vec![0], vec![u64::MAX], vec![1, u64::MAX]] {
             each_length(random, (&a, &b), &states, None, &mut counts);
@@ -93,15 +86,14 @@ fn random_case(random: &mut Random, counts: &mut Counts) {
         })
         .collect();
     let length = inputs::buffer_length(random, 2 * (a.words.len() / 3));
-    let case = Case {
-        out: random.words(length),
-        suspect: a,
-        reference: b,
+    let out = random.words(length);
+    let given = Pair {
         states,
-        dangling: random.one_in(2),
-        missing: None,
+        out,
+        ..Pair::new(a, b, random.one_in(2))
     };
-    check(&case, counts);
+    let missing = None;
+    check(&Case { given, missing }, counts);
 }
 
 /// Leaves one control out of the reference, and now and then spoils the list.
@@ -129,85 +121,38 @@ fn each_length(
     counts: &mut Counts,
 ) {
     for length in inputs::edge_lengths(2 * (suspect.words.len() / 3)) {
-        let case = Case {
-            suspect: suspect.clone(),
-            reference: reference.clone(),
+        let given = Pair {
             states: states.to_vec(),
             out: random.words(length),
-            dangling: random.one_in(2),
-            missing,
+            ..Pair::new(suspect.clone(), reference.clone(), random.one_in(2))
         };
-        check(&case, counts);
+        check(&Case { given, missing }, counts);
         if suspect.words.len() > 300 || states.len() > 300 {
             return;
         }
     }
 }
 
-/// The four buffers that are lent to the call.
-struct Lent {
-    suspect: Buffer<u64>,
-    reference: Buffer<u64>,
-    states: Buffer<u64>,
-    out: Buffer<u64>,
-}
-
-fn call(case: &Case, lent: &mut Lent) -> CountAnswer {
-    let (a_len, b_len) = (lent.suspect.len(), lent.reference.len());
-    let (states_len, out_len) = (lent.states.len(), lent.out.len());
-    unsafe {
-        capi::cascade_fault_masks(
-            case.suspect.lines,
-            lent.suspect.pointer(),
-            a_len,
-            case.reference.lines,
-            lent.reference.pointer(),
-            b_len,
-            lent.states.pointer(),
-            states_len,
-            lent.out.pointer(),
-            out_len,
-        )
-    }
-}
-
 fn check(case: &Case, counts: &mut Counts) {
-    let placed = |words: &[u64]| Buffer::placed(words, case.dangling);
-    let mut lent = Lent {
-        suspect: placed(&case.suspect.words),
-        reference: placed(&case.reference.words),
-        states: placed(&case.states),
-        out: placed(&case.out),
+    let given = &case.given;
+    let (na, nb) = (given.a.lines, given.b.lines);
+    let library = |lent: &mut Lent| {
+        let Lent { a, b, states, out } = lent;
+        let (a_len, b_len, s_len, out_len) = (a.len(), b.len(), states.len(), out.len());
+        let (a, b, s, out) = (a.pointer(), b.pointer(), states.pointer(), out.pointer());
+        unsafe { capi::cascade_fault_masks(na, a, a_len, nb, b, b_len, s, s_len, out, out_len) }
     };
-    let library = call(case, &mut lent);
-    let mut wanted = case.out.clone();
-    let reference = reference::fault_masks(
-        case.suspect.lines,
-        &case.suspect.words,
-        case.reference.lines,
-        &case.reference.words,
-        &case.states,
-        &mut wanted,
-    );
-    let reference = expected::count_answer(reference);
-    compare(case, "cascade_fault_masks: answer", library, reference);
-    compare_buffer(case, "cascade_fault_masks: out", &lent.out, &wanted);
-    let name = "cascade_fault_masks: suspect";
-    compare_buffer(case, name, &lent.suspect, &case.suspect.words);
-    let name = "cascade_fault_masks: reference";
-    compare_buffer(case, name, &lent.reference, &case.reference.words);
-    compare_buffer(
-        case,
-        "cascade_fault_masks: states",
-        &lent.states,
-        &case.states,
-    );
-    count(case, reference, counts);
-    if reference.number == 0 {
-        let masks = &lent.out.contents()[..2 * library.gates as usize];
+    let (a, b) = (&given.a.words, &given.b.words);
+    let mut wanted = given.out.clone();
+    let answer = reference::fault_masks(na, a, nb, b, &given.states, &mut wanted);
+    let answer = expected::count_answer(answer);
+    let out = given.check("cascade_fault_masks", library, answer, &wanted);
+    count(given, answer, counts);
+    if answer.number == 0 {
+        let masks = &out.contents()[..2 * answer.gates as usize];
         check_guilty(case, masks, counts);
-        check_struck(case, masks, counts);
-        count_served(case, masks, counts);
+        check_struck(given, masks, counts);
+        count_served(given, masks, counts);
     }
 }
 
@@ -230,13 +175,13 @@ fn check_guilty(case: &Case, masks: &[u64], counts: &mut Counts) {
 }
 
 /// On small cascades, each control added on a struck line leaves some given state wrong.
-fn check_struck(case: &Case, masks: &[u64], counts: &mut Counts) {
-    let n = case.suspect.lines;
-    let gates = reference::gates_of(&case.suspect.words);
+fn check_struck(case: &Pair, masks: &[u64], counts: &mut Counts) {
+    let n = case.a.lines;
+    let gates = reference::gates_of(&case.a.words);
     if n > 6 || gates.len() > 6 || case.states.len() > 8 || case.states.is_empty() {
         return;
     }
-    let right = reference::gates_of(&case.reference.words);
+    let right = reference::gates_of(&case.b.words);
     let wrong = |repaired: &[Gate], state: u64| {
         let output = |gates: &[Gate]| gates.iter().fold(state, |state, gate| gate.apply(state));
         output(repaired) != output(&right)
@@ -256,45 +201,30 @@ fn check_struck(case: &Case, masks: &[u64], counts: &mut Counts) {
     }
 }
 
-/// The names of the tests that hold, each judged by itself, and the classes of a refusal.
-fn count(case: &Case, answer: CountAnswer, counts: &mut Counts) {
-    let Case {
-        suspect,
-        reference,
+fn count(case: &Pair, answer: CountAnswer, counts: &mut Counts) {
+    let Pair {
+        a: suspect,
+        b: reference,
         states,
         out,
-        ..
+        dangling,
     } = case;
     let n = suspect.lines;
     let needed = 2 * (suspect.words.len() / 3);
-    let bad = reference::first_bad_state(n, states);
     let agreeing = reference::first_agreeing_state(
         &reference::gates_of(&suspect.words),
         &reference::gates_of(&reference.words),
         states,
     );
-    let short = reference::short_buffer(out, needed);
-    let mut offences = classes::pair_offences(suspect, reference);
-    for (name, holds) in [
-        ("9", bad.is_some()),
-        ("12", agreeing.is_some()),
-        ("10", short),
-    ] {
-        if holds {
-            offences.push(name.to_string());
-        }
-    }
-    counts.add_tested_case(&offences);
-    for (name, contents) in [
-        ("a", &suspect.words),
-        ("b", &reference.words),
-        ("states", states),
-        ("out", out),
-    ] {
-        classes::count_pointer(counts, name, contents, case.dangling);
-    }
+    let further = [
+        (9, reference::first_bad_state(n, states).is_some()),
+        (12, agreeing.is_some()),
+        (10, reference::short_buffer(out, needed)),
+    ];
+    classes::count_pair(counts, case, &further);
+    classes::count_pointer(counts, "states", states, *dangling);
     let CountAnswer { number, place, .. } = answer;
-    classes::count_buffer(counts, out, needed, number);
+    classes::count_out(counts, out, *dangling, needed, number);
     match number {
         9 => {
             let state = states[place as usize];
@@ -313,11 +243,8 @@ fn count(case: &Case, answer: CountAnswer, counts: &mut Counts) {
     }
 }
 
-fn count_served(case: &Case, masks: &[u64], counts: &mut Counts) {
-    let Case {
-        suspect, states, ..
-    } = case;
-    let n = suspect.lines;
+fn count_served(Pair { a, states, .. }: &Pair, masks: &[u64], counts: &mut Counts) {
+    let n = a.lines;
     counts.add_if(states.is_empty(), "served: no states");
     counts.add_if(
         states.is_empty() && masks.chunks(2).any(|two| two[0] & two[1] != 0),

@@ -1,12 +1,13 @@
 //! cascade_fewer_gates.
 
 use crate::capi;
+use crate::cases::{Lent, Pair};
 use crate::classes;
 use crate::expected;
-use crate::harness::{compare, compare_buffer, Buffer, Counts};
-use crate::inputs::{self, Cascade};
+use crate::harness::Counts;
+use crate::inputs;
 use crate::random::Random;
-use crate::reference::{self, Picked};
+use crate::reference;
 
 const RANDOM_CASES: u64 = 60_000;
 
@@ -24,61 +25,41 @@ const CLASSES: &[&str] = &[
     "served: n = 64",
 ];
 
-#[derive(Debug)]
-struct Case {
-    a: Cascade,
-    b: Cascade,
-    dangling: bool,
-}
-
 pub fn section(random: &mut Random) -> Counts {
-    let mut counts = Counts::new("cascade_fewer_gates");
-    counts.require_tests(&classes::pair_tests());
-    classes::require_pointers(&mut counts, &["a", "b"]);
-    counts.require(CLASSES);
-    inputs::each_faulty_pair(random, &mut |random, a, b| {
-        let dangling = random.one_in(2);
-        check(&Case { a, b, dangling }, &mut counts);
-    });
+    let mut counts = classes::pair_counts("cascade_fewer_gates", &[], &["a", "b"], CLASSES);
+    let mut check = |a, b, dangling| check(&Pair::new(a, b, dangling), &mut counts);
+    inputs::each_faulty_pair(random, &mut |random, a, b| check(a, b, random.one_in(2)));
     for first in [0, 1, 2, 1023, 1024] {
         for second in [0, 1, 2, 1023, 1024] {
             for dangling in [false, true] {
                 let a = inputs::good_cascade(random, 64, first);
                 let b = inputs::good_cascade(random, 64, second);
-                check(&Case { a, b, dangling }, &mut counts);
+                check(a, b, dangling);
             }
         }
     }
     for _ in 0..RANDOM_CASES {
         let (a, b) = inputs::pair(random);
-        let dangling = random.one_in(2);
-        check(&Case { a, b, dangling }, &mut counts);
+        check(a, b, random.one_in(2));
     }
     counts
 }
 
-fn check(case: &Case, counts: &mut Counts) {
-    let mut a = Buffer::placed(&case.a.words, case.dangling);
-    let mut b = Buffer::placed(&case.b.words, case.dangling);
-    let (na, a_len, nb, b_len) = (case.a.lines, a.len(), case.b.lines, b.len());
-    let library =
-        unsafe { capi::cascade_fewer_gates(na, a.pointer(), a_len, nb, b.pointer(), b_len) };
+fn check(case: &Pair, counts: &mut Counts) {
+    let (na, nb) = (case.a.lines, case.b.lines);
+    let library = |Lent { a, b, .. }: &mut Lent| unsafe {
+        capi::cascade_fewer_gates(na, a.pointer(), a.len(), nb, b.pointer(), b.len())
+    };
     let answer = reference::pick(na, &case.a.words, nb, &case.b.words);
     let reference = expected::fewer_answer(answer);
-    compare(case, "cascade_fewer_gates: answer", library, reference);
-    compare_buffer(case, "cascade_fewer_gates: a", &a, &case.a.words);
-    compare_buffer(case, "cascade_fewer_gates: b", &b, &case.b.words);
-    count(case, answer, counts);
+    case.check("cascade_fewer_gates", library, reference, &[]);
+    classes::count_pair(counts, case, &[]);
+    if answer.is_ok() {
+        count(case, counts);
+    }
 }
 
-fn count(case: &Case, answer: Result<Picked, reference::Refusal>, counts: &mut Counts) {
-    let Case { a, b, dangling } = case;
-    counts.add_tested_case(&classes::pair_offences(a, b));
-    classes::count_pointer(counts, "a", &a.words, *dangling);
-    classes::count_pointer(counts, "b", &b.words, *dangling);
-    if answer.is_err() {
-        return;
-    }
+fn count(Pair { a, b, .. }: &Pair, counts: &mut Counts) {
     let (first, second) = (a.words.len() / 3, b.words.len() / 3);
     counts.add_if(first < second, "served: the first has fewer");
     counts.add_if(first + 1 == second, "served: the first has one less");

@@ -1,9 +1,10 @@
 //! cascade_first_difference.
 
 use crate::capi;
+use crate::cases::{Lent, Pair};
 use crate::classes;
 use crate::expected;
-use crate::harness::{compare, compare_buffer, Buffer, Counts};
+use crate::harness::Counts;
 use crate::inputs::{self, Cascade};
 use crate::random::Random;
 use crate::reference::{self, SWEEP_LINES};
@@ -24,31 +25,16 @@ const CLASSES: &[&str] = &[
     "13: n = 64",
 ];
 
-#[derive(Debug)]
-struct Case {
-    a: Cascade,
-    b: Cascade,
-    dangling: bool,
-}
-
 pub fn section(random: &mut Random) -> Counts {
-    let mut counts = Counts::new("cascade_first_difference");
-    let mut tests = classes::pair_tests();
-    tests.push("13".to_string());
-    counts.require_tests(&tests);
-    classes::require_pointers(&mut counts, &["a", "b"]);
-    counts.require(CLASSES);
-    inputs::each_faulty_pair(random, &mut |random, a, b| {
-        check(&narrow(random, a, b), &mut counts);
-    });
+    let name = "cascade_first_difference";
+    let mut counts = classes::pair_counts(name, &[13], &["a", "b"], CLASSES);
+    let mut check = |case: Pair| check(&case, &mut counts);
+    inputs::each_faulty_pair(random, &mut |random, a, b| check(narrow(random, a, b)));
     for lines in [1, 2, 15, 16, 17, 18, 32, 63, 64] {
         for gates in [0, 3] {
             let a = inputs::good_cascade(random, lines, gates);
-            for b in [a.clone(), late(&a)] {
-                let a = a.clone();
-                let dangling = true;
-                check(&Case { a, b, dangling }, &mut counts);
-            }
+            check(Pair::new(a.clone(), a.clone(), true));
+            check(Pair::new(a.clone(), late(&a), true));
         }
     }
     for _ in 0..RANDOM_CASES {
@@ -56,7 +42,7 @@ pub fn section(random: &mut Random) -> Counts {
         if random.one_in(8) && (1..=64).contains(&a.lines) {
             b = late(&a);
         }
-        check(&narrow(random, a, b), &mut counts);
+        check(narrow(random, a, b));
     }
     counts
 }
@@ -70,43 +56,33 @@ fn late(a: &Cascade) -> Cascade {
 }
 
 /// The two, on fewer lines where a sweep of all states would take long.
-fn narrow(random: &mut Random, mut a: Cascade, mut b: Cascade) -> Case {
+fn narrow(random: &mut Random, mut a: Cascade, mut b: Cascade) -> Pair {
     let states = |cascade: &Cascade| (cascade.words.len() as u64) << cascade.lines;
     if (1..=SWEEP_LINES).contains(&a.lines) && a.lines == b.lines && states(&a) > 1 << 14 {
         a = inputs::good_cascade(random, 1 + a.lines % 8, 6);
         b = a.clone();
         b.words.extend([0; 6]);
     }
-    Case {
-        a,
-        b,
-        dangling: random.one_in(2),
-    }
+    Pair::new(a, b, random.one_in(2))
 }
 
-fn check(case: &Case, counts: &mut Counts) {
-    let mut a = Buffer::placed(&case.a.words, case.dangling);
-    let mut b = Buffer::placed(&case.b.words, case.dangling);
-    let (na, a_len, nb, b_len) = (case.a.lines, a.len(), case.b.lines, b.len());
-    let library =
-        unsafe { capi::cascade_first_difference(na, a.pointer(), a_len, nb, b.pointer(), b_len) };
+fn check(case: &Pair, counts: &mut Counts) {
+    let (na, nb) = (case.a.lines, case.b.lines);
+    let library = |Lent { a, b, .. }: &mut Lent| unsafe {
+        capi::cascade_first_difference(na, a.pointer(), a.len(), nb, b.pointer(), b.len())
+    };
     let answer = reference::first_difference(na, &case.a.words, nb, &case.b.words);
     let reference = expected::state_answer(answer);
-    compare(case, "cascade_first_difference: answer", library, reference);
-    compare_buffer(case, "cascade_first_difference: a", &a, &case.a.words);
-    compare_buffer(case, "cascade_first_difference: b", &b, &case.b.words);
+    case.check("cascade_first_difference", library, reference, &[]);
+    classes::count_pair(counts, case, &[(13, reference::too_wide(na))]);
     count(case, answer, counts);
 }
 
-fn count(case: &Case, answer: Result<Option<u64>, reference::Refusal>, counts: &mut Counts) {
-    let Case { a, b, dangling } = case;
-    let mut offences = classes::pair_offences(a, b);
-    if reference::too_wide(a.lines) {
-        offences.push("13".to_string());
-    }
-    counts.add_tested_case(&offences);
-    classes::count_pointer(counts, "a", &a.words, *dangling);
-    classes::count_pointer(counts, "b", &b.words, *dangling);
+fn count(
+    Pair { a, b, .. }: &Pair,
+    answer: Result<Option<u64>, reference::Refusal>,
+    counts: &mut Counts,
+) {
     let n = a.lines;
     match answer {
         Ok(None) => {

@@ -2,6 +2,7 @@
 
 use crate::calls::run;
 use crate::capi::{self, CountAnswer};
+use crate::cases::{self, Single};
 use crate::classes;
 use crate::expected;
 use crate::harness::{compare, compare_buffer, Buffer, Counts};
@@ -13,74 +14,47 @@ const RANDOM_CASES: u64 = 200_000;
 
 const CLASSES: &[&str] = &["served: two gates or more"];
 
-/// What the call is given, and a state for the laws. With `dangling`, an empty slice has a dangling
-/// pointer.
-#[derive(Debug)]
-struct Case {
-    lines: u64,
-    words: Vec<u64>,
-    out: Vec<u64>,
-    dangling: bool,
-    state: u64,
-}
-
 pub fn section(random: &mut Random) -> Counts {
-    let mut counts = Counts::new("cascade_inverse");
-    counts.require_refusals(&[2, 11, 6, 7, 10]);
-    counts.require(classes::CASCADE);
-    classes::require_pointers(&mut counts, &["words", "out"]);
-    counts.require(classes::BUFFER);
-    counts.require(CLASSES);
-    let mut contents = Random::new(random.word());
-    inputs::each_edge(random, CASCADE_GATES, &mut |cascade| {
-        for length in inputs::edge_lengths(cascade.words.len()) {
-            let out = contents.words(length);
-            check(&case(cascade.clone(), out, true), &mut counts);
-        }
-    });
-    for _ in 0..RANDOM_CASES {
-        let cascade = inputs::cascade(random, CASCADE_GATES);
-        let length = inputs::buffer_length(random, cascade.words.len());
-        let out = random.words(length);
-        check(&case(cascade, out, random.one_in(2)), &mut counts);
-    }
+    let buffers = &["words", "out"];
+    let mut counts = classes::single_counts("cascade_inverse", &[10], buffers, CLASSES);
+    let mut check = |case: Single| check(&case, &mut counts);
+    cases::each_with_out(
+        random,
+        CASCADE_GATES,
+        RANDOM_CASES,
+        needed,
+        |_| true,
+        &mut check,
+    );
     counts
 }
 
-fn case(cascade: Cascade, out: Vec<u64>, dangling: bool) -> Case {
-    Case {
-        lines: cascade.lines,
-        words: cascade.words,
-        out,
-        dangling,
-        state: cascade.state,
-    }
+fn needed(cascade: &Cascade) -> usize {
+    cascade.words.len()
 }
 
-/// The library's answer. A buffer's pointer and length belong together.
 fn call(lines: u64, words: &mut Buffer<u64>, out: &mut Buffer<u64>) -> CountAnswer {
     let (words_len, out_len) = (words.len(), out.len());
     unsafe { capi::cascade_inverse(lines, words.pointer(), words_len, out.pointer(), out_len) }
 }
 
-fn check(case: &Case, counts: &mut Counts) {
-    let mut words = Buffer::placed(&case.words, case.dangling);
-    let mut out = Buffer::placed(&case.out, case.dangling);
-    let library = call(case.lines, &mut words, &mut out);
+fn check(case: &Single, counts: &mut Counts) {
+    let Cascade { lines, words, .. } = &case.cascade;
     let mut wanted = case.out.clone();
-    let reference = reference::inverse(case.lines, &case.words, &mut wanted);
-    let reference = expected::count_answer(reference);
-    compare(case, "cascade_inverse: answer", library, reference);
-    compare_buffer(case, "cascade_inverse: out", &out, &wanted);
-    compare_buffer(case, "cascade_inverse: words", &words, &case.words);
-    if reference.number == 0 {
-        check_laws(case, &out.contents()[..case.words.len()]);
+    let answer = expected::count_answer(reference::inverse(*lines, words, &mut wanted));
+    let number = answer.number;
+    let out = case.check_out("cascade_inverse", call, answer, &wanted);
+    if number == 0 {
+        check_laws(&case.cascade, &out.contents()[..words.len()]);
     }
-    count(case, reference.number, counts);
+    let further = [(10, reference::short_buffer(&case.out, words.len()))];
+    classes::count_single(counts, case, CASCADE_GATES, &further, number);
+    classes::count_out(counts, &case.out, case.dangling, words.len(), number);
+    counts.add_if(number == 0 && words.len() >= 6, "served: two gates or more");
 }
 
 /// The inverse of the inverse is the cascade, and running the inverse on the output gives the input.
-fn check_laws(case: &Case, inverse: &[u64]) {
+fn check_laws(case: &Cascade, inverse: &[u64]) {
     let mut words = Buffer::new(&case.words);
     let mut inverse = Buffer::new(inverse);
     let mut twice = Buffer::new(&vec![0; case.words.len()]);
@@ -92,18 +66,4 @@ fn check_laws(case: &Case, inverse: &[u64]) {
     let output = run::call(case.lines, &mut words, state).state;
     let input = run::call(case.lines, &mut inverse, output).state;
     compare(case, "run of the inverse on the output", input, state);
-}
-
-fn count(case: &Case, number: u64, counts: &mut Counts) {
-    let (words, out) = (&case.words, &case.out);
-    let mut offences = classes::cascade_offences(case.lines, words, CASCADE_GATES);
-    if reference::short_buffer(out, words.len()) {
-        offences.push(10);
-    }
-    counts.add_case(&offences);
-    classes::count_cascade(counts, case.lines, words, CASCADE_GATES, number);
-    classes::count_pointer(counts, "words", words, case.dangling);
-    classes::count_pointer(counts, "out", out, case.dangling);
-    classes::count_buffer(counts, out, words.len(), number);
-    counts.add_if(number == 0 && words.len() >= 6, "served: two gates or more");
 }

@@ -28,8 +28,7 @@ pub fn section(random: &mut Random) -> Counts {
     for number in [1, 2, 3, 4, 5, 6, 10] {
         counts.require(&[&format!("refused with {number}")]);
     }
-    classes::require_pointers(&mut counts, &["text", "out"]);
-    counts.require(classes::BUFFER);
+    classes::require_buffers(&mut counts, &["text", "out"]);
     counts.require(CLASSES);
     rows(random, &mut counts);
     for _ in 0..GOOD_TEXTS {
@@ -131,8 +130,8 @@ fn count(case: &Case, answer: ReadAnswer, counts: &mut Counts) {
     let number = answer.number;
     counts.add_case(&[number][..(number != 0) as usize]);
     classes::count_pointer(counts, "text", &case.text, case.dangling);
-    classes::count_pointer(counts, "out", &case.out, case.dangling);
-    classes::count_buffer(counts, &case.out, needed(&case.text), number);
+    let needed = needed(&case.text);
+    classes::count_out(counts, &case.out, case.dangling, needed, number);
     if number == 0 {
         counts.add_if(answer.gates >= 2, "served: two gates or more");
         let more = case.text.len() as u64 > answer.taken;

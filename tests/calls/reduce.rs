@@ -2,9 +2,10 @@
 
 use crate::calls::step;
 use crate::capi::{self, ReduceAnswer};
+use crate::cases::{self, Single};
 use crate::classes;
 use crate::expected;
-use crate::harness::{compare, compare_buffer, Buffer, Counts};
+use crate::harness::{compare, Buffer, Counts};
 use crate::inputs::{self, Cascade};
 use crate::random::Random;
 use crate::reference::{self, MITER_GATES};
@@ -22,71 +23,40 @@ const CLASSES: &[&str] = &[
     "the same with another n",
 ];
 
-#[derive(Debug)]
-struct Case {
-    lines: u64,
-    words: Vec<u64>,
-    dangling: bool,
-}
-
 pub fn section(random: &mut Random) -> Counts {
-    let mut counts = Counts::new("cascade_reduce");
-    counts.require_refusals(&[2, 11, 6, 7]);
-    counts.require(classes::CASCADE);
-    classes::require_pointers(&mut counts, &["words"]);
-    counts.require(CLASSES);
-    inputs::each_edge(random, MITER_GATES, &mut |cascade| {
-        check(&case(cascade, true), &mut counts);
-    });
+    let mut counts = classes::single_counts("cascade_reduce", &[], &["words"], CLASSES);
+    let mut check = |case: Single| check(&case, &mut counts);
+    cases::each_edge(random, MITER_GATES, &mut check);
     for lines in [1, 4, 16, 64] {
-        let a = inputs::good_cascade(random, lines, MITER_GATES / 2).words;
-        let b = a.chunks(3).rev().flatten().copied().collect::<Vec<u64>>();
-        let words = [a, b].concat();
-        let case = Case {
-            lines,
-            words,
-            dangling: false,
-        };
-        check(&case, &mut counts);
+        let mut mirrored = inputs::good_cascade(random, lines, MITER_GATES / 2);
+        let back: Vec<u64> = mirrored.words.rchunks(3).flatten().copied().collect();
+        mirrored.words.extend(back);
+        check(Single::new(mirrored, false));
     }
-    for _ in 0..RANDOM_CASES {
-        let cascade = inputs::any_or_matching(random);
-        check(&case(cascade, random.one_in(2)), &mut counts);
-    }
+    cases::each_drawn(random, RANDOM_CASES, inputs::any_or_matching, &mut check);
     counts
 }
 
-fn case(cascade: Cascade, dangling: bool) -> Case {
-    Case {
-        lines: cascade.lines,
-        words: cascade.words,
-        dangling,
-    }
-}
-
 fn call(lines: u64, words: &mut Buffer<u64>) -> ReduceAnswer {
-    let words_len = words.len();
-    unsafe { capi::cascade_reduce(lines, words.pointer(), words_len) }
+    unsafe { capi::cascade_reduce(lines, words.pointer(), words.len()) }
 }
 
-fn check(case: &Case, counts: &mut Counts) {
-    let mut words = Buffer::placed(&case.words, case.dangling);
-    let library = call(case.lines, &mut words);
-    let mut wanted = case.words.clone();
-    let reference = expected::reduce_answer(case.words.len(), reference::reduce(case.lines, &mut wanted));
-    compare(case, "cascade_reduce: answer", library, reference);
-    compare_buffer(case, "cascade_reduce: words", &words, &wanted);
-    let number = reference.number;
-    classes::count_call(counts, case.lines, &case.words, case.dangling, number);
-    if number == 0 {
-        check_chain(case, &wanted, reference);
-        check_other_lines(case, &wanted, reference, counts);
-        count(case, reference, counts);
+fn check(case: &Single, counts: &mut Counts) {
+    let cascade = &case.cascade;
+    let mut wanted = cascade.words.clone();
+    let answer = reference::reduce(cascade.lines, &mut wanted);
+    let answer = expected::reduce_answer(wanted.len(), answer);
+    case.check("cascade_reduce", call, answer, &wanted);
+    classes::count_single(counts, case, MITER_GATES, &[], answer.number);
+    if answer.number == 0 {
+        check_chain(cascade, &wanted, answer);
+        cases::check_other_lines(cascade, &[64], call, answer, &wanted, counts);
+        count(cascade, answer, counts);
     }
 }
 
 /// Steps of the library, each on the gates that then stand and with any n that serves.
-fn check_chain(case: &Case, after: &[u64], answer: ReduceAnswer) {
+fn check_chain(case: &Cascade, after: &[u64], answer: ReduceAnswer) {
     let mut words = case.words.clone();
     let (mut pairs, mut merges) = (0, 0);
     loop {
@@ -125,17 +95,7 @@ fn check_chain(case: &Case, after: &[u64], answer: ReduceAnswer) {
     );
 }
 
-/// The same answer and words for every n on which the gates are valid.
-fn check_other_lines(case: &Case, after: &[u64], answer: ReduceAnswer, counts: &mut Counts) {
-    if case.lines != 64 {
-        let mut words = Buffer::new(&case.words);
-        compare(case, "another n: answer", call(64, &mut words), answer);
-        compare_buffer(case, "another n: words", &words, after);
-        counts.add("the same with another n");
-    }
-}
-
-fn count(case: &Case, answer: ReduceAnswer, counts: &mut Counts) {
+fn count(case: &Cascade, answer: ReduceAnswer, counts: &mut Counts) {
     let ReduceAnswer {
         gates,
         pairs,

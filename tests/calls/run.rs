@@ -1,6 +1,7 @@
 //! cascade_run, and cascade_run_records on the same gates.
 
 use crate::capi::{self, Gate, RunAnswer};
+use crate::cases::{self, Single};
 use crate::classes;
 use crate::expected;
 use crate::harness::{compare, compare_buffer, Buffer, Counts};
@@ -27,41 +28,22 @@ const CLASSES: &[&str] = &[
     "records: 1,025 gates",
 ];
 
-/// What the call is given. With `dangling`, an empty slice has a dangling pointer.
-#[derive(Debug)]
-struct Case {
-    lines: u64,
-    words: Vec<u64>,
-    dangling: bool,
-    state: u64,
-}
-
 pub fn section(random: &mut Random) -> Counts {
-    let mut counts = Counts::new("cascade_run");
-    counts.require_refusals(&[2, 11, 6, 7, 9]);
-    counts.require(classes::CASCADE);
-    classes::require_pointers(&mut counts, &["words", "records"]);
-    counts.require(CLASSES);
-    inputs::each_edge(random, CASCADE_GATES, &mut |cascade| {
-        for state in inputs::edge_states(cascade.lines) {
-            check(&case(cascade.clone(), state, true), &mut counts);
+    let mut counts = classes::single_counts("cascade_run", &[9], &["words", "records"], CLASSES);
+    let mut check = |case: Single| check(&case, &mut counts);
+    cases::each_edge(random, CASCADE_GATES, &mut |case| {
+        for state in inputs::edge_states(case.cascade.lines) {
+            let cascade = case.cascade.clone();
+            check(Single::new(Cascade { state, ..cascade }, case.dangling));
         }
     });
-    for _ in 0..RANDOM_CASES {
+    let draw = |random: &mut Random| {
         let cascade = inputs::cascade(random, CASCADE_GATES);
         let state = inputs::state(random, &cascade);
-        check(&case(cascade, state, random.one_in(2)), &mut counts);
-    }
+        Cascade { state, ..cascade }
+    };
+    cases::each_drawn(random, RANDOM_CASES, draw, &mut check);
     counts
-}
-
-fn case(cascade: Cascade, state: u64, dangling: bool) -> Case {
-    Case {
-        lines: cascade.lines,
-        words: cascade.words,
-        dangling,
-        state,
-    }
 }
 
 /// The library's answer. A buffer's pointer and length belong together.
@@ -74,26 +56,31 @@ fn call_records(lines: u64, gates: &mut Buffer<Gate>, state: u64) -> RunAnswer {
     unsafe { capi::cascade_run_records(lines, gates.pointer(), gates.len(), state) }
 }
 
-fn check(case: &Case, counts: &mut Counts) {
-    let mut words = Buffer::placed(&case.words, case.dangling);
-    let library = call(case.lines, &mut words, case.state);
-    let reference = expected::run_answer(reference::run(case.lines, &case.words, case.state));
-    compare(case, "cascade_run: answer", library, reference);
-    compare_buffer(case, "cascade_run: words", &words, &case.words);
-    count(case, reference.number, counts);
-    check_records(case, counts);
+fn check(case: &Single, counts: &mut Counts) {
+    let Cascade {
+        lines,
+        words,
+        state,
+    } = &case.cascade;
+    let answer = expected::run_answer(reference::run(*lines, words, *state));
+    let library = |n, words: &mut Buffer<u64>| call(n, words, *state);
+    case.check("cascade_run", library, answer, words);
+    let further = [(9, reference::bad_state(*lines, *state))];
+    classes::count_single(counts, case, CASCADE_GATES, &further, answer.number);
+    count(&case.cascade, answer.number, counts);
+    check_records(&case.cascade, case.dangling, counts);
 }
 
 /// The whole gates of the words as records.
-fn check_records(case: &Case, counts: &mut Counts) {
+fn check_records(case: &Cascade, dangling: bool, counts: &mut Counts) {
     let gates = reference::gates_of(&case.words);
     let records: Vec<Gate> = gates.iter().map(record).collect();
-    let mut buffer = Buffer::placed(&records, case.dangling);
+    let mut buffer = Buffer::placed(&records, dangling);
     let library = call_records(case.lines, &mut buffer, case.state);
     let reference = expected::run_answer(reference::run_records(case.lines, &gates, case.state));
     compare(case, "cascade_run_records: answer", library, reference);
     compare_buffer(case, "cascade_run_records: gates", &buffer, &records);
-    classes::count_pointer(counts, "records", &records, case.dangling);
+    classes::count_pointer(counts, "records", &records, dangling);
     match reference.number {
         0 => counts.add("records: served"),
         number => counts.add(&format!("records: {number}")),
@@ -111,15 +98,8 @@ fn record(gate: &reference::Gate) -> Gate {
     }
 }
 
-fn count(case: &Case, number: u64, counts: &mut Counts) {
+fn count(case: &Cascade, number: u64, counts: &mut Counts) {
     let (lines, words, state) = (case.lines, &case.words, case.state);
-    let mut offences = classes::cascade_offences(lines, words, CASCADE_GATES);
-    if reference::bad_state(lines, state) {
-        offences.push(9);
-    }
-    counts.add_case(&offences);
-    classes::count_cascade(counts, lines, words, CASCADE_GATES, number);
-    classes::count_pointer(counts, "words", words, case.dangling);
     if number == 0 {
         let last = state == inputs::all_lines(lines);
         counts.add_if(last, "served: state 2^n - 1");

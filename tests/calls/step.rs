@@ -1,9 +1,10 @@
 //! cascade_step, and the laws that a step keeps the run and does not depend on the n given.
 
 use crate::capi::{self, StepAnswer};
+use crate::cases::{self, Single};
 use crate::classes;
 use crate::expected;
-use crate::harness::{compare, compare_buffer, Buffer, Counts};
+use crate::harness::{compare, Buffer, Counts};
 use crate::inputs::{self, Cascade};
 use crate::random::Random;
 use crate::reference::{self, Gate, Match, MITER_GATES};
@@ -26,42 +27,17 @@ const CLASSES: &[&str] = &[
     "the same with another n",
 ];
 
-#[derive(Debug)]
-struct Case {
-    lines: u64,
-    words: Vec<u64>,
-    state: u64,
-    dangling: bool,
-}
-
 pub fn section(random: &mut Random) -> Counts {
-    let mut counts = Counts::new("cascade_step");
-    counts.require_refusals(&[2, 11, 6, 7]);
-    counts.require(classes::CASCADE);
-    classes::require_pointers(&mut counts, &["words"]);
-    counts.require(CLASSES);
-    inputs::each_edge(random, MITER_GATES, &mut |cascade| {
-        check(&case(cascade, true), &mut counts);
-    });
-    each_two_gates(&mut counts);
-    for _ in 0..RANDOM_CASES {
-        let cascade = inputs::any_or_matching(random);
-        check(&case(cascade, random.one_in(2)), &mut counts);
-    }
+    let mut counts = classes::single_counts("cascade_step", &[], &["words"], CLASSES);
+    let mut check = |case: Single| check(&case, &mut counts);
+    cases::each_edge(random, MITER_GATES, &mut check);
+    each_two_gates(&mut check);
+    cases::each_drawn(random, RANDOM_CASES, inputs::any_or_matching, &mut check);
     counts
 }
 
-fn case(cascade: Cascade, dangling: bool) -> Case {
-    Case {
-        lines: cascade.lines,
-        words: cascade.words,
-        state: cascade.state,
-        dangling,
-    }
-}
-
 /// Every two gates on three lines, valid or not, alone and with a gate on line 1 between.
-fn each_two_gates(counts: &mut Counts) {
+fn each_two_gates(check: &mut impl FnMut(Single)) {
     let mut gates = Vec::new();
     for positive in 0..8 {
         for negative in 0..8 {
@@ -72,36 +48,30 @@ fn each_two_gates(counts: &mut Counts) {
         for second in &gates {
             for between in [vec![], vec![[0, 0, 1]]] {
                 let words = [vec![*first], between, vec![*second]].concat().concat();
-                let case = Case {
-                    lines: 3,
-                    words,
-                    state: 5,
-                    dangling: false,
-                };
-                check(&case, counts);
+                let state = 5;
+                let cascade = inputs::from_zero(3, words);
+                check(Single::new(Cascade { state, ..cascade }, false));
             }
         }
     }
 }
 
 pub fn call(lines: u64, words: &mut Buffer<u64>) -> StepAnswer {
-    let words_len = words.len();
-    unsafe { capi::cascade_step(lines, words.pointer(), words_len) }
+    unsafe { capi::cascade_step(lines, words.pointer(), words.len()) }
 }
 
-fn check(case: &Case, counts: &mut Counts) {
-    let mut words = Buffer::placed(&case.words, case.dangling);
-    let library = call(case.lines, &mut words);
-    let mut wanted = case.words.clone();
-    let reference = expected::step_answer(case.words.len(), reference::step(case.lines, &mut wanted));
-    compare(case, "cascade_step: answer", library, reference);
-    compare_buffer(case, "cascade_step: words", &words, &wanted);
-    let number = reference.number;
-    classes::count_call(counts, case.lines, &case.words, case.dangling, number);
-    if number == 0 {
-        check_run(case, &wanted, reference);
-        check_other_lines(case, &wanted, reference, counts);
-        count(case, reference, counts);
+fn check(case: &Single, counts: &mut Counts) {
+    let cascade = &case.cascade;
+    let mut wanted = cascade.words.clone();
+    let answer = reference::step(cascade.lines, &mut wanted);
+    let answer = expected::step_answer(wanted.len(), answer);
+    case.check("cascade_step", call, answer, &wanted);
+    classes::count_single(counts, case, MITER_GATES, &[], answer.number);
+    if answer.number == 0 {
+        check_run(cascade, &wanted, answer);
+        let others = [1, 3, cascade.lines + 1, 64];
+        cases::check_other_lines(cascade, &others, call, answer, &wanted, counts);
+        count(&reference::gates_of(&cascade.words), answer, counts);
     }
 }
 
@@ -111,7 +81,7 @@ fn run_of(words: &[u64], state: u64) -> u64 {
 }
 
 /// The gates that then stand give the same output.
-fn check_run(case: &Case, after: &[u64], answer: StepAnswer) {
+fn check_run(case: &Cascade, after: &[u64], answer: StepAnswer) {
     let gates = answer.gates as usize;
     for state in [0, inputs::all_lines(case.lines), case.state] {
         let library = run_of(&after[..3 * gates], state);
@@ -119,20 +89,7 @@ fn check_run(case: &Case, after: &[u64], answer: StepAnswer) {
     }
 }
 
-/// The same answer and words for every n on which the gates are valid.
-fn check_other_lines(case: &Case, after: &[u64], answer: StepAnswer, counts: &mut Counts) {
-    for lines in [1, 3, case.lines + 1, 64] {
-        if lines != case.lines && reference::test_cascade(lines, &case.words, MITER_GATES).is_ok() {
-            let mut words = Buffer::new(&case.words);
-            compare(case, "another n: answer", call(lines, &mut words), answer);
-            compare_buffer(case, "another n: words", &words, after);
-            counts.add("the same with another n");
-        }
-    }
-}
-
-fn count(case: &Case, answer: StepAnswer, counts: &mut Counts) {
-    let gates = reference::gates_of(&case.words);
+fn count(gates: &[Gate], answer: StepAnswer, counts: &mut Counts) {
     if answer.found == 0 {
         counts.add_if(gates.is_empty(), "none: no gates");
         counts.add_if(gates.len() == 1, "none: one gate");
@@ -143,11 +100,11 @@ fn count(case: &Case, answer: StepAnswer, counts: &mut Counts) {
             );
         }
     } else {
-        count_found(&gates, answer, counts);
+        count_found(gates, answer, counts);
     }
     if gates.len() < 20 {
         counts.add_if(
-            blocked(&gates),
+            blocked(gates),
             "blocked: two gates match behind one that may not be passed",
         );
     }
