@@ -20,7 +20,7 @@ use Rattle.text.specs.Dimacs.{thenRead}
 use Rattle.text.specs.Tomiter.{refusalText}
 use Rattle.text.specs.Compare.{fileWords, Files, cascades, faulty, wholeFile, filesOf, differWord, fitOutcome}
 use Rattle.text.specs.CompareLaws.{TwoFiles}
-use Rattle.text.specs.CheckInput.{maxChecked, stateText, stateRead, agreeWord, outputsText, checkedOn, checkedFiles, checked, checkedText, checkText, checkOutcome}
+use Rattle.text.specs.CheckInput.{maxChecked, stateText, stateRead, agreeWord, outputsText, checkedOn, checkedFiles, checked, checkedText, checkText, inputOutcome}
 use Rattle.text.specs.CheckInputLaws.{saidOf}
 use Rattle.text.proofs.pair.Laws as pair
 use Rattle.text.proofs.Longest.{fault-few}
@@ -122,8 +122,8 @@ unfolding checkText checked
 text-fits first second state = files-few first second state (filesOf first second) (judged first second)
 
 pub room-enough : (first second state : List ℕ) (room-a room-b room : ℕ) → fileWords ≤ room-a → fileWords ≤ room-b → maxChecked ≤ room
-    → checkOutcome first second state room-a room-b room ≡ served (length (checkText first second state))
-unfolding checkOutcome fitOutcome
+    → inputOutcome first second state room-a room-b room ≡ served (length (checkText first second state))
+unfolding inputOutcome fitOutcome
 room-enough first second state room-a room-b room a b h =
     demand-met _ _ _ _ (le-leb fileWords room-a a) ∙ demand-met _ _ _ _ (le-leb fileWords room-b b)
     ∙ demand-met _ _ _ _ (le-leb (length (checkText first second state)) room (le-trans (text-fits first second state) h))

@@ -22,7 +22,7 @@ use Rattle.text.specs.Dimacs.{headerText, clausesText, dimacsOf}
 use Rattle.text.specs.Plain.{plainClauses}
 use Rattle.text.specs.Tomiter.{refusalText}
 use Rattle.text.specs.Compare.{maxList, maxCompared, fileWords, miterWords, Files, cascades, faulty, filesOf, Comparison, gatesLeft, sweptAs, listAs, compared, comparedFiles, comparison, comparisonText, compareText, fitOutcome, Rooms, compareOutcome}
-use Rattle.text.specs.CompareLaws.{TwoFiles, FilesFault, first-long, second-long, first-file, after-first, second-file, after-second, lines-differ, list-long}
+use Rattle.text.specs.CompareLaws.{TwoFiles, FilesRefused, first-long, second-long, first-file, after-first, second-file, after-second, lines-differ, list-long}
 use Rattle.text.proofs.Decimal.{decimal-few}
 use Rattle.text.proofs.Sizes.{fault-small}
 use Rattle.text.proofs.Rooms.{rooms-good}
@@ -33,7 +33,7 @@ use Rattle.text.proofs.answer.Laws.{digits-few, differ-long, refusal-lo
 
 -- ---- refusals
 
-pub fault-few : (first second : List ℕ) (number file place : ℕ) → FilesFault first second number file place → (number < 100) × (file < 10) × (place < 10000)
+pub fault-few : (first second : List ℕ) (number file place : ℕ) → FilesRefused first second number file place → (number < 100) × (file < 10) × (place < 10000)
 fault-few first second _ _ _ (first-long _) = (omega arith, omega arith, omega arith)
 fault-few first second _ _ _ (second-long _ _) = (omega arith, omega arith, omega arith)
 fault-few first second _ _ _ (first-file number place _ _ f) = let (a, b) = fault-small first number place f in (a, omega arith, b)

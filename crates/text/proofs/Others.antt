@@ -22,7 +22,7 @@ use Rattle.text.specs.Dimacs.{Dimacs, decimal, numberRead, headerText, d
 use Rattle.text.specs.Tomiter.{refusalText}
 use Rattle.text.specs.BytesTell.{TextTells}
 use Rattle.text.specs.Compare.{maxFile, equalText, differWord, differText}
-use Rattle.text.specs.CompareLaws.{TwoFiles, Verdict, refuses, reduces, sweeps, differs, asks, Compares}
+use Rattle.text.specs.CompareLaws.{TwoFiles, MayWrite, refuses, reduces, sweeps, differs, asks, Compares}
 use Rattle.text.proofs.Reading.{parts-cut, decimal-free, number-back}
 use Rattle.text.proofs.Strict.{text-was}
 use Rattle.text.proofs.StandIns.{once, once-runs, none-good, once-good}
@@ -110,7 +110,7 @@ not-equal n a b t h =
 
 -- ---- the stand-ins
 
-equal-case : (text word : List ℕ) → text ≡ equalText word → Verdict first second text → ⊥
+equal-case : (text word : List ℕ) → text ≡ equalText word → MayWrite first second text → ⊥
 equal-case text word e (refuses number file place f g) = omega (arith, refusal-start number file place, ap start (sym f ∙ e), equal-start word)
 equal-case text word e (reduces n a b t f g h) = not-equal n a b t h
 equal-case text word e (sweeps n a b t f g h i) = not-equal n a b t i
@@ -120,7 +120,7 @@ equal-case text word e (asks n a b t f g h i j) = omega (arith, one-line n a b t
 pub always-equal : (program : List ℕ → List ℕ → List ℕ) (word : List ℕ) → ((first second : List ℕ) → program first second ≡ equalText word) → Compares program → ⊥
 always-equal program word all laws = equal-case (program first second) word (all first second) (laws first second)
 
-asked-case : (text : List ℕ) → start text ≡ 112 → Verdict first second text → ⊥
+asked-case : (text : List ℕ) → start text ≡ 112 → MayWrite first second text → ⊥
 asked-case text e (refuses number file place f g) = omega (arith, refusal-start number file place, ap start f)
 asked-case text e (reduces n a b t f g h) = not-equal n a b t h
 asked-case text e (sweeps n a b t f g h i) = not-equal n a b t i
@@ -150,7 +150,7 @@ same-state x y z k l m e =
     cc
 
 module _ (one two : List ℕ) (n : ℕ) (a b : List Gate) (x y z : ℕ) (t : TwoFiles one two n a b) (agree : run a x ≡ run b x) where
-  difference-case : (text : List ℕ) → text ≡ differText x y z → Verdict one two text → ⊥
+  difference-case : (text : List ℕ) → text ≡ differText x y z → MayWrite one two text → ⊥
   difference-case text e (refuses number file place f g) = omega (arith, refusal-start number file place, ap start (sym f ∙ e), differ-start x y z)
   difference-case text e (reduces m c d s f g h) = omega (arith, differ-start x y z, ap start (sym f ∙ e))
   difference-case text e (sweeps m c d s f g h i) = omega (arith, differ-start x y z, ap start (sym f ∙ e))

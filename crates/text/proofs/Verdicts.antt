@@ -32,7 +32,7 @@ use Rattle.text.specs.Dimacs.{dimacsOf, dimacsRead}
 use Rattle.text.specs.Plain.{plainClauses}
 use Rattle.text.specs.BytesTell.{TextTells}
 use Rattle.text.specs.Compare.{maxFile, maxList, Files, cascades, faulty, wholeFile, secondFile, filesOf, Comparison, gatesLeft, sweptAs, listAs, compared, comparedFiles, comparison, comparisonText, compareText}
-use Rattle.text.specs.CompareLaws.{TwoFiles, FilesFault, first-long, second-long, first-file, after-first, second-file, after-second, lines-differ, list-long, Verdict, refuses, reduces, sweeps, differs, asks, Compares}
+use Rattle.text.specs.CompareLaws.{TwoFiles, FilesRefused, first-long, second-long, first-file, after-first, second-file, after-second, lines-differ, list-long, MayWrite, refuses, reduces, sweeps, differs, asks, Compares}
 use Rattle.text.proofs.Pairs.{listable}
 use Rattle.text.proofs.Reading.{text-back}
 use Rattle.text.proofs.PlainClauses.{plain-or, plain-tells}
@@ -70,15 +70,15 @@ whole-judged text = whole-by text (reading text) refl
 module _ (first second : List ℕ) where
   abbrev pub Judged : Files → Type 0
   Judged (cascades n a b) = TwoFiles first second n a b
-  Judged (faulty number file place) = FilesFault first second number file place
+  Judged (faulty number file place) = FilesRefused first second number file place
 
   module _ (short : length first ≤ maxFile) (short-2 : length second ≤ maxFile) where
-    first-fault : (number place : ℕ) → WholeFault first number place → FilesFault first second number 1 place
+    first-fault : (number place : ℕ) → WholeFault first number place → FilesRefused first second number 1 place
     first-fault _ _ (line number place f) = first-file number place short short-2 f
     first-fault _ _ (after n a rest good e more) = after-first n a rest short short-2 good e more
 
     module _ (n : ℕ) (a : List Gate) (good : FileCascade n a) (is : first ≡ textOf n a) where
-      second-fault : (number place : ℕ) → WholeFault second number place → FilesFault first second number 2 place
+      second-fault : (number place : ℕ) → WholeFault second number place → FilesRefused first second number 2 place
       second-fault _ _ (line number place f) = second-file n a number place short short-2 good is f
       second-fault _ _ (after m b rest good-b e more) = after-second n a m b rest short short-2 good is good-b e more
 
@@ -175,12 +175,12 @@ module _ (first second : List ℕ) (n : ℕ) (a b : List Gate) (t : TwoFiles fir
 
   module _ (some : gl ≡ [] → ⊥) where
     -- the sweep
-    by-difference : n ≤ maxSweepLines → (d : Difference) → sweep.Says n a b (served d) → Verdict first second (comparisonText (sweptAs a b d))
+    by-difference : n ≤ maxSweepLines → (d : Difference) → sweep.Says n a b (served d) → MayWrite first second (comparisonText (sweptAs a b d))
     by-difference h none s = sweeps n a b t refl some h s
     by-difference h (lowest x) s = differs n a b t x refl some h (s .0) (s .1)
 
     -- the clauses
-    by-list : maxSweepLines < n → Verdict first second (comparisonText (listAs n gl))
+    by-list : maxSweepLines < n → MayWrite first second (comparisonText (listAs n gl))
     unfolding listAs text-tells
     by-list h =
         either (leb (length (stored cs)) maxList)
@@ -191,7 +191,7 @@ module _ (first second : List ℕ) (n : ℕ) (a b : List Gate) (t : TwoFiles fir
         refuses 10 0 0 (ap comparisonText (cond-false (leb (length (stored cs)) maxList) _ _ u))
         (list-long n a b t h some (leb-false (length (stored cs)) maxList u)))
 
-  pub pair-verdict : Verdict first second (comparisonText (compared n a b))
+  pub pair-verdict : MayWrite first second (comparisonText (compared n a b))
   unfolding compared
   pair-verdict =
       either (eqb (length gl) 0)
@@ -202,17 +202,17 @@ module _ (first second : List ℕ) (n : ℕ) (a b : List Gate) (t : TwoFiles fir
       let some : gl ≡ [] → ⊥ = λ e. eqb-false (length gl) 0 u (ap length e) in
       either (leb n maxSweepLines)
       (λ v.
-      subst (λ (c : Comparison). Verdict first second (comparisonText c))
+      subst (λ (c : Comparison). MayWrite first second (comparisonText c))
       (sym (cond-false (eqb (length gl) 0) _ _ u ∙ cond-true (leb n maxSweepLines) _ _ v))
       (by-difference some (leb-true n maxSweepLines v) (lowestFrom a b 0 (2 ^ n)) (sweep-says a b n)))
       (λ v.
-      subst (λ (c : Comparison). Verdict first second (comparisonText c))
+      subst (λ (c : Comparison). MayWrite first second (comparisonText c))
       (sym (cond-false (eqb (length gl) 0) _ _ u ∙ cond-false (leb n maxSweepLines) _ _ v))
       (by-list some (leb-false n maxSweepLines v))))
 
 -- ---- the claim
 
-said : (first second : List ℕ) (f : Files) → Judged first second f → Verdict first second (comparisonText (comparedFiles f))
+said : (first second : List ℕ) (f : Files) → Judged first second f → MayWrite first second (comparisonText (comparedFiles f))
 said first second (cascades n a b) t = pair-verdict first second n a b t
 said first second (faulty number file place) f = refuses number file place refl f
 

@@ -66,11 +66,11 @@ unfoldable pub checkText : List ℕ → List ℕ → List ℕ → List ℕ
 checkText first second state = checkedText (checked first second state)
 
 -- the call on slices: 10 where a room for the words of a cascade is too short, or the buffer is shorter than the text
-unfoldable pub checkOutcome : List ℕ → List ℕ → List ℕ → ℕ → ℕ → ℕ → Outcome ℕ
-checkOutcome first second state room-a room-b room =
+unfoldable pub inputOutcome : List ℕ → List ℕ → List ℕ → ℕ → ℕ → ℕ → Outcome ℕ
+inputOutcome first second state room-a room-b room =
     demand (leb fileWords room-a) noRoom 0
     (demand (leb fileWords room-b) noRoom 0
     (fitOutcome (checkText first second state) room))
 
-unfoldable pub checkBuffer : List ℕ → List ℕ → List ℕ → ℕ → ℕ → List ℕ → List ℕ
-checkBuffer first second state room-a room-b out = written (checkOutcome first second state room-a room-b (length out)) (checkText first second state) out
+unfoldable pub inputBuffer : List ℕ → List ℕ → List ℕ → ℕ → ℕ → List ℕ → List ℕ
+inputBuffer first second state room-a room-b out = written (inputOutcome first second state room-a room-b (length out)) (checkText first second state) out

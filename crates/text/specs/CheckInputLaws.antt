@@ -6,12 +6,13 @@ use Prim.Native.Nat.{ℕ, _^_, _<_, _≤_}
 use lib.ListN.{length}
 use Rattle.circuit.specs.declared.gate.Gate.{Gate}
 use Rattle.circuit.specs.Outcome.{served}
+use Rattle.circuit.specs.Refusal.{badState}
 use Rattle.circuit.specs.Run.{run, Differs}
 use Rattle.circuit.specs.Text.{tab, lineFeed}
 use Rattle.text.specs.Tomiter.{refusalText}
 use Rattle.text.specs.Compare.{fileWords, differWord}
 use Rattle.text.specs.CompareLaws.{TwoFiles}
-use Rattle.text.specs.CheckInput.{maxChecked, stateText, stateRead, agreeWord, checkText, checkOutcome}
+use Rattle.text.specs.CheckInput.{maxChecked, stateText, stateRead, agreeWord, checkText, inputOutcome}
 
 -- a word and the outputs of two cascades on x
 abbrev pub saidOf : List ℕ → ℕ → List Gate → List Gate → ℕ → List ℕ
@@ -27,8 +28,8 @@ pub record CheckInputLaws : Type 0 where
   pub agree-told : (first second : List ℕ) (n : ℕ) (a b : List Gate) → TwoFiles first second n a b → (x : ℕ) → x < 2 ^ n → run a x ≡ run b x
       → checkText first second (stateText n x) ≡ saidOf agreeWord n a b x
   pub no-state : (first second : List ℕ) (n : ℕ) (a b : List Gate) → TwoFiles first second n a b → (state : List ℕ) → ((x : ℕ) → x < 2 ^ n → state ≡ stateText n x → ⊥)
-      → checkText first second state ≡ refusalText 9 0 0
+      → checkText first second state ≡ refusalText badState 0 0
   -- every text fits a buffer of 137 bytes
   pub text-fits : (first second state : List ℕ) → length (checkText first second state) ≤ maxChecked
   pub room-enough : (first second state : List ℕ) (room-a room-b room : ℕ) → fileWords ≤ room-a → fileWords ≤ room-b → maxChecked ≤ room
-      → checkOutcome first second state room-a room-b room ≡ served (length (checkText first second state))
+      → inputOutcome first second state room-a room-b room ≡ served (length (checkText first second state))

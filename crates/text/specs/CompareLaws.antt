@@ -8,6 +8,7 @@ use lib.IntN.{ℤ, negℤ}
 use lib.ListN.{length}
 use Rattle.circuit.specs.declared.gate.Gate.{Gate}
 use Rattle.circuit.specs.Outcome.{served}
+use Rattle.circuit.specs.Refusal.{wrongForm, lineCountsDiffer, noRoom}
 use Rattle.circuit.specs.Run.{run, Equal, Differs}
 use Rattle.circuit.specs.Text.{textOf}
 use Rattle.circuit.specs.FileLaws.{FileCascade, FileRefused}
@@ -31,45 +32,45 @@ pub record TwoFiles (first second : List ℕ) (n : ℕ) (a b : List Gate) : Type
   pub second-bytes : length second ≤ maxFile
 
 -- what is wrong with two files, by number, file and place, where nothing of an earlier kind is
-pub data FilesFault (first second : List ℕ) : ℕ → ℕ → ℕ → Type 0 where
+pub data FilesRefused (first second : List ℕ) : ℕ → ℕ → ℕ → Type 0 where
   -- a file of more than 262,144 bytes
-  first-long : maxFile < length first → FilesFault first second 10 0 0
-  second-long : length first ≤ maxFile → maxFile < length second → FilesFault first second 10 0 0
+  first-long : maxFile < length first → FilesRefused first second noRoom 0 0
+  second-long : length first ≤ maxFile → maxFile < length second → FilesRefused first second noRoom 0 0
   -- the first file, and bytes after its `end`: its lines are its header, its gates and `end`
-  first-file : (number place : ℕ) → length first ≤ maxFile → length second ≤ maxFile → FileRefused first number place → FilesFault first second number 1 place
+  first-file : (number place : ℕ) → length first ≤ maxFile → length second ≤ maxFile → FileRefused first number place → FilesRefused first second number 1 place
   after-first : (n : ℕ) (a : List Gate) (rest : List ℕ) → length first ≤ maxFile → length second ≤ maxFile → FileCascade n a
-      → first ≡ textOf n a ++ rest → (rest ≡ [] → ⊥) → FilesFault first second 1 1 (length a + 2)
+      → first ≡ textOf n a ++ rest → (rest ≡ [] → ⊥) → FilesRefused first second wrongForm 1 (length a + 2)
   -- the second one, after a first that is good
   second-file : (n : ℕ) (a : List Gate) (number place : ℕ) → length first ≤ maxFile → length second ≤ maxFile → FileCascade n a → first ≡ textOf n a
-      → FileRefused second number place → FilesFault first second number 2 place
+      → FileRefused second number place → FilesRefused first second number 2 place
   after-second : (n : ℕ) (a : List Gate) (m : ℕ) (b : List Gate) (rest : List ℕ) → length first ≤ maxFile → length second ≤ maxFile → FileCascade n a → first ≡ textOf n a
-      → FileCascade m b → second ≡ textOf m b ++ rest → (rest ≡ [] → ⊥) → FilesFault first second 1 2 (length b + 2)
+      → FileCascade m b → second ≡ textOf m b ++ rest → (rest ≡ [] → ⊥) → FilesRefused first second wrongForm 2 (length b + 2)
   -- line counts that differ
   lines-differ : (n : ℕ) (a : List Gate) (m : ℕ) (b : List Gate) → length first ≤ maxFile → length second ≤ maxFile → FileCascade n a → first ≡ textOf n a
-      → FileCascade m b → second ≡ textOf m b → (n ≡ m → ⊥) → FilesFault first second 8 0 0
+      → FileCascade m b → second ≡ textOf m b → (n ≡ m → ⊥) → FilesRefused first second lineCountsDiffer 0 0
   -- more than 16 lines, gates that the reduction leaves, and a clause list of these of more than 262,144 words
   list-long : (n : ℕ) (a b : List Gate) → TwoFiles first second n a b → maxSweepLines < n → (gatesLeft a b ≡ [] → ⊥)
-      → maxList < length (stored (clausesOf n (gatesLeft a b))) → FilesFault first second 10 0 0
+      → maxList < length (stored (clausesOf n (gatesLeft a b))) → FilesRefused first second noRoom 0 0
 
 -- THE CLAIM: what a text may be that is written for two files. The kinds of texts start with different bytes, and which kind is due is decided by the files alone.
-pub data Verdict (first second text : List ℕ) : Type 0 where
+pub data MayWrite (first second text : List ℕ) : Type 0 where
   -- a refusal: what is wrong first
-  refuses : (number file place : ℕ) → text ≡ refusalText number file place → FilesFault first second number file place → Verdict first second text
+  refuses : (number file place : ℕ) → text ≡ refusalText number file place → FilesRefused first second number file place → MayWrite first second text
   -- equal cascades, of whose miter the full reduction leaves no gate
-  reduces : (n : ℕ) (a b : List Gate) → TwoFiles first second n a b → text ≡ equalText reductionWord → gatesLeft a b ≡ [] → Equal n a b → Verdict first second text
+  reduces : (n : ℕ) (a b : List Gate) → TwoFiles first second n a b → text ≡ equalText reductionWord → gatesLeft a b ≡ [] → Equal n a b → MayWrite first second text
   -- equal cascades of at most 16 lines
   sweeps : (n : ℕ) (a b : List Gate) → TwoFiles first second n a b → text ≡ equalText sweepWord → (gatesLeft a b ≡ [] → ⊥) → n ≤ maxSweepLines → Equal n a b
-      → Verdict first second text
+      → MayWrite first second text
   -- a state on which the cascades differ, the lowest, and their outputs on it
   differs : (n : ℕ) (a b : List Gate) → TwoFiles first second n a b → (x : ℕ) → text ≡ differText x (run a x) (run b x) → (gatesLeft a b ≡ [] → ⊥) → n ≤ maxSweepLines
-      → Differs n a b x → ((y : ℕ) → y < x → run a y ≡ run b y) → Verdict first second text
+      → Differs n a b x → ((y : ℕ) → y < x → run a y ≡ run b y) → MayWrite first second text
   -- OR clauses that tell on which states the given cascades differ: no assignment satisfies them exactly where the cascades are equal, and each differing state is spelled by exactly one
   asks : (n : ℕ) (a b : List Gate) → TwoFiles first second n a b → (tells : TextTells text n a b) → AllOr (tells .read .clauses) → (gatesLeft a b ≡ [] → ⊥)
-      → maxSweepLines < n → length (stored (clausesOf n (gatesLeft a b))) ≤ maxList → Verdict first second text
+      → maxSweepLines < n → length (stored (clausesOf n (gatesLeft a b))) ≤ maxList → MayWrite first second text
 
 -- a program that compares two files, by what it writes
 abbrev pub Compares : (List ℕ → List ℕ → List ℕ) → Type 0
-Compares program = (first second : List ℕ) → Verdict first second (program first second)
+Compares program = (first second : List ℕ) → MayWrite first second (program first second)
 
 pub record CompareLaws : Type 0 where
   -- an assignment satisfies the plain clauses exactly when it satisfies the list; their literals are those of its variables

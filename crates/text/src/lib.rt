@@ -5,7 +5,7 @@ ghost use Rattle.text.specs.Tomiter.{WritesText};
 ghost use lib.ListN.{length};
 ghost use Rattle.circuit.specs.Outcome.{Yields};
 ghost use Rattle.text.specs.Compare.{rooms, compareOutcome, compareBuffer};
-ghost use Rattle.text.specs.CheckInput.{checkOutcome, checkBuffer};
+ghost use Rattle.text.specs.CheckInput.{inputOutcome, inputBuffer};
 ghost use Rattle.text.specs.Answers.{ofText};
 ghost use Rattle.text.specs.Laws.{Laws};
 
@@ -99,7 +99,7 @@ pub fn check_input(
     a: &mut [u64],
     b: &mut [u64],
 ) -> TextAnswer
-    ensures { λ r. ⌜ Yields (ofText r) (now (out .exit)) (checkOutcome (now (first .entry)) (now (second .entry)) (now (state .entry)) (length (now (a .entry))) (length (now (b .entry))) (length (now (out .entry)))) (checkBuffer (now (first .entry)) (now (second .entry)) (now (state .entry)) (length (now (a .entry))) (length (now (b .entry))) (now (out .entry))) ⌝ }
+    ensures { λ r. ⌜ Yields (ofText r) (now (out .exit)) (inputOutcome (now (first .entry)) (now (second .entry)) (now (state .entry)) (length (now (a .entry))) (length (now (b .entry))) (length (now (out .entry)))) (inputBuffer (now (first .entry)) (now (second .entry)) (now (state .entry)) (length (now (a .entry))) (length (now (b .entry))) (now (out .entry))) ⌝ }
 {
     if a.len() < FILE_WORDS {
         return TextAnswer::Refused(Refusal::no_room());

@@ -7,7 +7,7 @@ use Rattle.circuit.specs.Outcome.{Outcome, served, written}
 use Rattle.circuit.proofs.Promises.{never}
 use Rattle.circuit.specs.Put.{Put}
 use Rattle.text.specs.Compare.{fileWords}
-use Rattle.text.specs.CheckInput.{maxChecked, checkText, checkOutcome, checkBuffer}
+use Rattle.text.specs.CheckInput.{maxChecked, checkText, inputOutcome, inputBuffer}
 use Rattle.text.specs.Answers.{ofText}
 use Rattle.text.proofs.Inputs.{room-enough}
 use borrow.Author.Needs.{needs}
@@ -16,8 +16,8 @@ use Rattle.check_input.proofs.answer.Tie as tie
 
 -- the text was written
 written-text : (first second state : List ℕ) (room-a room-b : ℕ) (out : List ℕ) (size : ℕ) (last : List ℕ) → fileWords ≤ room-a → fileWords ≤ room-b → maxChecked ≤ length out
-    → checkOutcome first second state room-a room-b (length out) ≡ served size → last ≡ checkBuffer first second state room-a room-b out → Put size last (checkText first second state) out
-unfolding checkBuffer
+    → inputOutcome first second state room-a room-b (length out) ≡ served size → last ≡ inputBuffer first second state room-a room-b out → Put size last (checkText first second state) out
+unfolding inputBuffer
 written-text first second state room-a room-b out size last a b room e is =
     let f : served size ≡ served (length (checkText first second state)) = sym e ∙ room-enough first second state room-a room-b (length out) a b room in
     record {

@@ -29,7 +29,7 @@ use Rattle.text.specs.declared.input.CheckedAnswer.the-variants as answe
 use Rattle.text.specs.Compare.{fileWords, Files, filesOf, differWord, fitOutcome, fitBuffer}
 use Rattle.text.specs.private.Comparing.{SaysFiles}
 use Rattle.text.specs.private.Checking.{ofChecked, SaysChecked}
-use Rattle.text.specs.CheckInput.{stateText, stateRead, agreeWord, outputsText, checkedOn, checkedFiles, checked, checkedText, checkText, checkOutcome, checkBuffer}
+use Rattle.text.specs.CheckInput.{stateText, stateRead, agreeWord, outputsText, checkedOn, checkedFiles, checked, checkedText, checkText, inputOutcome, inputBuffer}
 
 -- ---- reading
 
@@ -255,29 +255,29 @@ module _ (first second state : List ℕ) where
 
 module _ (first second state : List ℕ) (room-a room-b : ℕ) (out : List ℕ) where
   abbrev outcome : Outcome ℕ
-  outcome = checkOutcome first second state room-a room-b (length out)
+  outcome = inputOutcome first second state room-a room-b (length out)
 
-  refused-told : (r : Refusal) → r ≡ refusal noRoom 0 → outcome ≡ refused noRoom 0 → Yields (refused (r .number) (r .place)) out outcome (checkBuffer first second state room-a room-b out)
-  unfolding checkBuffer
+  refused-told : (r : Refusal) → r ≡ refusal noRoom 0 → outcome ≡ refused noRoom 0 → Yields (refused (r .number) (r .place)) out outcome (inputBuffer first second state room-a room-b out)
+  unfolding inputBuffer
   refused-told r e f = told (checkText first second state) out _ out outcome (refused noRoom 0) (why e) f refl
 
-  pub first-short : (r : Refusal) → r ≡ refusal noRoom 0 → room-a < fileWords → Yields (refused (r .number) (r .place)) out outcome (checkBuffer first second state room-a room-b out)
-  unfolding checkOutcome
+  pub first-short : (r : Refusal) → r ≡ refusal noRoom 0 → room-a < fileWords → Yields (refused (r .number) (r .place)) out outcome (inputBuffer first second state room-a room-b out)
+  unfolding inputOutcome
   first-short r e h = refused-told r e (demand-failed _ _ _ _ (lt-leb fileWords room-a h))
 
   module _ (good : fileWords ≤ room-a) where
-    pub second-short : (r : Refusal) → r ≡ refusal noRoom 0 → room-b < fileWords → Yields (refused (r .number) (r .place)) out outcome (checkBuffer first second state room-a room-b out)
-    unfolding checkOutcome
+    pub second-short : (r : Refusal) → r ≡ refusal noRoom 0 → room-b < fileWords → Yields (refused (r .number) (r .place)) out outcome (inputBuffer first second state room-a room-b out)
+    unfolding inputOutcome
     second-short r e h = refused-told r e (demand-met _ _ _ _ (le-leb fileWords room-a good) ∙ demand-failed _ _ _ _ (lt-leb fileWords room-b h))
 
     module _ (good-2 : fileWords ≤ room-b) where
       pub rooms-good : outcome ≡ fitOutcome (checkText first second state) (length out)
-      unfolding checkOutcome
+      unfolding inputOutcome
       rooms-good = demand-met _ _ _ _ (le-leb fileWords room-a good) ∙ demand-met _ _ _ _ (le-leb fileWords room-b good-2)
 
       pub checked-told : (x : CheckedAnswer) → SaysChecked x (checked first second state) → (r : Outcome ℕ) (last : List ℕ)
-          → Yields r last (fitOutcome (checkedText (ofChecked x)) (length out)) (fitBuffer (checkedText (ofChecked x)) out) → Yields r last outcome (checkBuffer first second state room-a room-b out)
-      unfolding checkBuffer fitBuffer checkText
+          → Yields r last (fitOutcome (checkedText (ofChecked x)) (length out)) (fitBuffer (checkedText (ofChecked x)) out) → Yields r last outcome (inputBuffer first second state room-a room-b out)
+      unfolding inputBuffer fitBuffer checkText
       checked-told x s r last y =
           let e : checkedText (ofChecked x) ≡ checkText first second state = ap checkedText (s .is) in
           let g : fitOutcome (checkedText (ofChecked x)) (length out) ≡ outcome = ap (λ (text : List ℕ). fitOutcome text (length out)) e ∙ sym rooms-good in
