@@ -2,30 +2,26 @@
 use mathlib.Core.Path.{_≡_, refl, sym, ap, ap₂, _∙_}
 use mathlib.Core.List.{List, [], _∷_, _++_, append-nil}
 use mathlib.Core.Option.{some}
-use Prim.Native.Nat.{ℕ, _^_, _≤_, _<_}
+use Prim.Native.Nat.{ℕ}
 use native.Mathlib.Omega.{arith}
 use lib.ListN.{length}
 use lib.Pow.{pow-pos}
-use borrow.Author.Tests.{leb-true}
-use Rattle.bits.specs.Digits.{bit}
-use Rattle.bits.specs.Lists.{fold}
 use Rattle.bits.proofs.Lists.{free}
 use Rattle.circuit.specs.declared.gate.Gate.{Gate}
-use Rattle.circuit.specs.Gate.{controlsBelow}
 use Rattle.circuit.specs.Outcome.{Outcome, served, refused}
 use Rattle.circuit.specs.Run.{run, Equal}
-use Rattle.circuit.specs.Text.{tab, lineFeed, numberText, controlsText, gateLines, textOf}
+use Rattle.circuit.specs.Text.{tab, lineFeed, textOf}
 use Rattle.circuit.specs.File.{Reading, reading}
 use Rattle.circuit.specs.FileLaws.{FileCascade}
-use Rattle.circuit.proofs.Promises.{reader}
+use Rattle.circuit.proofs.Promises.{reader, run-none}
 use Rattle.text.specs.Dimacs.{Dimacs, decimal, numberRead, headerText, dimacsRead, partedBy}
 use Rattle.text.specs.Tomiter.{refusalText}
 use Rattle.text.specs.BytesTell.{TextTells}
-use Rattle.text.specs.Compare.{maxFile, equalText, differWord, differText}
+use Rattle.text.specs.Compare.{equalText, differWord, differText}
 use Rattle.text.specs.CompareLaws.{TwoFiles, MayWrite, refuses, reduces, sweeps, differs, asks, Compares}
 use Rattle.text.proofs.Reading.{parts-cut, decimal-free, number-back}
 use Rattle.text.proofs.Strict.{text-was}
-use Rattle.text.proofs.StandIns.{once, once-runs, none-good, once-good}
+use Rattle.text.proofs.StandIns.{once, once-runs, none-good, once-good, first, second, first-bytes, second-bytes}
 
 -- ---- the files decide the cascades
 
@@ -78,20 +74,6 @@ tells-start text n a b t = read-start text (t .read) (t .is-read)
 
 -- ---- NOT and nothing, on one line
 
-abbrev first : List ℕ
-first = textOf 1 once
-
-abbrev second : List ℕ
-second = textOf 1 []
-
-first-bytes : length first ≤ maxFile
-unfolding numberText controlsText gateLines controlsBelow bit
-first-bytes = leb-true (length first) maxFile refl
-
-second-bytes : length second ≤ maxFile
-unfolding numberText controlsText gateLines controlsBelow bit
-second-bytes = leb-true (length second) maxFile refl
-
 files : TwoFiles first second 1 once []
 files = record { first-good = once-good; second-good = none-good; first-text = refl; second-text = refl; first-bytes = first-bytes; second-bytes = second-bytes }
 
@@ -100,11 +82,10 @@ one-line n a b t = same first second n 1 a b once [] t files .lines
 
 -- they differ on state 0
 not-equal : (n : ℕ) (a b : List Gate) → TwoFiles first second n a b → Equal n a b → ⊥
-unfolding fold
 not-equal n a b t h =
     let s = same first second n 1 a b once [] t files in
     let e : run a 0 ≡ run b 0 = h 0 (pow-pos n) in
-    let f : run once 0 ≡ 0 = sym (ap (λ (gs : List Gate). run gs 0) (s .first)) ∙ e ∙ ap (λ (gs : List Gate). run gs 0) (s .second) in
+    let f : run once 0 ≡ 0 = sym (ap (λ (gs : List Gate). run gs 0) (s .first)) ∙ e ∙ ap (λ (gs : List Gate). run gs 0) (s .second) ∙ run-none 0 in
     let z : _≡_ {A = ℕ} 0 1 = sym f ∙ once-runs in
     omega arith
 

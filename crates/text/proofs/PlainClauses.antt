@@ -3,13 +3,13 @@ use mathlib.Core.Path.{_≡_, refl, sym, ap, ap₂, _∙_}
 use mathlib.Core.Logic.{_↔_}
 use mathlib.Core.Bool.{Bool, true, false, not, _&&_, _||_, xor}
 use mathlib.Core.List.{List, [], _∷_, _++_, map}
-use Prim.Native.Nat.{ℕ, _≤_, _<_}
+use Prim.Native.Nat.{ℕ, _≤_}
 use native.Mathlib.Omega.{arith}
 use lib.IntN.{ℤ, negℤ}
 use Rattle.circuit.specs.declared.gate.Gate.{Gate}
 use Rattle.checking.specs.Clauses.{Clause, OR, XOR}
 use Rattle.checking.specs.Satisfaction.{value, holds, satisfies, variableOf, LiteralsWithin, clauseLiterals, ClausesWithin, Satisfying, Tells}
-use Rattle.checking.proofs.Promises.{oddTrue, holds-or, holds-xor, value-neg, satisfies-append, within-append, neg-size}
+use Rattle.checking.proofs.Promises.{oddTrue, holds-or, holds-xor, value-neg, satisfies-append, within-append, neg-size, satisfies-none, satisfies-next}
 use Rattle.text.specs.Plain.{negations, plainClause, plainClauses, AllOr}
 
 -- ---- satisfaction
@@ -32,11 +32,12 @@ or-true false = refl
 
 -- a literal put before each of them
 joined : (σ : List Bool) (l : ℤ) (kss : List (List ℤ)) → allHold σ (map (λ (k : List ℤ). l ∷ k) kss) ≡ (value σ l || allHold σ kss)
-unfolding satisfies
-joined σ l [] = or-true (value σ l)
+joined σ l [] = satisfies-none σ ∙ or-true (value σ l) ∙ ap (λ (b : Bool). value σ l || b) (sym (satisfies-none σ))
 joined σ l (k ∷ kss) =
-    ap₂ _&&_ (holds-or σ (l ∷ k) ∙ ap (λ (b : Bool). value σ l || b) (sym (holds-or σ k))) (joined σ l kss)
+    satisfies-next σ (OR (l ∷ k)) (map OR (map (λ (k : List ℤ). l ∷ k) kss))
+    ∙ ap₂ _&&_ (holds-or σ (l ∷ k) ∙ ap (λ (b : Bool). value σ l || b) (sym (holds-or σ k))) (joined σ l kss)
     ∙ or-both (value σ l) (holds σ (OR k)) (allHold σ kss)
+    ∙ ap (λ (b : Bool). value σ l || b) (sym (satisfies-next σ (OR k) (map OR kss)))
 
 -- by the value of the first literal and by what holds of the others
 step : (v t odd : Bool) → ((v || xor odd t) && (not v || xor (not odd) t)) ≡ xor odd (xor v t)
@@ -51,9 +52,9 @@ step false false true = refl
 step false false false = refl
 
 negated-hold : (σ : List Bool) (m : ℕ) (odd : Bool) (ls : List ℤ) → LiteralsWithin m ls → allHold σ (negations odd ls) ≡ xor odd (oddTrue σ ls)
-unfolding negations satisfies holds xor
-negated-hold σ m true [] w = refl
-negated-hold σ m false [] w = refl
+unfolding negations xor
+negated-hold σ m true [] w = satisfies-none σ
+negated-hold σ m false [] w = satisfies-next σ (OR []) [] ∙ ap (λ (b : Bool). b && satisfies σ []) (holds-or σ [])
 negated-hold σ m odd (l ∷ ls) w =
     let p : List (List ℤ) = negations odd ls in
     let q : List (List ℤ) = negations (not odd) ls in
@@ -74,16 +75,17 @@ and-true true = refl
 and-true false = refl
 
 clause-plain : (σ : List Bool) (m : ℕ) (c : Clause) → LiteralsWithin m (clauseLiterals c) → satisfies σ (plainClause c) ≡ holds σ c
-unfolding satisfies
-clause-plain σ m (OR ls) w = and-true (holds σ (OR ls))
+clause-plain σ m (OR ls) w = satisfies-next σ (OR ls) [] ∙ ap (λ (b : Bool). holds σ (OR ls) && b) (satisfies-none σ) ∙ and-true (holds σ (OR ls))
 clause-plain σ m (XOR ls) w = negated-hold σ m false ls w ∙ xor-false (oddTrue σ ls) ∙ sym (holds-xor σ ls)
 
 -- an assignment satisfies the plain clauses exactly when it satisfies the list
 pub plain-satisfied : (σ : List Bool) (m : ℕ) (cs : List Clause) → ClausesWithin m cs → satisfies σ (plainClauses cs) ≡ satisfies σ cs
-unfolding satisfies plainClauses
+unfolding plainClauses
 plain-satisfied σ m [] w = refl
 plain-satisfied σ m (c ∷ cs) w =
-    satisfies-append σ (plainClause c) (plainClauses cs) ∙ ap₂ _&&_ (clause-plain σ m c (w .0)) (plain-satisfied σ m cs (w .1))
+    satisfies-append σ (plainClause c) (plainClauses cs)
+    ∙ ap₂ _&&_ (clause-plain σ m c (w .0)) (plain-satisfied σ m cs (w .1))
+    ∙ sym (satisfies-next σ c cs)
 
 -- ---- the literals are those of the list
 

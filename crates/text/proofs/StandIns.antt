@@ -20,6 +20,7 @@ use Rattle.checking.specs.Clauses.{Clause, OR, upFrom, moved, gatesClauses, use
 use Rattle.checking.specs.Satisfaction.{ClausesWithin, holds, satisfies, Satisfying, Tells}
 use Rattle.checking.specs.Stored.{stored}
 use Rattle.text.specs.Dimacs.{Dimacs, dimacsOf, dimacsRead}
+use Rattle.text.specs.Compare.{maxFile}
 use Rattle.text.specs.Tomiter.{maxInput, maxWords, refusalText}
 use Rattle.text.specs.BytesTell.{StartsProblem, TextTells}
 use Rattle.text.specs.TextLaws.{Fitting, ProgramLaws, contradictionText, contradiction, withoutFirstText, withoutFirst}
@@ -41,6 +42,21 @@ none-good = record { lines-low = omega arith; lines-high = omega arith; few = om
 pub once-good : FileCascade 1 once
 unfolding allValid valid
 once-good = record { lines-low = omega arith; lines-high = omega arith; few = omega arith; gates = refl }
+
+-- their files
+abbrev pub first : List ℕ
+first = textOf 1 once
+
+abbrev pub second : List ℕ
+second = textOf 1 []
+
+pub first-bytes : length first ≤ maxFile
+unfolding numberText controlsText gateLines controlsBelow bit
+first-bytes = leb-true (length first) maxFile refl
+
+pub second-bytes : length second ≤ maxFile
+unfolding numberText controlsText gateLines controlsBelow bit
+second-bytes = leb-true (length second) maxFile refl
 
 -- NOT against nothing, and against NOT
 abbrev differing : List ℕ

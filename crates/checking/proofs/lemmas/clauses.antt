@@ -1,4 +1,4 @@
--- The laws of the clause list: `Tests` truth tables, `Gates` the clauses of gates, `Forced` the forced assignment, `Bounds` literals and words, `Meaning` what the list tells, `Reading` stored words, `StandIns` 01's stand-ins, `Sums` and `Loop` sizes, `Rows` the rows, `Maps` other maps of current variables.
+-- The laws of the clause list: `Tests` truth tables, `Gates` the clauses of gates, `Forced` the forced assignment, `Bounds` literals and words, `Meaning` what the list tells, `Reading` stored words, `StandIns` 01's stand-ins, `Sums` and `Loop` sizes, `Rows` the rows, `Maps` what the list is made of, and other maps of current variables.
 pub mod Tests
 pub mod Gates
 pub mod Forced

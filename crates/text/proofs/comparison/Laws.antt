@@ -2,7 +2,7 @@
 use mathlib.Core.Path.{_≡_, refl, sym, ap, ap₂, subst, _∙_}
 use mathlib.Core.Bool.{Bool, true, false}
 use mathlib.Core.List.{List, [], _∷_, _++_, map}
-use Prim.Native.Nat.{ℕ, suc, _+_, _*_, _/_, _^_, _≤_, _<_}
+use Prim.Native.Nat.{ℕ, suc, _*_, _^_, _≤_, _<_}
 use native.Mathlib.Omega.{arith}
 use lib.Dec.{eqb, leb}
 use lib.IntN.{ℤ}
@@ -24,7 +24,7 @@ use Rattle.checking.specs.Clauses.{Clause, inputOf, moved, usedBy, literalOf, i
 use Rattle.checking.specs.Satisfaction.{LiteralsWithin, clauseLiterals, ClausesWithin}
 use Rattle.checking.specs.Stored.{stored}
 use Rattle.checking.specs.Emit.{emitOutcome, emitBuffer}
-use Rattle.checking.proofs.Promises.{reduce-laws, difference-made, clause-laws}
+use Rattle.checking.proofs.Promises.{reduce-laws, difference-made, clause-laws, clauses-none, clauses-next, differences-none, differences-next, list-parts, emit-cascade}
 use Rattle.text.specs.declared.comparison.ComparedAnswer.{ComparedAnswer}
 use Rattle.text.specs.declared.comparison.ComparedAnswer.the-variants as answer
 use Rattle.text.specs.declared.pair.FilesAnswer.the-variants as files
@@ -32,7 +32,7 @@ use Rattle.text.specs.private.Lists.{FileWords, ListStands}
 use Rattle.text.specs.private.Words.{ShortClause, AllShort, maxVariables}
 use Rattle.text.specs.Compare.{maxList, Comparison, reduced, unsolved, refusedAt, gatesLeft, sweptAs, listAs, compared, filesOf, comparedFiles, comparison}
 use Rattle.text.specs.private.Comparing.{InRoom, MiterWords, MiterCascade, LeftIn, SaysFiles, SaysCompared, SaysAny}
-use Rattle.text.proofs.list.Laws.{emit-is, emit-stands}
+use Rattle.text.proofs.list.Laws.{emit-stands}
 use Rattle.text.proofs.plain.Laws.{stored-in}
 
 -- ---- the reduction
@@ -102,27 +102,28 @@ gate-short used v (c ∷ []) = (tt, tt)
 gate-short used v (c ∷ d ∷ ls) = (tt, short-append (implied _ (c ∷ d ∷ ls)) _ (implied-short _ (c ∷ d ∷ ls)) (tt, tt))
 
 gates-short : (used : ℕ) (current : ℕ → ℕ) (gs : List Gate) → AllShort (gatesClauses used current gs)
-unfolding gatesClauses
-gates-short used current [] = tt
+gates-short used current [] = subst AllShort (sym (clauses-none used current)) tt
 gates-short used current (g ∷ gs) =
-    short-append (gateClauses used (current (g .target)) (map (literalOf current) (controlsOf g))) (gatesClauses (usedBy used g) (moved used current g) gs)
-    (gate-short used (current (g .target)) (map (literalOf current) (controlsOf g))) (gates-short (usedBy used g) (moved used current g) gs)
+    subst AllShort (sym (clauses-next used current g gs))
+    (short-append (gateClauses used (current (g .target)) (map (literalOf current) (controlsOf g))) (gatesClauses (usedBy used g) (moved used current g) gs)
+    (gate-short used (current (g .target)) (map (literalOf current) (controlsOf g))) (gates-short (usedBy used g) (moved used current g) gs))
 
 line-short : (hit : Bool) (d a b : ℕ) → ShortClause (differenceClause hit d a b)
 line-short true d a b = tt
 line-short false d a b = tt
 
 lines-short : (hit : ℕ → Bool) (left right : ℕ → ℕ) (used : ℕ) (lines : List ℕ) → AllShort (differenceClauses hit left right used lines)
-unfolding differenceClauses
-lines-short hit left right used [] = tt
-lines-short hit left right used (line ∷ lines) = (line-short (hit line) (suc used) (left line) (right line), lines-short hit left right (suc used) lines)
+lines-short hit left right used [] = subst AllShort (sym (differences-none hit left right used)) tt
+lines-short hit left right used (line ∷ lines) =
+    subst AllShort (sym (differences-next hit left right used line lines))
+    (line-short (hit line) (suc used) (left line) (right line), lines-short hit left right (suc used) lines)
 
 pub list-short : (n : ℕ) (gs : List Gate) → AllShort (clausesOf n gs)
-unfolding clausesOf
 list-short n gs =
-    short-append (gatesClauses n inputOf gs) _ (gates-short n inputOf gs)
+    subst AllShort (sym (list-parts n gs))
+    (short-append (gatesClauses n inputOf gs) _ (gates-short n inputOf gs)
     (short-append (differenceClauses (targeted gs) inputOf (currentAfter n inputOf gs) (usedAfter n gs) (upFrom 0 n)) _
-    (lines-short (targeted gs) inputOf (currentAfter n inputOf gs) (usedAfter n gs) (upFrom 0 n)) (tt, tt))
+    (lines-short (targeted gs) inputOf (currentAfter n inputOf gs) (usedAfter n gs) (upFrom 0 n)) (tt, tt)))
 
 -- ---- and few variables
 
@@ -166,9 +167,9 @@ module _ (n : ℕ) (ws : List ℕ) (m : MiterCascade n ws) where
       → SaysCompared (answer.Refused why 0) clauses (listAs n gs)
   list-refused why clauses room h e =
       either (leb (length (stored cs)) room)
-      (λ t. absurd (never (emit-is n ws (m .count) (m .cascade) room ∙ demand-met _ _ _ _ t) e))
+      (λ t. absurd (never (emit-cascade n ws (m .count) (m .cascade) room ∙ demand-met _ _ _ _ t) e))
       (λ t.
-      let f = sym e ∙ emit-is n ws (m .count) (m .cascade) room ∙ demand-failed _ _ _ _ t in
+      let f = sym e ∙ emit-cascade n ws (m .count) (m .cascade) room ∙ demand-failed _ _ _ _ t in
       let x : why .number ≡ noRoom = cc in
       let y : why .place ≡ 0 = cc in
       says-long why clauses (ap₂ refused x y) (omega (arith, leb-false (length (stored cs)) room t)))

@@ -56,16 +56,12 @@ module _ (n : ℕ) (ws : List ℕ) (k : ℕ) (c : Cascade n ws maxMiterGates k) 
   abbrev cs : List Clause
   cs = clausesOf n gs
 
-  pub emit-is : (room : ℕ)
-      → emitOutcome n ws room ≡ demand (leb (length (stored cs)) room) noRoom 0 (served (totals (variablesOf n gs) (length cs) (length (stored cs))))
-  emit-is room = emit-cascade n ws k c room
-
   -- a served emission: its totals, and the list at the buffer's start
   pub emit-stands : (t : Totals) (buffer out : List ℤ) → emitOutcome n ws (length out) ≡ served t → buffer ≡ emitBuffer n ws out → ListStands t buffer (variablesOf n gs) cs
   emit-stands t buffer out o b =
       either (leb (length (stored cs)) (length out))
       (λ x.
-      let f : t ≡ totals (variablesOf n gs) (length cs) (length (stored cs)) = let g = sym o ∙ emit-is (length out) ∙ demand-met _ _ _ _ x in cc in
+      let f : t ≡ totals (variablesOf n gs) (length cs) (length (stored cs)) = let g = sym o ∙ emit-cascade n ws k c (length out) ∙ demand-met _ _ _ _ x in cc in
       let w : t .words ≡ length (stored cs) = ap (λ (y : Totals). y .words) f in
       let is : buffer ≡ over (stored cs) out = b ∙ emit-laws .emit-leaves n ws out t o in
       let r : length (stored cs) ≤ length out = leb-true (length (stored cs)) (length out) x in
@@ -75,7 +71,7 @@ module _ (n : ℕ) (ws : List ℕ) (k : ℕ) (c : Cascade n ws maxMiterGates k) 
         inside = omega (arith, ap length is, over-length (stored cs) out r);
         words = ap₂ take w is ∙ take-append-seam (stored cs) (drop (length (stored cs)) out);
       })
-      (λ x. absurd (never o (emit-is (length out) ∙ demand-failed _ _ _ _ x)))
+      (λ x. absurd (never o (emit-cascade n ws k c (length out) ∙ demand-failed _ _ _ _ x)))
 
   list-short : leb (length (stored cs)) maxWords ≡ false → listVerdict n gs ≡ refusedAt noRoom 0 0
   unfolding listVerdict
@@ -87,7 +83,7 @@ module _ (n : ℕ) (ws : List ℕ) (k : ℕ) (c : Cascade n ws maxMiterGates k) 
 
   module _ (room : ℕ) (long : room ≡ maxWords) where
     emit-at : emitOutcome n ws room ≡ demand (leb (length (stored cs)) maxWords) noRoom 0 (served (totals (variablesOf n gs) (length cs) (length (stored cs))))
-    emit-at = emit-is room ∙ ap (λ (m : ℕ). demand (leb (length (stored cs)) m) noRoom 0 (served (totals (variablesOf n gs) (length cs) (length (stored cs))))) long
+    emit-at = emit-cascade n ws k c room ∙ ap (λ (m : ℕ). demand (leb (length (stored cs)) m) noRoom 0 (served (totals (variablesOf n gs) (length cs) (length (stored cs))))) long
 
     pub list-bad : (why : Refusal) (buffer : List ℤ) → emitOutcome n ws room ≡ refused (why .number) (why .place) → Delivers (list.Refused why 0) buffer (listVerdict n gs)
     list-bad why buffer e =

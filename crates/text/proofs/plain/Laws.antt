@@ -17,7 +17,7 @@ use Rattle.circuit.proofs.Promises.{Written, written-none, written-more, writte
 use Rattle.checking.specs.Clauses.{Clause, OR, XOR}
 use Rattle.checking.specs.Satisfaction.{variableOf, LiteralsWithin, clauseLiterals, ClausesWithin}
 use Rattle.checking.specs.Stored.{wordLimit, storedClause, stored, clausesIn}
-use Rattle.checking.proofs.Promises.{neg-size, read-back}
+use Rattle.checking.proofs.Promises.{neg-size, read-back, stored-next}
 use Rattle.text.specs.declared.plain.PlainSizes.{PlainSizes}
 use Rattle.text.specs.Dimacs.{blank, decimal, literalText, literalsText, closing, clauseText, clausesText}
 use Rattle.text.specs.Plain.{negations, plainClause, plainClauses}
@@ -272,13 +272,13 @@ clause-few (XOR (a ∷ b ∷ c ∷ d ∷ ls)) s w = absurd s
 
 pub plain-few : (cs : List Clause) → AllShort cs → ClausesWithin maxVariables cs
     → (length (clausesText (plainClauses cs)) ≤ 16 * length (stored cs)) × (length (plainClauses cs) ≤ length (stored cs))
-unfolding plainClauses stored clausesText
+unfolding plainClauses clausesText
 plain-few [] s w = (omega arith, omega arith)
 plain-few (c ∷ cs) s w =
     let (a, b) = clause-few c (s .0) (w .0) in
     let (d, e) = plain-few cs (s .1) (w .1) in (
-      omega (arith, a, d, ap length (clauses-append (plainClause c) (plainClauses cs)), length-append (clausesText (plainClause c)) (clausesText (plainClauses cs)), length-append (storedClause c) (stored cs)),
-      omega (arith, b, e, length-append (plainClause c) (plainClauses cs), length-append (storedClause c) (stored cs)),
+      omega (arith, a, d, ap length (clauses-append (plainClause c) (plainClauses cs)), length-append (clausesText (plainClause c)) (clausesText (plainClauses cs)), ap length (stored-next c cs), length-append (storedClause c) (stored cs)),
+      omega (arith, b, e, length-append (plainClause c) (plainClauses cs), ap length (stored-next c cs), length-append (storedClause c) (stored cs)),
     )
 
 -- what the loop over an OR's literals keeps
@@ -338,10 +338,10 @@ clause-record (XOR ls) = refl
 
 -- nothing is stored in no words
 pub left-none : (cs : List Clause) → length (stored cs) ≡ 0 → plainClauses cs ≡ []
-unfolding stored plainClauses
+unfolding plainClauses
 left-none [] e = refl
-left-none (OR ls ∷ cs) e = absurd (omega arith)
-left-none (XOR ls ∷ cs) e = absurd (omega arith)
+left-none (OR ls ∷ cs) e = absurd (omega (arith, ap length (stored-next (OR ls) cs)))
+left-none (XOR ls ∷ cs) e = absurd (omega (arith, ap length (stored-next (XOR ls) cs)))
 
 pub left-done : (ws : List ℤ) (i : ℕ) (t : Left ws i) → length ws ≤ i → plainClauses (t .clauses) ≡ []
 left-done ws i t h = left-none (t .clauses) (sym (ap length (t .words)) ∙ length-drop i ws ∙ omega arith)

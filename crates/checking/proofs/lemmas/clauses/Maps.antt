@@ -1,4 +1,4 @@
--- The clauses of gates on n lines depend on the current variables of lines below n only, and gates in a row add up. Assumes nothing.
+-- What the clause list is made of. The clauses of gates on n lines depend on the current variables of lines below n only, and gates in a row add up. Assumes nothing.
 use mathlib.Core.Path.{_≡_, refl, sym, ap, ap₂, _∙_}
 use mathlib.Core.Bool.{Bool, true, cond}
 use mathlib.Core.List.{List, [], _∷_, _++_, map, append-assoc}
@@ -9,9 +9,39 @@ use Rattle.circuit.specs.declared.gate.Gate.{Gate}
 use Rattle.circuit.specs.Gate.{maxLines, valid, Control, controlsOf}
 use Rattle.circuit.specs.Words.{allValid}
 use Rattle.circuit.proofs.Promises.{valid-facts, valid-parts}
-use Rattle.checking.specs.Clauses.{Clause, plus, minus, literalOf, gateClauses, usedBy, moved, clausesOfGate, gatesClauses, usedAfter, currentAfter, differenceClause, differenceClauses}
+use Rattle.checking.specs.Clauses.{Clause, OR, plus, minus, inputOf, literalOf, gateClauses, usedBy, moved, clausesOfGate, gatesClauses, usedAfter, currentAfter, targeted, upFrom, differenceClause, differenceClauses, clausesOf}
 use Rattle.checking.proofs.lemmas.clauses.Gates.{Within, controls-within}
 use Rattle.checking.proofs.lemmas.clauses.Forced.{Inside}
+
+-- ---- what the list is made of
+
+pub clauses-none : (used : ℕ) (current : ℕ → ℕ) → gatesClauses used current [] ≡ []
+unfolding gatesClauses
+clauses-none used current = refl
+
+pub clauses-next : (used : ℕ) (current : ℕ → ℕ) (g : Gate) (gs : List Gate)
+    → gatesClauses used current (g ∷ gs) ≡ clausesOfGate used current g ++ gatesClauses (usedBy used g) (moved used current g) gs
+unfolding gatesClauses
+clauses-next used current g gs = refl
+
+pub differences-none : (hit : ℕ → Bool) (left right : ℕ → ℕ) (used : ℕ) → differenceClauses hit left right used [] ≡ []
+unfolding differenceClauses
+differences-none hit left right used = refl
+
+pub differences-next : (hit : ℕ → Bool) (left right : ℕ → ℕ) (used line : ℕ) (lines : List ℕ)
+    → differenceClauses hit left right used (line ∷ lines)
+    ≡ differenceClause (hit line) (suc used) (left line) (right line) ∷ differenceClauses hit left right (suc used) lines
+unfolding differenceClauses
+differences-next hit left right used line lines = refl
+
+pub list-parts : (n : ℕ) (gs : List Gate)
+    → clausesOf n gs
+    ≡ gatesClauses n inputOf gs
+    ++ (differenceClauses (targeted gs) inputOf (currentAfter n inputOf gs) (usedAfter n gs) (upFrom 0 n) ++ (OR (map plus (upFrom (suc (usedAfter n gs)) n)) ∷ []))
+unfolding clausesOf
+list-parts n gs = refl
+
+-- ---- other maps of current variables
 
 -- two maps with the same variables for the lines below n
 abbrev pub Agree : ℕ → (ℕ → ℕ) → (ℕ → ℕ) → Type 0

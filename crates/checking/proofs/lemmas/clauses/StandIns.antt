@@ -13,7 +13,7 @@ use Rattle.circuit.specs.declared.gate.Gate.{Gate}
 use Rattle.circuit.specs.Gate.{notGate, valid, fires, inverted, apply, controlsBelow}
 use Rattle.circuit.specs.Words.{allValid}
 use Rattle.circuit.specs.Run.{run}
-use Rattle.circuit.proofs.Promises.{valid-append, run-append, run-below, inverse-valid, valid-none, valid-both}
+use Rattle.circuit.proofs.Promises.{valid-append, run-one, run-append, run-below, inverse-valid, valid-none, valid-both}
 use Rattle.checking.specs.Miter.{miterGates}
 use Rattle.checking.specs.Clauses.{Clause, OR, plus, inputOf, moved, gatesClauses, usedAfter, currentAfter, targeted, upFrom, differenceClauses, variablesOf}
 use Rattle.checking.specs.EqualityLaws.{withoutLater}
@@ -91,8 +91,7 @@ module _ (m : ℕ) where
   reached-low = run-below 1 start start-valid 0 (omega arith)
 
   pub last-runs : (g : Gate) → run (miterGates first (second g)) 0 ≡ apply g reached
-  unfolding fold
-  last-runs g = ap (λ (l : List Gate). run l 0) (miter-split g) ∙ run-append start (g ∷ []) 0
+  last-runs g = ap (λ (l : List Gate). run l 0) (miter-split g) ∙ run-append start (g ∷ []) 0 ∙ run-one g reached
 
   -- from a state of line 0 alone, NOT comes back to 0 exactly where what keeps the state does not
   pub unlike : (f : ℕ → ℕ) → f 0 ≡ 0 → f 1 ≡ 1 → (apply free reached ≡ 0) ↔ (f reached ≡ 0) → ⊥

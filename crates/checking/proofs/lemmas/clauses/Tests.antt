@@ -142,6 +142,14 @@ value-neg σ (pos zero) h = absurd (omega arith)
 value-neg σ (pos (suc i)) h = refl
 value-neg σ (negsuc i) h = sym (Bool·not-not (variable σ (suc i)))
 
+pub satisfies-none : (σ : List Bool) → satisfies σ [] ≡ true
+unfolding satisfies
+satisfies-none σ = refl
+
+pub satisfies-next : (σ : List Bool) (c : Clause) (cs : List Clause) → satisfies σ (c ∷ cs) ≡ (holds σ c && satisfies σ cs)
+unfolding satisfies
+satisfies-next σ c cs = refl
+
 pub satisfies-append : (σ : List Bool) (xs ys : List Clause) → satisfies σ (xs ++ ys) ≡ (satisfies σ xs && satisfies σ ys)
 unfolding satisfies
 satisfies-append σ [] ys = refl
