@@ -5,7 +5,7 @@ use Prim.Native.Nat.{ℕ, _≤_}
 use lib.ListN.{length}
 use Rattle.circuit.specs.Outcome.{Outcome, served, written}
 use Rattle.circuit.proofs.Promises.{never}
-use Rattle.circuit.specs.Put.{Put}
+use Rattle.circuit.specs.private.Put.{Put}
 use Rattle.text.specs.Compare.{maxList, maxCompared, fileWords, miterWords, compareText, Rooms, rooms, compareOutcome, compareBuffer}
 use Rattle.text.specs.Answers.{ofText}
 use Rattle.text.proofs.Longest.{room-enough}
