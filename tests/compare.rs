@@ -6,11 +6,13 @@
 mod files;
 #[allow(dead_code)]
 mod inputs;
+mod pairs;
 #[allow(dead_code)]
 mod random;
 #[allow(dead_code)]
 mod reference;
 
+use pairs::Rewrites;
 use random::Random;
 use reference::{Clause, ClauseList, Gate};
 use std::collections::BTreeMap;
@@ -177,29 +179,12 @@ impl Seen {
 
 // ---- files
 
-/// A cascade, and one that is equal to it by inserted pairs, split gates and exchanged ones; or by one gate not.
+/// A cascade, and one that is equal to it; or by one gate not.
 fn rewritten(random: &mut Random, lines: u64, gates: usize, rewrites: usize) -> (Vec<Gate>, Vec<Gate>) {
     let first = reference::gates_of(&inputs::good_cascade(random, lines, gates).words);
     let mut second = first.clone();
     for _ in 0..rewrites {
-        let one = reference::gates_of(&inputs::good_cascade(random, lines, 1).words)[0];
-        let at = random.index(second.len() + 1);
-        match random.below(3) {
-            0 => {
-                second.insert(at, one);
-                second.insert(at, one);
-            }
-            1 if at < second.len() => {
-                let gate = second[at];
-                let free = (0..lines).find(|line| *line != gate.target && (gate.positive | gate.negative) >> line & 1 == 0);
-                if let Some(line) = free {
-                    second[at] = Gate { positive: gate.positive | 1 << line, ..gate };
-                    second.insert(at, Gate { negative: gate.negative | 1 << line, ..gate });
-                }
-            }
-            _ if at + 1 < second.len() && reference::may_pass(second[at], second[at + 1]) => second.swap(at, at + 1),
-            _ => {}
-        }
+        pairs::rewrite(random, lines, Rewrites::Any, &mut second);
     }
     if random.one_in(4) && !second.is_empty() {
         let at = random.index(second.len());
@@ -254,6 +239,15 @@ fn check_all(random: &mut Random, seen: &mut Seen) {
     for lines in [2, 3, 16, 17, 40, 64] {
         let (a, b) = exchanged(0, lines - 1);
         seen.compare(&reference::text_of(lines, &a), &reference::text_of(lines, &b));
+    }
+    // 1,000 gates a side, and the same with a gate gone; the sweep of 16 lines takes the rules too long
+    for (lines, kind) in [(8, Rewrites::Any), (32, Rewrites::Any), (64, Rewrites::Any), (8, Rewrites::Templates), (16, Rewrites::Templates), (32, Rewrites::Templates), (64, Rewrites::Templates)] {
+        let (a, mut b) = pairs::equal_pair(random, lines, 1_000, kind);
+        let first = reference::text_of(lines, &a);
+        seen.compare(&first, &reference::text_of(lines, &b));
+        let at = random.index(b.len());
+        b.remove(at);
+        seen.compare(&first, &reference::text_of(lines, &b));
     }
     files::each_damaged(b"lines\t3\ng\t2\t+0\t-1\nend\n", &mut |text| {
         seen.compare(&text, b"lines\t3\ng\t0\t-2\nend\n");
