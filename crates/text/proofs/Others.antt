@@ -1,8 +1,8 @@
--- Stand-ins for a program that compares two files do not have its claim. Assumes nothing.
-use mathlib.Core.Path.{_≡_, refl, sym, ap, ap₂, _∙_}
+-- Of any program with the claim on two files: what `equal` says, and that it is none of the stand-ins. Assumes nothing.
+use mathlib.Core.Path.{_≡_, refl, sym, ap, ap₂, subst, _∙_}
 use mathlib.Core.List.{List, [], _∷_, _++_, append-nil}
 use mathlib.Core.Option.{some}
-use Prim.Native.Nat.{ℕ}
+use Prim.Native.Nat.{ℕ, _<_, _^_}
 use native.Mathlib.Omega.{arith}
 use lib.ListN.{length}
 use lib.Pow.{pow-pos}
@@ -91,15 +91,25 @@ not-equal n a b t h =
 
 -- ---- the stand-ins
 
-equal-case : (text word : List ℕ) → text ≡ equalText word → MayWrite first second text → ⊥
-equal-case text word e (refuses number file place f g) = omega (arith, refusal-start number file place, ap start (sym f ∙ e), equal-start word)
-equal-case text word e (reduces n a b t f g h) = not-equal n a b t h
-equal-case text word e (sweeps n a b t f g h i) = not-equal n a b t i
-equal-case text word e (differs n a b t x f g h i j) = omega (arith, differ-start x (run a x) (run b x), ap start (sym f ∙ e), equal-start word)
-equal-case text word e (asks n a b t f g h i j) = omega (arith, one-line n a b t)
+module _ (one two : List ℕ) (n : ℕ) (a b : List Gate) (t : TwoFiles one two n a b) where
+  same-equal : (m : ℕ) (c d : List Gate) → TwoFiles one two m c d → Equal m c d → Equal n a b
+  same-equal m c d s h x below =
+      let p = same one two n m a b c d t s in
+      ap (λ (gs : List Gate). run gs x) (p .first) ∙ h x (subst (λ (k : ℕ). x < 2 ^ k) (p .lines) below) ∙ sym (ap (λ (gs : List Gate). run gs x) (p .second))
+
+  equal-case : (text word : List ℕ) → text ≡ equalText word → MayWrite one two text → Equal n a b
+  equal-case text word e (refuses number file place f g) = absurd (omega (arith, refusal-start number file place, ap start (sym f ∙ e), equal-start word))
+  equal-case text word e (reduces m c d s f g h) = same-equal m c d s h
+  equal-case text word e (sweeps m c d s f g h i) = same-equal m c d s i
+  equal-case text word e (differs m c d s x f g h i j) = absurd (omega (arith, differ-start x (run c x) (run d x), ap start (sym f ∙ e), equal-start word))
+  equal-case text word e (asks m c d s f g h i j) = absurd (omega (arith, tells-start text m c d f, ap start e, equal-start word))
+
+pub equal-only : (program : List ℕ → List ℕ → List ℕ) (first second word : List ℕ) (n : ℕ) (a b : List Gate) → TwoFiles first second n a b
+    → program first second ≡ equalText word → Compares program → Equal n a b
+equal-only program one two word n a b t e laws = equal-case one two n a b t (program one two) word e (laws one two)
 
 pub always-equal : (program : List ℕ → List ℕ → List ℕ) (word : List ℕ) → ((first second : List ℕ) → program first second ≡ equalText word) → Compares program → ⊥
-always-equal program word all laws = equal-case (program first second) word (all first second) (laws first second)
+always-equal program word all laws = not-equal 1 once [] files (equal-only program first second word 1 once [] files (all first second) laws)
 
 asked-case : (text : List ℕ) → start text ≡ 112 → MayWrite first second text → ⊥
 asked-case text e (refuses number file place f g) = omega (arith, refusal-start number file place, ap start f)

@@ -83,7 +83,10 @@ pub record CompareLaws : Type 0 where
       ≡ OR (a ∷ b ∷ c ∷ []) ∷ OR (a ∷ negℤ b ∷ negℤ c ∷ []) ∷ OR (negℤ a ∷ b ∷ negℤ c ∷ []) ∷ OR (negℤ a ∷ negℤ b ∷ c ∷ []) ∷ []
   -- the claim, of our text
   pub compares : Compares compareText
-  -- and of no program that calls all pairs equal, that asks a solver always, or that says `differ` of a state on which two cascades of its files agree
+  -- a program with the claim says `equal` of equal cascades alone
+  pub equal-only : (program : List ℕ → List ℕ → List ℕ) (first second word : List ℕ) (n : ℕ) (a b : List Gate) → TwoFiles first second n a b
+      → program first second ≡ equalText word → Compares program → Equal n a b
+  -- it is no program that calls all pairs equal, that asks a solver always, or that says `differ` of a state on which two cascades of its files agree
   pub always-equal : (program : List ℕ → List ℕ → List ℕ) (word : List ℕ) → ((first second : List ℕ) → program first second ≡ equalText word) → Compares program → ⊥
   pub always-asks : (program : List ℕ → List ℕ → List ℕ) → ((first second : List ℕ) → (d : Dimacs) × (dimacsRead (program first second) ≡ some d)) → Compares program → ⊥
   pub no-difference : (program : List ℕ → List ℕ → List ℕ) (first second : List ℕ) (n : ℕ) (a b : List Gate) (x y z : ℕ) → TwoFiles first second n a b

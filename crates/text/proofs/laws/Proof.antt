@@ -9,7 +9,7 @@ use Rattle.text.proofs.plain.Laws.{pair-parts, triple-is}
 use Rattle.text.proofs.Verdicts.{compares}
 use Rattle.text.proofs.Longest.{text-fits as compared-fits, room-enough as compared-room}
 use Rattle.text.proofs.Inputs.{state-back, state-was, differ-told, agree-told, no-state, text-fits as checked-fits, room-enough as checked-room}
-use Rattle.text.proofs.Others.{always-equal, always-asks, no-difference}
+use Rattle.text.proofs.Others.{equal-only, always-equal, always-asks, no-difference}
 use Rattle.text.proofs.Rows.{rows-hold}
 use Rattle.text.proofs.laws.Statement.{statement}
 use Rattle.text.proofs.laws.Tie as tie
@@ -40,6 +40,7 @@ returns c =
             plain-two = pair-parts;
             plain-three = triple-is;
             compares = compares;
+            equal-only = equal-only;
             always-equal = always-equal;
             always-asks = always-asks;
             no-difference = no-difference;
