@@ -1,6 +1,11 @@
 //! Times ./equal on pairs of equal cascades, and ./tomiter with CryptoMiniSat on the same pairs, and prints
-//! the rows of a table. Where ./tomiter refuses the pair, the solver gets the clauses of the miter as drawn.
+//! the rows of a table. Where ./tomiter refuses the pair, the solver gets the library's clauses of the miter as drawn.
 
+#[allow(dead_code)]
+#[path = "../tests/capi.rs"]
+mod capi;
+#[path = "../tests/lists.rs"]
+mod lists;
 #[path = "../tests/pairs.rs"]
 mod pairs;
 #[allow(dead_code)]
@@ -10,9 +15,10 @@ mod random;
 #[path = "../tests/reference.rs"]
 mod reference;
 
+use lists::List;
 use pairs::Rewrites;
 use random::Random;
-use reference::{Clause, ClauseList, Gate};
+use reference::Gate;
 use std::process::Command;
 use std::time::Instant;
 
@@ -36,20 +42,21 @@ fn seconds(time: Option<f64>) -> String {
 }
 
 /// A clause list as the solver's text.
-fn dimacs(list: &ClauseList) -> String {
+fn dimacs(list: &List) -> String {
     let mut text = format!("p cnf {} {}\n", list.variables, list.clauses.len());
     for clause in &list.clauses {
-        let (mark, literals) = match clause {
-            Clause::Or(literals) => ("", literals),
-            Clause::Xor(literals) => ("x", literals),
-        };
-        text += mark;
-        for literal in literals {
+        text += if clause.xor { "x" } else { "" };
+        for literal in &clause.literals {
             text += &format!("{literal} ");
         }
         text += "0\n";
     }
     text
+}
+
+/// The words of each gate.
+fn words(gates: &[Gate]) -> Vec<[u64; 3]> {
+    gates.iter().map(|gate| [gate.positive, gate.negative, gate.target]).collect()
 }
 
 /// The time of the solver on the clauses, which has to say that there is no model.
@@ -71,8 +78,8 @@ fn row(random: &mut Random, lines: u64, gates: usize, kind: Rewrites) {
     let solver = match status.code() {
         Some(0) => seconds(solved().map(|time| made + time)),
         Some(1) => {
-            let miter: Vec<Gate> = a.iter().chain(b.iter().rev()).copied().collect();
-            std::fs::write(CLAUSES, dimacs(&reference::clause_list(lines, &miter))).unwrap();
+            let list = lists::emit(lines, &lists::miter(lines, &words(&a), &words(&b)));
+            std::fs::write(CLAUSES, dimacs(&list)).unwrap();
             format!("refused; solver alone {}", seconds(solved()))
         }
         _ => panic!("./tomiter failed"),

@@ -1,30 +1,28 @@
 -- What is written for one input. Assumes nothing.
-use mathlib.Core.Path.{_≡_, refl, sym, ap, ap₂, _∙_}
+use mathlib.Core.Path.{_≡_, refl, sym, ap, ap₂, subst, _∙_}
 use mathlib.Core.Bool.{Bool, true, false, cond, _&&_}
-use mathlib.Core.List.{List, [], _∷_, _++_, append-nil}
+use mathlib.Core.List.{List, [], _∷_, _++_}
 use mathlib.Core.Option.{Option, none, some}
 use Prim.Native.Nat.{ℕ, zero, suc, _+_, _*_, _-_, _/_, _%_, _^_, _≤_, _<_}
 use native.Mathlib.Nat.{le-trans}
 use native.Mathlib.Omega.{arith}
 use lib.Dec.{eqb, leb}
 use lib.ListN.{length}
-use borrow.Author.Tests.{le-leb, leb-true, ne-eqb, eq-eqb}
-use Rattle.bits.proofs.Bools.{and-parts, both, cond-true, cond-false}
+use borrow.Author.Tests.{le-leb, leb-true, ne-eqb, eq-eqb, eqb-true, eqb-false}
+use Rattle.bits.proofs.Bools.{either, and-parts, both, cond-true, cond-false}
 use Rattle.circuit.specs.declared.gate.Gate.{Gate}
 use Rattle.circuit.specs.Outcome.{served}
 use Rattle.circuit.specs.Run.{run, Differs}
 use Rattle.circuit.specs.Text.{digit}
-use Rattle.circuit.specs.File.{reading}
-use Rattle.circuit.proofs.Promises.{reader, demand-met}
+use Rattle.circuit.proofs.Promises.{demand-met}
 use Rattle.text.specs.Dimacs.{thenRead}
 use Rattle.text.specs.Tomiter.{refusalText}
-use Rattle.text.specs.Compare.{fileWords, Files, cascades, faulty, wholeFile, filesOf, differWord, fitOutcome}
-use Rattle.text.specs.CompareLaws.{TwoFiles}
+use Rattle.text.specs.Compare.{fileWords, Files, cascades, faulty, filesOf, differWord, fitOutcome}
+use Rattle.text.specs.TwoFiles.{TwoFiles, FilesRefused}
 use Rattle.text.specs.CheckInput.{maxChecked, stateText, stateRead, agreeWord, outputsText, checkedOn, checkedFiles, checked, checkedText, checkText, inputOutcome}
-use Rattle.text.specs.CheckInputLaws.{saidOf}
-use Rattle.text.proofs.pair.Laws as pair
+use Rattle.text.specs.CheckInputLaws.{saidOf, ChecksInput}
 use Rattle.text.proofs.Longest.{fault-few}
-use Rattle.text.proofs.Verdicts.{Judged, judged}
+use Rattle.text.proofs.Verdicts.{Judged, judged, judged-is}
 use Rattle.text.proofs.Decimal.{decimal-few}
 use Rattle.text.proofs.answer.Laws.{refusal-long}
 use Rattle.text.proofs.input.Laws.{parts}
@@ -66,20 +64,16 @@ state-was (suc n) (b ∷ bs) x e =
 
 -- ---- the files
 
+pub refused-told : (first second state : List ℕ) (number file place : ℕ) → FilesRefused first second number file place
+    → checkText first second state ≡ refusalText number file place
+unfolding checkText checked
+refused-told first second state number file place r =
+    ap (λ (f : Files). checkedText (checkedFiles f state)) (judged-is first second (faulty number file place) r)
+
 module _ (first second : List ℕ) (n : ℕ) (a b : List Gate) (t : TwoFiles first second n a b) where
-  whole : (text : List ℕ) (gs : List Gate) → Rattle.circuit.specs.FileLaws.FileCascade n gs → text ≡ Rattle.circuit.specs.Text.textOf n gs
-      → wholeFile text ≡ served (record { lines = n; gates = gs; taken = length (Rattle.circuit.specs.Text.textOf n gs) })
-  whole text gs good e =
-      pair.whole-good text _ (ap reading (e ∙ sym (append-nil (Rattle.circuit.specs.Text.textOf n gs))) ∙ reader .text-read n gs [] good) (sym (ap length e))
-
-  pub files-are : filesOf first second ≡ cascades n a b
-  files-are =
-      pair.first-served first second (t .first-bytes) (t .second-bytes) _ (whole first a (t .first-good) (t .first-text))
-      ∙ pair.second-same n a second _ (whole second b (t .second-good) (t .second-text)) refl
-
   told-of : (state : List ℕ) → checkText first second state ≡ checkedText (checkedOn n a b (stateRead n state))
   unfolding checkText checked
-  told-of state = ap (λ (f : Files). checkedText (checkedFiles f state)) files-are
+  told-of state = ap (λ (f : Files). checkedText (checkedFiles f state)) (judged-is first second (cascades n a b) t)
 
   module _ (x : ℕ) (h : x < 2 ^ n) where
     outputs-are : checkText first second (stateText n x) ≡ outputsText n (run a x) (run b x)
@@ -102,6 +96,41 @@ module _ (first second : List ℕ) (n : ℕ) (a b : List Gate) (t : TwoFiles fir
       by : (o : Option ℕ) → stateRead n state ≡ o → checkedText (checkedOn n a b (stateRead n state)) ≡ refusalText 9 0 0
       by (some x) e = let (l, s) = state-was n state x e in absurd (h x l s)
       by none e = ap (λ (o : Option ℕ). checkedText (checkedOn n a b o)) e
+
+pub checks : ChecksInput checkText
+checks = record { refused-told = refused-told; no-state = no-state; differ-told = differ-told; agree-told = agree-told }
+
+-- ---- any program that tells as much
+
+module _ (program : List ℕ → List ℕ → List ℕ → List ℕ) (other : List ℕ → List ℕ → List ℕ → List ℕ) (p : ChecksInput program) (q : ChecksInput other) (first second : List ℕ) where
+  module _ (n : ℕ) (a b : List Gate) (t : TwoFiles first second n a b) where
+    on-state : (x : ℕ) → x < 2 ^ n → program first second (stateText n x) ≡ other first second (stateText n x)
+    on-state x h =
+        either (eqb (run a x) (run b x))
+        (λ u.
+        let e = eqb-true (run a x) (run b x) u in
+        p .agree-told first second n a b t x h e ∙ sym (q .agree-told first second n a b t x h e))
+        (λ u.
+        let d : Differs n a b x = record { state = h; outputs = eqb-false (run a x) (run b x) u } in
+        p .differ-told first second n a b t x d ∙ sym (q .differ-told first second n a b t x d))
+
+    on-text : (state : List ℕ) (o : Option ℕ) → stateRead n state ≡ o → program first second state ≡ other first second state
+    on-text state (some x) e =
+        let (h, s) = state-was n state x e in
+        subst (λ (w : List ℕ). program first second w ≡ other first second w) (sym s) (on-state x h)
+    on-text state none e =
+        let bad : (x : ℕ) → x < 2 ^ n → state ≡ stateText n x → ⊥ =
+        λ x h s. let g = sym e ∙ ap (stateRead n) s ∙ state-back n x h in let z : _≡_ {A = ℕ} 0 1 = cc in omega arith
+        in
+        p .no-state first second n a b t state bad ∙ sym (q .no-state first second n a b t state bad)
+
+  on-files : (state : List ℕ) (f : Files) → Judged first second f → program first second state ≡ other first second state
+  on-files state (cascades n a b) t = on-text n a b t state (stateRead n state) refl
+  on-files state (faulty number file place) r = p .refused-told first second state number file place r ∙ sym (q .refused-told first second state number file place r)
+
+pub checks-only : (program : List ℕ → List ℕ → List ℕ → List ℕ) → ChecksInput program → (first second state : List ℕ)
+    → program first second state ≡ checkText first second state
+checks-only program p first second state = on-files program checkText p checks first second state (filesOf first second) (judged first second)
 
 -- ---- how long
 

@@ -22,7 +22,7 @@ use Rattle.text.specs.Dimacs.{headerText, clausesText, dimacsOf}
 use Rattle.text.specs.Plain.{plainClauses}
 use Rattle.text.specs.Tomiter.{refusalText}
 use Rattle.text.specs.Compare.{maxList, maxCompared, fileWords, miterWords, Files, cascades, faulty, filesOf, Comparison, gatesLeft, sweptAs, listAs, compared, comparedFiles, comparison, comparisonText, compareText, fitOutcome, Rooms, compareOutcome}
-use Rattle.text.specs.CompareLaws.{TwoFiles, FilesRefused, first-long, second-long, first-file, after-first, second-file, after-second, lines-differ, list-long}
+use Rattle.text.specs.TwoFiles.{TwoFiles, WholeRefused, line, after, FilesRefused, first-long, second-long, first-file, second-file, lines-differ}
 use Rattle.text.proofs.Decimal.{decimal-few}
 use Rattle.text.proofs.Sizes.{fault-small}
 use Rattle.text.proofs.Rooms.{rooms-good}
@@ -33,15 +33,16 @@ use Rattle.text.proofs.answer.Laws.{digits-few, differ-long, refusal-lo
 
 -- ---- refusals
 
+whole-few : (text : List ℕ) (number place : ℕ) → WholeRefused text number place → (number < 100) × (place < 10000)
+whole-few text _ _ (line number place f) = fault-small text number place f
+whole-few text _ _ (after n a rest good _ _) = (omega arith, omega (arith, good .few))
+
 pub fault-few : (first second : List ℕ) (number file place : ℕ) → FilesRefused first second number file place → (number < 100) × (file < 10) × (place < 10000)
 fault-few first second _ _ _ (first-long _) = (omega arith, omega arith, omega arith)
 fault-few first second _ _ _ (second-long _ _) = (omega arith, omega arith, omega arith)
-fault-few first second _ _ _ (first-file number place _ _ f) = let (a, b) = fault-small first number place f in (a, omega arith, b)
-fault-few first second _ _ _ (after-first n a rest _ _ good _ _) = (omega arith, omega arith, omega (arith, good .few))
-fault-few first second _ _ _ (second-file n a number place _ _ _ _ f) = let (x, y) = fault-small second number place f in (x, omega arith, y)
-fault-few first second _ _ _ (after-second n a m b rest _ _ _ _ good _ _) = (omega arith, omega arith, omega (arith, good .few))
+fault-few first second _ _ _ (first-file number place _ _ w) = let (a, b) = whole-few first number place w in (a, omega arith, b)
+fault-few first second _ _ _ (second-file n a number place _ _ _ _ w) = let (x, y) = whole-few second number place w in (x, omega arith, y)
 fault-few first second _ _ _ (lines-differ n a m b _ _ _ _ _ _ _) = (omega arith, omega arith, omega arith)
-fault-few first second _ _ _ (list-long n a b _ _ _ _) = (omega arith, omega arith, omega arith)
 
 refusal-few : (number file place : ℕ) → number < 100 → file < 10 → place < 10000 → length (refusalText number file place) ≤ maxCompared
 refusal-few number file place a b c =

@@ -1,40 +1,39 @@
 -- Of any program with the claim on two files: what `equal` says, and that it is none of the stand-ins. Assumes nothing.
 use mathlib.Core.Path.{_≡_, refl, sym, ap, ap₂, subst, _∙_}
-use mathlib.Core.List.{List, [], _∷_, _++_, append-nil}
+use mathlib.Core.List.{List, [], _∷_, _++_}
 use mathlib.Core.Option.{some}
 use Prim.Native.Nat.{ℕ, _<_, _^_}
 use native.Mathlib.Omega.{arith}
-use lib.ListN.{length}
 use lib.Pow.{pow-pos}
 use Rattle.bits.proofs.Lists.{free}
 use Rattle.circuit.specs.declared.gate.Gate.{Gate}
-use Rattle.circuit.specs.Outcome.{Outcome, served, refused}
 use Rattle.circuit.specs.Run.{run, Equal}
-use Rattle.circuit.specs.Text.{tab, lineFeed, textOf}
-use Rattle.circuit.specs.File.{Reading, reading}
-use Rattle.circuit.specs.FileLaws.{FileCascade}
-use Rattle.circuit.proofs.Promises.{reader, run-none}
+use Rattle.circuit.specs.Text.{tab, lineFeed}
+use Rattle.circuit.proofs.Promises.{run-none}
 use Rattle.text.specs.Dimacs.{Dimacs, decimal, numberRead, headerText, dimacsRead, partedBy}
 use Rattle.text.specs.Tomiter.{refusalText}
 use Rattle.text.specs.BytesTell.{TextTells}
-use Rattle.text.specs.Compare.{equalText, differWord, differText}
-use Rattle.text.specs.CompareLaws.{TwoFiles, MayWrite, refuses, reduces, sweeps, differs, asks, Compares}
+use Rattle.text.specs.Compare.{Files, cascades, faulty, equalText, differWord, differText}
+use Rattle.text.specs.TwoFiles.{TwoFiles, FilesRefused}
+use Rattle.text.specs.CompareLaws.{MayWrite, refuses, overflows, reduces, sweeps, differs, asks, Compares}
 use Rattle.text.proofs.Reading.{parts-cut, decimal-free, number-back}
 use Rattle.text.proofs.Strict.{text-was}
+use Rattle.text.proofs.Verdicts.{judged-is}
 use Rattle.text.proofs.StandIns.{once, once-runs, none-good, once-good, first, second, first-bytes, second-bytes}
 
 -- ---- the files decide the cascades
 
-read-is : (text : List ℕ) (n : ℕ) (a : List Gate) → FileCascade n a → text ≡ textOf n a → reading text ≡ served (record { lines = n; gates = a; taken = length (textOf n a) })
-read-is text n a good e = ap reading (e ∙ sym (append-nil (textOf n a))) ∙ reader .text-read n a [] good
+abbrev linesIn : Files → ℕ
+linesIn (cascades n a b) = n
+linesIn (faulty number file place) = 0
 
-abbrev linesRead : Outcome Reading → ℕ
-linesRead (served c) = c .lines
-linesRead (refused number place) = 0
+abbrev firstIn : Files → List Gate
+firstIn (cascades n a b) = a
+firstIn (faulty number file place) = []
 
-abbrev gatesRead : Outcome Reading → List Gate
-gatesRead (served c) = c .gates
-gatesRead (refused number place) = []
+abbrev secondIn : Files → List Gate
+secondIn (cascades n a b) = b
+secondIn (faulty number file place) = []
 
 -- the same cascades
 record Same (n m : ℕ) (a b c d : List Gate) : Type 0 where
@@ -44,9 +43,15 @@ record Same (n m : ℕ) (a b c d : List Gate) : Type 0 where
 
 same : (first second : List ℕ) (n m : ℕ) (a b c d : List Gate) → TwoFiles first second n a b → TwoFiles first second m c d → Same n m a b c d
 same first second n m a b c d s t =
-    let f = sym (read-is first n a (s .first-good) (s .first-text)) ∙ read-is first m c (t .first-good) (t .first-text) in
-    let g = sym (read-is second n b (s .second-good) (s .second-text)) ∙ read-is second m d (t .second-good) (t .second-text) in
-    record { lines = ap linesRead f; first = ap gatesRead f; second = ap gatesRead g }
+    let f = sym (judged-is first second (cascades n a b) s) ∙ judged-is first second (cascades m c d) t in
+    record { lines = ap linesIn f; first = ap firstIn f; second = ap secondIn f }
+
+-- two cascades are not faulty
+not-both : (first second : List ℕ) (n : ℕ) (a b : List Gate) (number file place : ℕ) → TwoFiles first second n a b → FilesRefused first second number file place → ⊥
+not-both first second n a b number file place t r =
+    let f = sym (judged-is first second (cascades n a b) t) ∙ judged-is first second (faulty number file place) r in
+    let z : _≡_ {A = ℕ} 0 1 = cc in
+    omega arith
 
 -- ---- the kinds of texts start with different bytes
 
@@ -71,6 +76,25 @@ read-start text d e = ap start (text-was text d e)
 
 tells-start : (text : List ℕ) (n : ℕ) (a b : List Gate) → TextTells text n a b → start text ≡ 112
 tells-start text n a b t = read-start text (t .read) (t .is-read)
+
+-- ---- what is wrong with the files is told
+
+abbrev faultText : Files → List ℕ
+faultText (cascades n a b) = []
+faultText (faulty number file place) = refusalText number file place
+
+module _ (one two : List ℕ) (number file place : ℕ) (r : FilesRefused one two number file place) where
+  refused-case : (text : List ℕ) → MayWrite one two text → text ≡ refusalText number file place
+  refused-case text (refuses k f p e s) = e ∙ ap faultText (sym (judged-is one two (faulty k f p) s) ∙ judged-is one two (faulty number file place) r)
+  refused-case text (overflows m c d s f g h i) = absurd (not-both one two m c d number file place s r)
+  refused-case text (reduces m c d s f g h) = absurd (not-both one two m c d number file place s r)
+  refused-case text (sweeps m c d s f g h i) = absurd (not-both one two m c d number file place s r)
+  refused-case text (differs m c d s x f g h i j) = absurd (not-both one two m c d number file place s r)
+  refused-case text (asks m c d s f g h i j) = absurd (not-both one two m c d number file place s r)
+
+pub refused-only : (program : List ℕ → List ℕ → List ℕ) (first second : List ℕ) (number file place : ℕ) → FilesRefused first second number file place
+    → Compares program → program first second ≡ refusalText number file place
+refused-only program one two number file place r laws = refused-case one two number file place r (program one two) (laws one two)
 
 -- ---- NOT and nothing, on one line
 
@@ -99,6 +123,7 @@ module _ (one two : List ℕ) (n : ℕ) (a b : List Gate) (t : TwoFiles one two 
 
   equal-case : (text word : List ℕ) → text ≡ equalText word → MayWrite one two text → Equal n a b
   equal-case text word e (refuses number file place f g) = absurd (omega (arith, refusal-start number file place, ap start (sym f ∙ e), equal-start word))
+  equal-case text word e (overflows m c d s f g h i) = absurd (omega (arith, refusal-start 10 0 0, ap start (sym f ∙ e), equal-start word))
   equal-case text word e (reduces m c d s f g h) = same-equal m c d s h
   equal-case text word e (sweeps m c d s f g h i) = same-equal m c d s i
   equal-case text word e (differs m c d s x f g h i j) = absurd (omega (arith, differ-start x (run c x) (run d x), ap start (sym f ∙ e), equal-start word))
@@ -113,6 +138,7 @@ always-equal program word all laws = not-equal 1 once [] files (equal-only progr
 
 asked-case : (text : List ℕ) → start text ≡ 112 → MayWrite first second text → ⊥
 asked-case text e (refuses number file place f g) = omega (arith, refusal-start number file place, ap start f)
+asked-case text e (overflows n a b t f g h i) = omega (arith, refusal-start 10 0 0, ap start f)
 asked-case text e (reduces n a b t f g h) = not-equal n a b t h
 asked-case text e (sweeps n a b t f g h i) = not-equal n a b t i
 asked-case text e (differs n a b t x f g h i j) = omega (arith, differ-start x (run a x) (run b x), ap start f)
@@ -143,6 +169,7 @@ same-state x y z k l m e =
 module _ (one two : List ℕ) (n : ℕ) (a b : List Gate) (x y z : ℕ) (t : TwoFiles one two n a b) (agree : run a x ≡ run b x) where
   difference-case : (text : List ℕ) → text ≡ differText x y z → MayWrite one two text → ⊥
   difference-case text e (refuses number file place f g) = omega (arith, refusal-start number file place, ap start (sym f ∙ e), differ-start x y z)
+  difference-case text e (overflows m c d s f g h i) = omega (arith, refusal-start 10 0 0, ap start (sym f ∙ e), differ-start x y z)
   difference-case text e (reduces m c d s f g h) = omega (arith, differ-start x y z, ap start (sym f ∙ e))
   difference-case text e (sweeps m c d s f g h i) = omega (arith, differ-start x y z, ap start (sym f ∙ e))
   difference-case text e (differs m c d s k f g h i j) =

@@ -2,11 +2,11 @@
 use mathlib.Core.Path.{_≡_, refl, sym, ap, subst, _∙_}
 use mathlib.Core.Logic.{_↔_}
 use mathlib.Core.Bool.{true}
-use mathlib.Core.List.{List, [], _∷_, _++_}
+use mathlib.Core.List.{List, [], _∷_, _++_, append-nil}
 use Prim.Native.Nat.{ℕ, _+_, _^_, _≤_, _<_}
 use native.Mathlib.Omega.{arith}
 use lib.Dec.{eqb, leb}
-use lib.ListN.{length, drop}
+use lib.ListN.{length, length-append, drop}
 use lib.Seq.{take-all}
 use borrow.Author.Tests.{eqb-true, eqb-false, leb-true, leb-false}
 use Rattle.bits.proofs.Bools.{either, cond-true, cond-false}
@@ -17,7 +17,7 @@ use Rattle.circuit.specs.Words.{allValid}
 use Rattle.circuit.specs.Run.{run, Equal}
 use Rattle.circuit.specs.Text.{textOf}
 use Rattle.circuit.specs.File.{Reading, reading}
-use Rattle.circuit.specs.FileLaws.{FileCascade, FileRefused}
+use Rattle.circuit.specs.FileLaws.{FileCascade}
 use Rattle.circuit.proofs.Promises.{reader, valid-all-more}
 use Rattle.checking.specs.Miter.{miterGates}
 use Rattle.checking.specs.StepLaws.{Keeps}
@@ -32,7 +32,8 @@ use Rattle.text.specs.Dimacs.{dimacsOf, dimacsRead}
 use Rattle.text.specs.Plain.{plainClauses}
 use Rattle.text.specs.BytesTell.{TextTells}
 use Rattle.text.specs.Compare.{maxFile, maxList, Files, cascades, faulty, wholeFile, secondFile, filesOf, Comparison, gatesLeft, sweptAs, listAs, compared, comparedFiles, comparison, comparisonText, compareText}
-use Rattle.text.specs.CompareLaws.{TwoFiles, FilesRefused, first-long, second-long, first-file, after-first, second-file, after-second, lines-differ, list-long, MayWrite, refuses, reduces, sweeps, differs, asks, Compares}
+use Rattle.text.specs.TwoFiles.{TwoFiles, WholeRefused, line, after, FilesRefused, first-long, second-long, first-file, second-file, lines-differ}
+use Rattle.text.specs.CompareLaws.{MayWrite, refuses, overflows, reduces, sweeps, differs, asks, Compares}
 use Rattle.text.proofs.Pairs.{listable}
 use Rattle.text.proofs.Reading.{text-back}
 use Rattle.text.proofs.PlainClauses.{plain-or, plain-tells}
@@ -41,14 +42,9 @@ use Rattle.text.proofs.pair.Laws as pair
 
 -- ---- a file
 
--- what is wrong with a file: a line of it, or bytes after its `end`
-pub data WholeFault (text : List ℕ) : ℕ → ℕ → Type 0 where
-  line : (number place : ℕ) → FileRefused text number place → WholeFault text number place
-  after : (n : ℕ) (a : List Gate) (rest : List ℕ) → FileCascade n a → text ≡ textOf n a ++ rest → (rest ≡ [] → ⊥) → WholeFault text 1 (length a + 2)
-
 abbrev WholeJudged : List ℕ → Outcome Reading → Type 0
 WholeJudged text (served c) = (FileCascade (c .lines) (c .gates)) × (text ≡ textOf (c .lines) (c .gates))
-WholeJudged text (refused number place) = WholeFault text number place
+WholeJudged text (refused number place) = WholeRefused text number place
 
 whole-by : (text : List ℕ) (o : Outcome Reading) → reading text ≡ o → WholeJudged text (wholeFile text)
 whole-by text (refused k p) r = subst (WholeJudged text) (sym (pair.whole-bad text k p r)) (line k p (reader .read-refused text k p .0 r))
@@ -65,6 +61,27 @@ whole-by text (served d) r =
 pub whole-judged : (text : List ℕ) → WholeJudged text (wholeFile text)
 whole-judged text = whole-by text (reading text) refl
 
+empty : {A : Type 0} (xs : List A) → length xs ≡ 0 → xs ≡ []
+empty [] e = refl
+empty (x ∷ xs) e = absurd (omega arith)
+
+-- a file is read as what is said of it
+module _ (text : List ℕ) (n : ℕ) (a : List Gate) (good : FileCascade n a) where
+  abbrev whole : Reading
+  whole = record { lines = n; gates = a; taken = length (textOf n a) }
+
+  read-before : (rest : List ℕ) → text ≡ textOf n a ++ rest → reading text ≡ served whole
+  read-before rest e = ap reading e ∙ reader .text-read n a rest good
+
+  pub whole-is : text ≡ textOf n a → wholeFile text ≡ served whole
+  whole-is e = pair.whole-good text whole (read-before [] (e ∙ sym (append-nil (textOf n a)))) (sym (ap length e))
+
+whole-refused : (text : List ℕ) (number place : ℕ) → WholeRefused text number place → wholeFile text ≡ refused number place
+whole-refused text _ _ (line number place f) = pair.whole-bad text number place (reader .read-refused text number place .1 f)
+whole-refused text _ _ (after n a rest good e more) =
+    pair.whole-after text (whole text n a good) (read-before text n a good rest e)
+    (λ t. more (empty rest (omega (arith, t, ap length e, length-append (textOf n a) rest))))
+
 -- ---- two files
 
 module _ (first second : List ℕ) where
@@ -73,17 +90,9 @@ module _ (first second : List ℕ) where
   Judged (faulty number file place) = FilesRefused first second number file place
 
   module _ (short : length first ≤ maxFile) (short-2 : length second ≤ maxFile) where
-    first-fault : (number place : ℕ) → WholeFault first number place → FilesRefused first second number 1 place
-    first-fault _ _ (line number place f) = first-file number place short short-2 f
-    first-fault _ _ (after n a rest good e more) = after-first n a rest short short-2 good e more
-
     module _ (n : ℕ) (a : List Gate) (good : FileCascade n a) (is : first ≡ textOf n a) where
-      second-fault : (number place : ℕ) → WholeFault second number place → FilesRefused first second number 2 place
-      second-fault _ _ (line number place f) = second-file n a number place short short-2 good is f
-      second-fault _ _ (after m b rest good-b e more) = after-second n a m b rest short short-2 good is good-b e more
-
       second-by : (o : Outcome Reading) → wholeFile second ≡ o → WholeJudged second o → Judged (secondFile n a second)
-      second-by (refused k p) e w = subst Judged (sym (pair.second-refused n a second k p e)) (second-fault k p w)
+      second-by (refused k p) e w = subst Judged (sym (pair.second-refused n a second k p e)) (second-file n a k p short short-2 good is w)
       second-by (served d) e w =
           either (eqb n (d .lines))
           (λ t.
@@ -102,7 +111,7 @@ module _ (first second : List ℕ) where
           subst Judged (sym (pair.second-differs n a second d e ne)) (lines-differ n a (d .lines) (d .gates) short short-2 good is (w .0) (w .1) ne))
 
     first-by : (o : Outcome Reading) → wholeFile first ≡ o → WholeJudged first o → Judged (filesOf first second)
-    first-by (refused k p) e w = subst Judged (sym (pair.first-refused first second short short-2 k p e)) (first-fault k p w)
+    first-by (refused k p) e w = subst Judged (sym (pair.first-refused first second short short-2 k p e)) (first-file k p short short-2 w)
     first-by (served c) e w =
         subst Judged (sym (pair.first-served first second short short-2 c e))
         (second-by (c .lines) (c .gates) (w .0) (w .1) (wholeFile second) refl (whole-judged second))
@@ -119,11 +128,24 @@ module _ (first second : List ℕ) where
       subst Judged (sym (pair.second-long first second short long)) (second-long short long)))
       (λ t. let long = leb-false (length first) maxFile t in subst Judged (sym (pair.first-long first second long)) (first-long long))
 
--- ---- two cascades
+  -- and the files are what is said of them
+  module _ (short : length first ≤ maxFile) (short-2 : length second ≤ maxFile) where
+    first-is : (n : ℕ) (a : List Gate) → FileCascade n a → first ≡ textOf n a → filesOf first second ≡ secondFile n a second
+    first-is n a good e = pair.first-served first second short short-2 _ (whole-is first n a good e)
 
-empty : (gs : List Gate) → length gs ≡ 0 → gs ≡ []
-empty [] e = refl
-empty (g ∷ gs) e = absurd (omega arith)
+  pub judged-is : (f : Files) → Judged f → filesOf first second ≡ f
+  judged-is (cascades n a b) t =
+      first-is (t .first-bytes) (t .second-bytes) n a (t .first-good) (t .first-text)
+      ∙ pair.second-same n a second _ (whole-is second n b (t .second-good) (t .second-text)) refl
+  judged-is (faulty _ _ _) (first-long h) = pair.first-long first second h
+  judged-is (faulty _ _ _) (second-long s h) = pair.second-long first second s h
+  judged-is (faulty _ _ _) (first-file number place s s2 w) = pair.first-refused first second s s2 number place (whole-refused first number place w)
+  judged-is (faulty _ _ _) (second-file n a number place s s2 good e w) =
+      first-is s s2 n a good e ∙ pair.second-refused n a second number place (whole-refused second number place w)
+  judged-is (faulty _ _ _) (lines-differ n a m b s s2 good e good-b e-b ne) =
+      first-is s s2 n a good e ∙ pair.second-differs n a second _ (whole-is second m b good-b e-b) ne
+
+-- ---- two cascades
 
 module _ (first second : List ℕ) (n : ℕ) (a b : List Gate) (t : TwoFiles first second n a b) where
   abbrev gl : List Gate
@@ -188,8 +210,7 @@ module _ (first second : List ℕ) (n : ℕ) (a b : List Gate) (t : TwoFiles fir
         let e : comparisonText (listAs n gl) ≡ dimacsOf (variablesOf n gl) (plainClauses cs) = ap comparisonText (cond-true (leb (length (stored cs)) maxList) _ _ u) in
         asks n a b t (text-tells _ e) (plain-or cs) some h (leb-true (length (stored cs)) maxList u))
         (λ u.
-        refuses 10 0 0 (ap comparisonText (cond-false (leb (length (stored cs)) maxList) _ _ u))
-        (list-long n a b t h some (leb-false (length (stored cs)) maxList u)))
+        overflows n a b t (ap comparisonText (cond-false (leb (length (stored cs)) maxList) _ _ u)) some h (leb-false (length (stored cs)) maxList u))
 
   pub pair-verdict : MayWrite first second (comparisonText (compared n a b))
   unfolding compared

@@ -8,10 +8,8 @@ use lib.IntN.{ℤ, negℤ}
 use lib.ListN.{length}
 use Rattle.circuit.specs.declared.gate.Gate.{Gate}
 use Rattle.circuit.specs.Outcome.{served}
-use Rattle.circuit.specs.Refusal.{wrongForm, lineCountsDiffer, noRoom}
+use Rattle.circuit.specs.Refusal.{noRoom}
 use Rattle.circuit.specs.Run.{run, Equal, Differs}
-use Rattle.circuit.specs.Text.{textOf}
-use Rattle.circuit.specs.FileLaws.{FileCascade, FileRefused}
 use Rattle.checking.specs.Compare.{maxSweepLines}
 use Rattle.checking.specs.Clauses.{Clause, OR, XOR, clausesOf}
 use Rattle.checking.specs.Satisfaction.{satisfies, ClausesWithin}
@@ -20,42 +18,16 @@ use Rattle.text.specs.Dimacs.{Dimacs, dimacsRead}
 use Rattle.text.specs.Plain.{plainClause, plainClauses, AllOr}
 use Rattle.text.specs.Tomiter.{refusalText}
 use Rattle.text.specs.BytesTell.{TextTells}
-use Rattle.text.specs.Compare.{maxFile, maxList, maxCompared, fileWords, miterWords, gatesLeft, reductionWord, sweepWord, equalText, differText, compareText, Rooms, compareOutcome}
-
--- each file is that of a cascade on n lines, to its last byte, and is not too long
-pub record TwoFiles (first second : List ℕ) (n : ℕ) (a b : List Gate) : Type 0 where
-  pub first-good : FileCascade n a
-  pub second-good : FileCascade n b
-  pub first-text : first ≡ textOf n a
-  pub second-text : second ≡ textOf n b
-  pub first-bytes : length first ≤ maxFile
-  pub second-bytes : length second ≤ maxFile
-
--- what is wrong with two files, by number, file and place, where nothing of an earlier kind is
-pub data FilesRefused (first second : List ℕ) : ℕ → ℕ → ℕ → Type 0 where
-  -- a file of more than 262,144 bytes
-  first-long : maxFile < length first → FilesRefused first second noRoom 0 0
-  second-long : length first ≤ maxFile → maxFile < length second → FilesRefused first second noRoom 0 0
-  -- the first file, and bytes after its `end`: its lines are its header, its gates and `end`
-  first-file : (number place : ℕ) → length first ≤ maxFile → length second ≤ maxFile → FileRefused first number place → FilesRefused first second number 1 place
-  after-first : (n : ℕ) (a : List Gate) (rest : List ℕ) → length first ≤ maxFile → length second ≤ maxFile → FileCascade n a
-      → first ≡ textOf n a ++ rest → (rest ≡ [] → ⊥) → FilesRefused first second wrongForm 1 (length a + 2)
-  -- the second one, after a first that is good
-  second-file : (n : ℕ) (a : List Gate) (number place : ℕ) → length first ≤ maxFile → length second ≤ maxFile → FileCascade n a → first ≡ textOf n a
-      → FileRefused second number place → FilesRefused first second number 2 place
-  after-second : (n : ℕ) (a : List Gate) (m : ℕ) (b : List Gate) (rest : List ℕ) → length first ≤ maxFile → length second ≤ maxFile → FileCascade n a → first ≡ textOf n a
-      → FileCascade m b → second ≡ textOf m b ++ rest → (rest ≡ [] → ⊥) → FilesRefused first second wrongForm 2 (length b + 2)
-  -- line counts that differ
-  lines-differ : (n : ℕ) (a : List Gate) (m : ℕ) (b : List Gate) → length first ≤ maxFile → length second ≤ maxFile → FileCascade n a → first ≡ textOf n a
-      → FileCascade m b → second ≡ textOf m b → (n ≡ m → ⊥) → FilesRefused first second lineCountsDiffer 0 0
-  -- more than 16 lines, gates that the reduction leaves, and a clause list of these of more than 262,144 words
-  list-long : (n : ℕ) (a b : List Gate) → TwoFiles first second n a b → maxSweepLines < n → (gatesLeft a b ≡ [] → ⊥)
-      → maxList < length (stored (clausesOf n (gatesLeft a b))) → FilesRefused first second noRoom 0 0
+use Rattle.text.specs.Compare.{maxList, maxCompared, fileWords, miterWords, gatesLeft, reductionWord, sweepWord, equalText, differText, compareText, Rooms, compareOutcome}
+use Rattle.text.specs.TwoFiles.{TwoFiles, FilesRefused}
 
 -- THE CLAIM: what a text may be that is written for two files. The kinds of texts start with different bytes, and which kind is due is decided by the files alone.
 pub data MayWrite (first second text : List ℕ) : Type 0 where
-  -- a refusal: what is wrong first
+  -- a refusal: what is wrong with the files first
   refuses : (number file place : ℕ) → text ≡ refusalText number file place → FilesRefused first second number file place → MayWrite first second text
+  -- and of two good ones, 10 for more than 16 lines, gates that the reduction leaves, and a clause list of these of more than 262,144 words
+  overflows : (n : ℕ) (a b : List Gate) → TwoFiles first second n a b → text ≡ refusalText noRoom 0 0 → (gatesLeft a b ≡ [] → ⊥) → maxSweepLines < n
+      → maxList < length (stored (clausesOf n (gatesLeft a b))) → MayWrite first second text
   -- equal cascades, of whose miter the full reduction leaves no gate
   reduces : (n : ℕ) (a b : List Gate) → TwoFiles first second n a b → text ≡ equalText reductionWord → gatesLeft a b ≡ [] → Equal n a b → MayWrite first second text
   -- equal cascades of at most 16 lines
@@ -83,7 +55,10 @@ pub record CompareLaws : Type 0 where
       ≡ OR (a ∷ b ∷ c ∷ []) ∷ OR (a ∷ negℤ b ∷ negℤ c ∷ []) ∷ OR (negℤ a ∷ b ∷ negℤ c ∷ []) ∷ OR (negℤ a ∷ negℤ b ∷ c ∷ []) ∷ []
   -- the claim, of our text
   pub compares : Compares compareText
-  -- a program with the claim says `equal` of equal cascades alone
+  -- a program with the claim tells what is wrong with the files
+  pub refused-only : (program : List ℕ → List ℕ → List ℕ) (first second : List ℕ) (number file place : ℕ) → FilesRefused first second number file place
+      → Compares program → program first second ≡ refusalText number file place
+  -- it says `equal` of equal cascades alone
   pub equal-only : (program : List ℕ → List ℕ → List ℕ) (first second word : List ℕ) (n : ℕ) (a b : List Gate) → TwoFiles first second n a b
       → program first second ≡ equalText word → Compares program → Equal n a b
   -- it is no program that calls all pairs equal, that asks a solver always, or that says `differ` of a state on which two cascades of its files agree

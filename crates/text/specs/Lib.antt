@@ -8,6 +8,7 @@ pub mod CheckInput
 pub mod Rows
 pub mod TextLaws
 pub mod private
+pub mod TwoFiles
 pub mod CompareLaws
 pub mod CheckInputLaws
 pub mod Laws

@@ -8,8 +8,8 @@ use Rattle.text.proofs.PlainClauses.{plain-satisfied, plain-within, pla
 use Rattle.text.proofs.plain.Laws.{pair-parts, triple-is}
 use Rattle.text.proofs.Verdicts.{compares}
 use Rattle.text.proofs.Longest.{text-fits as compared-fits, room-enough as compared-room}
-use Rattle.text.proofs.Inputs.{state-back, state-was, differ-told, agree-told, no-state, text-fits as checked-fits, room-enough as checked-room}
-use Rattle.text.proofs.Others.{equal-only, always-equal, always-asks, no-difference}
+use Rattle.text.proofs.Inputs.{state-back, state-was, checks, checks-only, text-fits as checked-fits, room-enough as checked-room}
+use Rattle.text.proofs.Others.{refused-only, equal-only, always-equal, always-asks, no-difference}
 use Rattle.text.proofs.Rows.{rows-hold}
 use Rattle.text.proofs.laws.Statement.{statement}
 use Rattle.text.proofs.laws.Tie as tie
@@ -40,6 +40,7 @@ returns c =
             plain-two = pair-parts;
             plain-three = triple-is;
             compares = compares;
+            refused-only = refused-only;
             equal-only = equal-only;
             always-equal = always-equal;
             always-asks = always-asks;
@@ -51,9 +52,8 @@ returns c =
           record {
             state-back = state-back;
             state-was = state-was;
-            differ-told = differ-told;
-            agree-told = agree-told;
-            no-state = no-state;
+            checks = checks;
+            checks-only = checks-only;
             text-fits = checked-fits;
             room-enough = checked-room;
           };

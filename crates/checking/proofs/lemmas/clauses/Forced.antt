@@ -1,17 +1,15 @@
 -- An assignment satisfies the clause list exactly when it is the one that its own inputs force and the run changes them. Assumes nothing.
 use mathlib.Core.Path.{_≡_, refl, sym, ap, ap₂, _∙_, subst}
 use mathlib.Core.Logic.{_↔_}
-use mathlib.Core.Bool.{Bool, true, false, not, _&&_, _||_, xor, cond, true≢false, and-assoc, and-true, or-false}
+use mathlib.Core.Bool.{Bool, true, false, not, _&&_, _||_, xor, cond, true≢false, and-assoc, and-true}
 use mathlib.Core.List.{List, [], _∷_, _++_, map, append-assoc}
 use Prim.Native.Nat.{ℕ, zero, suc, _+_, _^_, _<_, _≤_}
 use native.Mathlib.Omega.{arith}
-use lib.Dec.{eqb}
-use lib.Bits.{bitAnd}
 use lib.ListN.{length, take, length-append, length-map}
-use borrow.Author.Tests.{eqb-true, eqb-false}
+use borrow.Author.Tests.{lt-ltb}
 use Rattle.bits.specs.Digits.{bit}
-use Rattle.bits.proofs.Bools.{and-parts, both, either, cond-true, cond-false, or-none, xor-false, and-apart}
-use Rattle.bits.proofs.Digits.{bit-and, bit-pow, bit-sum, bit-none, bits-equal, bits-below, bit-above}
+use Rattle.bits.proofs.Bools.{and-parts, both, either, cond-true, cond-false, or-none, xor-false}
+use Rattle.bits.proofs.Digits.{bits-below}
 use Rattle.circuit.specs.declared.gate.Gate.{Gate}
 use Rattle.circuit.specs.Gate.{maxLines, apply, Control, controlsOf}
 use Rattle.circuit.specs.Words.{allValid}
@@ -19,56 +17,25 @@ use Rattle.circuit.specs.Run.{run}
 use Rattle.circuit.proofs.Promises.{run-below}
 use Rattle.checking.specs.Clauses.{OR, plus, minus, inputOf, newVariable, usedBy, gatesClauses, usedAfter, currentAfter, targeted, upFrom, differenceClause, differenceClauses, clausesOf, variablesOf}
 use Rattle.checking.specs.Satisfaction.{variable, holds, satisfies, spelled}
+use Rattle.checking.specs.Faults.{maskWhere}
 use Rattle.checking.specs.Forced.{gateValues, gatesValues, differences, traced, forced}
+use Rattle.checking.proofs.lemmas.faults.Masks.{mask-below, mask-bit}
 use Rattle.checking.proofs.lemmas.clauses.Tests.{same, same-self, and-cong, xor-self, shape-d, someTrue, holds-or, holds-xor, satisfies-append}
 use Rattle.checking.proofs.lemmas.clauses.Gates.{agree, agree-head, agree-tail, agree-gate, Reads, gates-law, after-reads, untouched}
 
 -- ---- the state that the first variables spell
 
+-- it is the mask of the lines whose variables hold
+spelled-mask : (n : ℕ) (σ : List Bool) → spelled n σ ≡ maskWhere n (λ k. variable σ (suc k))
+unfolding spelled maskWhere
+spelled-mask zero σ = refl
+spelled-mask (suc n) σ = ap (λ (x : ℕ). x + cond (variable σ (suc n)) (2 ^ n) 0) (spelled-mask n σ)
+
 pub spelled-below : (n : ℕ) (σ : List Bool) → spelled n σ < 2 ^ n
-unfolding spelled
-spelled-below zero σ = omega arith
-spelled-below (suc n) σ = let h = spelled-below n σ in let t = top (variable σ (suc n)) (2 ^ n) in omega arith
-  where
-    top : (b : Bool) (p : ℕ) → cond b p 0 ≤ p
-    top true p = omega arith
-    top false p = omega arith
+spelled-below n σ = subst (λ (x : ℕ). x < 2 ^ n) (sym (spelled-mask n σ)) (mask-below n _)
 
 pub spelled-line : (n : ℕ) (σ : List Bool) (k : ℕ) → k < n → bit (spelled n σ) k ≡ variable σ (suc k)
-unfolding spelled
-spelled-line zero σ k h = absurd (omega arith)
-spelled-line (suc n) σ k h =
-    either (variable σ (suc n))
-    (λ e.
-    ap (λ (b : Bool). bit (spelled n σ + cond b (2 ^ n) 0) k) e
-    ∙ bit-sum (spelled n σ) (2 ^ n) (apart n σ) k
-    ∙ ap (λ (b : Bool). bit (spelled n σ) k || b) (bit-pow n k)
-    ∙ either (eqb k n)
-    (λ t.
-    ap₂ _||_ (ap (bit (spelled n σ)) (eqb-true k n t) ∙ bit-above n (spelled n σ) n (spelled-below n σ) (omega arith)) t
-    ∙ sym (ap (λ (i : ℕ). variable σ (suc i)) (eqb-true k n t) ∙ e))
-    (λ t.
-    ap (λ (b : Bool). bit (spelled n σ) k || b) t
-    ∙ or-false (bit (spelled n σ) k)
-    ∙ spelled-line n σ k (omega (arith, eqb-false k n t))))
-    (λ e.
-    let z : spelled n σ + 0 ≡ spelled n σ = omega arith in
-    ap (λ (b : Bool). bit (spelled n σ + cond b (2 ^ n) 0) k) e
-    ∙ ap (λ (x : ℕ). bit x k) z
-    ∙ either (eqb k n)
-    (λ t.
-    ap (bit (spelled n σ)) (eqb-true k n t)
-    ∙ bit-above n (spelled n σ) n (spelled-below n σ) (omega arith)
-    ∙ sym (ap (λ (i : ℕ). variable σ (suc i)) (eqb-true k n t) ∙ e))
-    (λ t. spelled-line n σ k (omega (arith, eqb-false k n t))))
-  where
-    apart : (n : ℕ) (σ : List Bool) → bitAnd (spelled n σ) (2 ^ n) ≡ 0
-    apart n σ =
-        bits-equal _ _ (λ k.
-        bit-and (spelled n σ) (2 ^ n) k
-        ∙ ap (λ (b : Bool). bit (spelled n σ) k && b) (bit-pow n k)
-        ∙ and-apart (bit (spelled n σ) k) (eqb k n) (λ t. ap (bit (spelled n σ)) (eqb-true k n t) ∙ bit-above n (spelled n σ) n (spelled-below n σ) (omega arith))
-        ∙ sym (bit-none k))
+spelled-line n σ k h = ap (λ (x : ℕ). bit x k) (spelled-mask n σ) ∙ mask-bit n _ k ∙ ap (λ (b : Bool). b && variable σ (suc k)) (lt-ltb k n h)
 
 pub reads-inputs : (n : ℕ) (σ : List Bool) → Reads n σ inputOf (spelled n σ)
 reads-inputs n σ = record { named = λ k h. omega arith; read = λ k h. sym (spelled-line n σ k h) }
