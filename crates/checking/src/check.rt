@@ -30,11 +30,7 @@ fn make_call(kind: u64, n: u64, gates: usize, words: &mut [u64]) -> usize
         };
     }
     match crate::reduce::reduce(n, &mut words[..end]) {
-        ReduceAnswer::Reduced {
-            gates: left,
-            pairs: _,
-            merges: _,
-        } => left,
+        ReduceAnswer::Reduced(r) => r.gates,
         ReduceAnswer::Refused(_) => gates,
     }
 }

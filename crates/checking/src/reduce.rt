@@ -24,11 +24,7 @@ pub struct Reduction {
 
 // The same, or a refusal.
 pub enum ReduceAnswer {
-    Reduced {
-        gates: usize,
-        pairs: usize,
-        merges: usize,
-    },
+    Reduced(Reduction),
     Refused(Refusal),
 }
 
@@ -81,13 +77,6 @@ pub fn reduce(n: u64, words: &mut [u64]) -> ReduceAnswer
 {
     match circuit::words::check_cascade(n, words, Gate::MAX_MITER_GATES) {
         CountAnswer::Refused(why) => ReduceAnswer::Refused(why),
-        CountAnswer::Gates(_) => {
-            let r = reduce_gates(words);
-            ReduceAnswer::Reduced {
-                gates: r.gates,
-                pairs: r.pairs,
-                merges: r.merges,
-            }
-        }
+        CountAnswer::Gates(_) => ReduceAnswer::Reduced(reduce_gates(words)),
     }
 }

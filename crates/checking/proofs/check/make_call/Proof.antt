@@ -68,8 +68,8 @@ slice-aggregate-reduce c = let a = c .before .before .before .args in sym (lengt
 reduce-requires : tie.Need-reduce-requires
 reduce-requires c κs = search needs
 
-enum-known-left-2 : tie.Need-enum-known-left-2
-enum-known-left-2 c = search needs
+enum-known-r : tie.Need-enum-known-r
+enum-known-r c = search needs
 
 enum-told-3 : tie.Need-enum-told-3
 enum-told-3 c = search needs
@@ -82,7 +82,7 @@ returns-4 c =
     let w = c .before in
     let s = w .before .before .before .before in
     let y = s .reduce .ensures in
-    reduce-called _ _ _ _ _ (omega arith) (s .reduce .kept .1 .0) (s .before .before .if1 .left) _ _ (sym (ap ofReduce (w .left2 .given .1)) ∙ y .answer) (y .buffer) refl
+    reduce-called _ _ _ _ _ (omega arith) (s .reduce .kept .1 .0) (s .before .before .if1 .left) _ _ (sym (ap ofReduce (w .r .given .1)) ∙ y .answer) (y .buffer) refl
 
 same-length-5 : tie.Need-same-length-5
 same-length-5 c = search needs
@@ -113,7 +113,7 @@ make-call-spec =
     slice-relend-prefix-reduce
     slice-aggregate-reduce
     reduce-requires
-    enum-known-left-2
+    enum-known-r
     enum-told-3
     same-length-4
     returns-4
