@@ -19,12 +19,7 @@ fn make_call(kind: u64, n: u64, gates: usize, words: &mut [u64]) -> usize
     let end = Gate::WORDS * gates;
     if kind == 0 {
         return match crate::step::step(n, &mut words[..end]) {
-            StepAnswer::Found {
-                i: _,
-                j: _,
-                kind: _,
-                gates: left,
-            } => left,
+            StepAnswer::Found(s) => s.gates,
             StepAnswer::Nothing => gates,
             StepAnswer::Refused(_) => gates,
         };

@@ -1,7 +1,7 @@
 // The full reduction: steps until none.
 
 use crate::step::Kind;
-use crate::step::Stepped;
+use crate::step::Search;
 use circuit::gate::Gate;
 use circuit::refusal::Refusal;
 use circuit::words::CountAnswer;
@@ -39,22 +39,18 @@ fn reduce_gates(words: &mut [u64]) -> Reduction
     let mut merges = 0;
     loop {
         let end = Gate::WORDS * gates;
-        let found = crate::step::search_gates(&words[0..end]);
-        match crate::step::make_step(&mut words[0..end], found) {
-            Stepped::Nothing => {
+        match crate::step::search_gates(&words[0..end]) {
+            Search::Nothing => {
                 return Reduction {
                     gates,
                     pairs,
                     merges,
                 };
             }
-            Stepped::Found {
-                i: _,
-                j: _,
-                kind,
-                gates: left,
-            } => {
-                gates = left;
+            Search::At { i, j, by } => {
+                let s = crate::step::make_step(&mut words[0..end], i, j, by);
+                gates = s.gates;
+                let kind = s.kind;
                 match kind {
                     Kind::Cancel => {
                         pairs += 1;

@@ -22,8 +22,8 @@ slice-aggregate-step c = let a = c .before .before .before .args in sym (length-
 step-requires : tie.Need-step-requires
 step-requires c κs = search needs
 
-enum-known-left : tie.Need-enum-known-left
-enum-known-left c = search needs
+enum-known-s : tie.Need-enum-known-s
+enum-known-s c = search needs
 
 enum-told : tie.Need-enum-told
 enum-told c = search needs
@@ -39,7 +39,7 @@ returns c =
     let w = c .before in
     let s = w .before .before .before .before in
     let y = s .step .ensures in
-    step-called _ _ _ _ _ (omega arith) (s .step .kept .1 .0) (s .before .before .if1 .taken) _ _ (sym (ap ofStep (w .left .given .1)) ∙ y .answer) (y .buffer) refl
+    step-called _ _ _ _ _ (omega arith) (s .step .kept .1 .0) (s .before .before .if1 .taken) _ _ (sym (ap ofStep (w .s .given .1)) ∙ y .answer) (y .buffer) refl
 
 same-length-2 : tie.Need-same-length-2
 same-length-2 c = search needs
@@ -101,7 +101,7 @@ make-call-spec =
     slice-relend-prefix-step
     slice-aggregate-step
     step-requires
-    enum-known-left
+    enum-known-s
     enum-told
     enum-told-2
     same-length
