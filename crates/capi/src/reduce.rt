@@ -23,16 +23,12 @@ pub extern "C" fn cascade_reduce(lines: u64, words: &mut [u64]) -> CascadeReduce
 {
     let before = (words.len() / Gate::WORDS) as u64;
     match checking::reduce::reduce(lines, words) {
-        ReduceAnswer::Reduced {
-            gates,
-            pairs,
-            merges,
-        } => CascadeReduceAnswer {
+        ReduceAnswer::Reduced(r) => CascadeReduceAnswer {
             number: 0,
             place: 0,
-            gates: gates as u64,
-            pairs: pairs as u64,
-            merges: merges as u64,
+            gates: r.gates as u64,
+            pairs: r.pairs as u64,
+            merges: r.merges as u64,
         },
         ReduceAnswer::Refused(why) => CascadeReduceAnswer {
             number: why.number,

@@ -40,15 +40,18 @@ pub extern "C" fn cascade_step(lines: u64, words: &mut [u64]) -> CascadeStepAnsw
 {
     let before = (words.len() / Gate::WORDS) as u64;
     match checking::step::step(lines, words) {
-        StepAnswer::Found { i, j, kind, gates } => CascadeStepAnswer {
-            number: 0,
-            place: 0,
-            found: 1,
-            i: i as u64,
-            j: j as u64,
-            kind: kind_number(kind),
-            gates: gates as u64,
-        },
+        StepAnswer::Found(s) => {
+            let kind = s.kind;
+            CascadeStepAnswer {
+                number: 0,
+                place: 0,
+                found: 1,
+                i: s.i as u64,
+                j: s.j as u64,
+                kind: kind_number(kind),
+                gates: s.gates as u64,
+            }
+        }
         StepAnswer::Nothing => CascadeStepAnswer {
             number: 0,
             place: 0,

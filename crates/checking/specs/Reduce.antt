@@ -55,5 +55,5 @@ abbrev pub ofReduction : Reduction → Reduced ℕ
 ofReduction r = record { left = r .gates; pairs = r .pairs; merges = r .merges }
 
 abbrev pub ofReduce : ReduceAnswer → Outcome (Reduced ℕ)
-ofReduce (answer.Reduced gates pairs merges) = served (record { left = gates; pairs = pairs; merges = merges })
+ofReduce (answer.Reduced r) = served (ofReduction r)
 ofReduce (answer.Refused r) = refused (r .number) (r .place)

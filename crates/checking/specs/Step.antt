@@ -7,6 +7,7 @@ use Rattle.circuit.specs.declared.gate.Gate.{Gate}
 use Rattle.circuit.specs.Gate.{maxMiterGates}
 use Rattle.circuit.specs.Outcome.{Outcome, served, refused, andThen}
 use Rattle.circuit.specs.Words.{gatesOf, wordsOf, checkOutcome}
+use Rattle.checking.specs.declared.step.Stepped.{Stepped}
 use Rattle.checking.specs.declared.step.StepAnswer.{StepAnswer}
 use Rattle.checking.specs.declared.step.StepAnswer.the-variants as answer
 use Rattle.checking.specs.Match.{mayPass, Kind, Match, Compared, apart, matched, matchOf, kindOf, remaining, ofKind}
@@ -85,8 +86,11 @@ servedWords (refused number place) after ws = ws
 unfoldable pub stepBuffer : ℕ → List ℕ → List ℕ
 stepBuffer n ws = servedWords (stepOutcome n ws) (stepWords (stepGates (gatesOf ws)) ws) ws
 
--- the answer in document 01's values
+-- the answers in document 01's values
+abbrev pub ofStepped : Stepped → Step ℕ
+ofStepped s = found (s .i) (s .j) (ofKind (s .kind)) (s .gates)
+
 abbrev pub ofStep : StepAnswer → Outcome (Step ℕ)
-ofStep (answer.Found i j k gates) = served (found i j (ofKind k) gates)
+ofStep (answer.Found s) = served (ofStepped s)
 ofStep answer.Nothing = served none
 ofStep (answer.Refused r) = refused (r .number) (r .place)

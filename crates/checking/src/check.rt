@@ -19,22 +19,13 @@ fn make_call(kind: u64, n: u64, gates: usize, words: &mut [u64]) -> usize
     let end = Gate::WORDS * gates;
     if kind == 0 {
         return match crate::step::step(n, &mut words[..end]) {
-            StepAnswer::Found {
-                i: _,
-                j: _,
-                kind: _,
-                gates: left,
-            } => left,
+            StepAnswer::Found(s) => s.gates,
             StepAnswer::Nothing => gates,
             StepAnswer::Refused(_) => gates,
         };
     }
     match crate::reduce::reduce(n, &mut words[..end]) {
-        ReduceAnswer::Reduced {
-            gates: left,
-            pairs: _,
-            merges: _,
-        } => left,
+        ReduceAnswer::Reduced(r) => r.gates,
         ReduceAnswer::Refused(_) => gates,
     }
 }

@@ -1,7 +1,7 @@
 // The full reduction: steps until none.
 
 use crate::step::Kind;
-use crate::step::Stepped;
+use crate::step::Search;
 use circuit::gate::Gate;
 use circuit::refusal::Refusal;
 use circuit::words::CountAnswer;
@@ -24,11 +24,7 @@ pub struct Reduction {
 
 // The same, or a refusal.
 pub enum ReduceAnswer {
-    Reduced {
-        gates: usize,
-        pairs: usize,
-        merges: usize,
-    },
+    Reduced(Reduction),
     Refused(Refusal),
 }
 
@@ -43,22 +39,18 @@ fn reduce_gates(words: &mut [u64]) -> Reduction
     let mut merges = 0;
     loop {
         let end = Gate::WORDS * gates;
-        let found = crate::step::search_gates(&words[0..end]);
-        match crate::step::make_step(&mut words[0..end], found) {
-            Stepped::Nothing => {
+        match crate::step::search_gates(&words[0..end]) {
+            Search::Nothing => {
                 return Reduction {
                     gates,
                     pairs,
                     merges,
                 };
             }
-            Stepped::Found {
-                i: _,
-                j: _,
-                kind,
-                gates: left,
-            } => {
-                gates = left;
+            Search::At { i, j, by } => {
+                let s = crate::step::make_step(&mut words[0..end], i, j, by);
+                gates = s.gates;
+                let kind = s.kind;
                 match kind {
                     Kind::Cancel => {
                         pairs += 1;
@@ -81,13 +73,6 @@ pub fn reduce(n: u64, words: &mut [u64]) -> ReduceAnswer
 {
     match circuit::words::check_cascade(n, words, Gate::MAX_MITER_GATES) {
         CountAnswer::Refused(why) => ReduceAnswer::Refused(why),
-        CountAnswer::Gates(_) => {
-            let r = reduce_gates(words);
-            ReduceAnswer::Reduced {
-                gates: r.gates,
-                pairs: r.pairs,
-                merges: r.merges,
-            }
-        }
+        CountAnswer::Gates(_) => ReduceAnswer::Reduced(reduce_gates(words)),
     }
 }

@@ -14,10 +14,9 @@ ghost use Rattle.bits.specs.Lists.{over};
 ghost use Rattle.circuit.specs.Outcome.{Yields};
 ghost use Rattle.circuit.specs.Gate.{maxLines};
 ghost use Rattle.circuit.specs.Words.{gatesOf, gateAt, allValid};
-ghost use Rattle.checking.specs.Match.{mayPass, matchOf};
-ghost use Rattle.checking.specs.Step.{scanFrom, searchFrom, replaced, filled, stepGates, withCount, stepWords, stepOutcome, stepBuffer, ofStep};
-ghost use Rattle.checking.specs.private.StepCode.{ofScan, ofSearch, ofStepped};
-ghost use Rattle.checking.specs.Match.{ofVerdict};
+ghost use Rattle.checking.specs.Match.{mayPass, matchOf, ofVerdict};
+ghost use Rattle.checking.specs.Step.{scanFrom, searchFrom, replaced, filled, stepGates, withCount, stepWords, stepOutcome, stepBuffer, ofStepped, ofStep};
+ghost use Rattle.checking.specs.private.StepCode.{ofSearch, fromGate, FoundAt};
 
 // Which match it was (01: pair, drop, turn).
 pub enum Kind {
@@ -39,37 +38,23 @@ pub enum Verdict {
     Matched(Match),
 }
 
-// What a scan from one gate on finds: the place of the gate that it matches.
-pub enum Scan {
-    At { j: usize, by: Match },
-    Nothing,
-}
-
-// What the search finds: the places of two gates that match.
+// The places of two gates that match, and the match; or nothing.
 pub enum Search {
     At { i: usize, j: usize, by: Match },
     Nothing,
 }
 
-// What a step on gates did: the places, the match and the number of gates left; or nothing.
-pub enum Stepped {
-    Found {
-        i: usize,
-        j: usize,
-        kind: Kind,
-        gates: usize,
-    },
-    Nothing,
+// What a step did: the places, which match it was and the number of gates left.
+pub struct Stepped {
+    pub i: usize,
+    pub j: usize,
+    pub kind: Kind,
+    pub gates: usize,
 }
 
-// What a step on a caller's words did, or a refusal.
+// The same, or nothing, or a refusal.
 pub enum StepAnswer {
-    Found {
-        i: usize,
-        j: usize,
-        kind: Kind,
-        gates: usize,
-    },
+    Found(Stepped),
     Nothing,
     Refused(Refusal),
 }
@@ -133,10 +118,10 @@ pub fn match_gates(g: Gate, h: Gate) -> Verdict
 }
 
 // The first gate after gate i that it matches, where it may pass those between.
-fn scan_after(words: &[u64], i: usize) -> Scan
+fn scan_after(words: &[u64], i: usize) -> Search
     requires { ⌜ i < length (now words) / 3 ⌝ }
     requires { ⌜ allValid maxLines (gatesOf (now words)) ≡ true ⌝ }
-    ensures { λ r. ⌜ ofScan r ≡ scanFrom (i + 1) (gateAt (now (words .entry)) i) (gatesOf (drop (3 * (i + 1)) (now (words .entry)))) ⌝ }
+    ensures { λ r. ⌜ ofSearch r ≡ fromGate i (scanFrom (i + 1) (gateAt (now (words .entry)) i) (gatesOf (drop (3 * (i + 1)) (now (words .entry))))) ⌝ }
 {
     let gates = words.len() / Gate::WORDS;
     let g = circuit::words::gate_at(words, i);
@@ -144,16 +129,16 @@ fn scan_after(words: &[u64], i: usize) -> Scan
     while j < gates {
         let h = circuit::words::gate_at(words, j);
         match match_gates(g, h) {
-            Verdict::Matched(by) => return Scan::At { j, by },
+            Verdict::Matched(by) => return Search::At { i, j, by },
             Verdict::Apart => {
                 if !may_pass(g, h) {
-                    return Scan::Nothing;
+                    return Search::Nothing;
                 }
             }
         }
         j += 1;
     }
-    Scan::Nothing
+    Search::Nothing
 }
 
 // The lowest i, then the lowest j above it, of two gates that match.
@@ -165,8 +150,8 @@ pub(crate) fn search_gates(words: &[u64]) -> Search
     let mut i = 0;
     while i < gates {
         match scan_after(words, i) {
-            Scan::At { j, by } => return Search::At { i, j, by },
-            Scan::Nothing => {}
+            Search::At { i: _, j, by } => return Search::At { i, j, by },
+            Search::Nothing => {}
         }
         i += 1;
     }
@@ -233,44 +218,41 @@ fn merge_pair(words: &mut [u64], i: usize, j: usize, r: Gate)
     close_gap(words, Gate::WORDS * i, Gate::WORDS);
 }
 
-// Makes a step on the words of gates, by what the search found in them.
-pub(crate) fn make_step(words: &mut [u64], found: Search) -> Stepped
+// Makes the step on the words of gates that the search found in them.
+pub(crate) fn make_step(words: &mut [u64], i: usize, j: usize, by: Match) -> Stepped
     requires { ⌜ length (now words) % 3 ≡ 0 ⌝ }
-    requires { ⌜ ofSearch found ≡ searchFrom 0 (gatesOf (now words)) ⌝ }
+    requires { ⌜ FoundAt (gatesOf (now words)) i j by ⌝ }
     ensures { λ r. ⌜ Yields (ofStepped r) (now (words .exit)) (withCount (stepGates (gatesOf (now (words .entry))))) (stepWords (stepGates (gatesOf (now (words .entry)))) (now (words .entry))) ⌝ }
 {
     let gates = words.len() / Gate::WORDS;
-    match found {
-        Search::Nothing => Stepped::Nothing,
-        Search::At { i, j, by } => match by {
-            Match::Cancel => {
-                remove_pair(words, i, j);
-                Stepped::Found {
-                    i,
-                    j,
-                    kind: Kind::Cancel,
-                    gates: gates - 2,
-                }
+    match by {
+        Match::Cancel => {
+            remove_pair(words, i, j);
+            Stepped {
+                i,
+                j,
+                kind: Kind::Cancel,
+                gates: gates - 2,
             }
-            Match::RemoveControl(r) => {
-                merge_pair(words, i, j, r);
-                Stepped::Found {
-                    i,
-                    j,
-                    kind: Kind::RemoveControl,
-                    gates: gates - 1,
-                }
+        }
+        Match::RemoveControl(r) => {
+            merge_pair(words, i, j, r);
+            Stepped {
+                i,
+                j,
+                kind: Kind::RemoveControl,
+                gates: gates - 1,
             }
-            Match::InvertControl(r) => {
-                merge_pair(words, i, j, r);
-                Stepped::Found {
-                    i,
-                    j,
-                    kind: Kind::InvertControl,
-                    gates: gates - 1,
-                }
+        }
+        Match::InvertControl(r) => {
+            merge_pair(words, i, j, r);
+            Stepped {
+                i,
+                j,
+                kind: Kind::InvertControl,
+                gates: gates - 1,
             }
-        },
+        }
     }
 }
 
@@ -280,12 +262,9 @@ pub fn step(n: u64, words: &mut [u64]) -> StepAnswer
 {
     match circuit::words::check_cascade(n, words, Gate::MAX_MITER_GATES) {
         CountAnswer::Refused(why) => StepAnswer::Refused(why),
-        CountAnswer::Gates(_) => {
-            let found = search_gates(words);
-            match make_step(words, found) {
-                Stepped::Nothing => StepAnswer::Nothing,
-                Stepped::Found { i, j, kind, gates } => StepAnswer::Found { i, j, kind, gates },
-            }
-        }
+        CountAnswer::Gates(_) => match search_gates(words) {
+            Search::Nothing => StepAnswer::Nothing,
+            Search::At { i, j, by } => StepAnswer::Found(make_step(words, i, j, by)),
+        },
     }
 }

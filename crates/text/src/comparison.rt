@@ -33,11 +33,7 @@ fn reduce_gates(n: u64, gates: usize, room: &mut [u64]) -> usize
 {
     let end = Gate::WORDS * gates;
     match checking::reduce::reduce(n, &mut room[..end]) {
-        ReduceAnswer::Reduced {
-            gates: left,
-            pairs: _,
-            merges: _,
-        } => left,
+        ReduceAnswer::Reduced(r) => r.gates,
         ReduceAnswer::Refused(_) => gates,
     }
 }

@@ -1,22 +1,22 @@
--- For the contracts of the private functions of a step: their answers in the words of `Match` and `Step`.
+-- For the contracts of the private functions of a step: what a search finds, in the words of `Match` and `Step`.
+use mathlib.Core.Path.{_≡_}
+use mathlib.Core.List.{List}
 use Prim.Native.Nat.{ℕ}
-use Rattle.checking.specs.declared.step.Scan as code-scan
-use Rattle.checking.specs.declared.step.Scan.the-variants as scan
-use Rattle.checking.specs.declared.step.Search as code-search
+use Rattle.circuit.specs.declared.gate.Gate.{Gate}
+use Rattle.checking.specs.declared.step.Match as declared-match
+use Rattle.checking.specs.declared.step.Search as declared-search
 use Rattle.checking.specs.declared.step.Search.the-variants as search
-use Rattle.checking.specs.declared.step.Stepped.{Stepped}
-use Rattle.checking.specs.declared.step.Stepped.the-variants as stepped
-use Rattle.checking.specs.Match.{ofKind, ofMatch}
-use Rattle.checking.specs.Step.{Scan, Search, Step, found, none}
+use Rattle.checking.specs.Match.{ofMatch}
+use Rattle.checking.specs.Step.{Scan, Search, scanned, searchFrom}
 
-abbrev pub ofScan : code-scan.Scan → Scan
-ofScan (scan.At j m) = Scan.at j (ofMatch m)
-ofScan scan.Nothing = Scan.nothing
-
-abbrev pub ofSearch : code-search.Search → Search
+abbrev pub ofSearch : declared-search.Search → Search
 ofSearch (search.At i j m) = Search.at i j (ofMatch m)
 ofSearch search.Nothing = Search.nothing
 
-abbrev pub ofStepped : Stepped → Step ℕ
-ofStepped (stepped.Found i j k gates) = found i j (ofKind k) gates
-ofStepped stepped.Nothing = none
+-- what a scan from gate i on finds, as what a search finds
+abbrev pub fromGate : ℕ → Scan → Search
+fromGate i s = scanned s i Search.nothing
+
+-- the search finds gates i and j
+abbrev pub FoundAt : List Gate → ℕ → ℕ → declared-match.Match → Type 0
+FoundAt gs i j m = searchFrom 0 gs ≡ Search.at i j (ofMatch m)

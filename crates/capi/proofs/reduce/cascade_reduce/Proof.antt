@@ -9,8 +9,8 @@ use Rattle.capi.proofs.reduce.cascade_reduce.Tie as tie
 reduce-requires : tie.Need-reduce-requires
 reduce-requires c κs = search needs
 
-enum-known-gates : tie.Need-enum-known-gates
-enum-known-gates c = search needs
+enum-known-r : tie.Need-enum-known-r
+enum-known-r c = search needs
 
 enum-known-why : tie.Need-enum-known-why
 enum-known-why c = search needs
@@ -22,7 +22,7 @@ returns : tie.Need-returns
 returns c =
     let f = c .before in
     let y = f .before .before .before .before .reduce .ensures in
-    record { answer = ap (reduceAnswer _) (sym (ap ofReduce (f .gates .given .1)) ∙ y .answer); buffer = y .buffer }
+    record { answer = ap (reduceAnswer _) (sym (ap ofReduce (f .r .given .1)) ∙ y .answer); buffer = y .buffer }
 
 same-length-2 : tie.Need-same-length-2
 same-length-2 c = search needs
@@ -38,7 +38,7 @@ cascade-reduce-spec =
     tie.close
     (tie.spec
     reduce-requires
-    enum-known-gates
+    enum-known-r
     enum-known-why
     same-length
     returns

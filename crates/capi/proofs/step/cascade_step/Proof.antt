@@ -11,8 +11,8 @@ use Rattle.capi.proofs.step.cascade_step.Tie as tie
 step-requires : tie.Need-step-requires
 step-requires c κs = search needs
 
-enum-known-i : tie.Need-enum-known-i
-enum-known-i c = search needs
+enum-known-s : tie.Need-enum-known-s
+enum-known-s c = search needs
 
 kind-number-requires : tie.Need-kind-number-requires
 kind-number-requires c κs = search needs
@@ -29,10 +29,10 @@ same-length c = search needs
 returns : tie.Need-returns
 returns c =
     let f = c .before .before in
-    let g = f .i .given .0 in
+    let g = f .s .given .0 .0 in
     let y = f .before .before .before .before .step .ensures in
-    let answer : ℕ → CascadeStepAnswer = λ k. record { number = 0; place = 0; found = 1; i = g .0; j = g .1 .0; kind = k; gates = g .1 .1 .1 .0 } in
-    record { answer = ap answer (c .kind-number .ensures) ∙ ap (stepAnswer _) (sym (ap ofStep (f .i .given .1)) ∙ y .answer); buffer = y .buffer }
+    let answer : ℕ → CascadeStepAnswer = λ k. record { number = 0; place = 0; found = 1; i = g .i; j = g .j; kind = k; gates = g .gates } in
+    record { answer = ap answer (c .kind-number .ensures) ∙ ap (stepAnswer _) (sym (ap ofStep (f .s .given .1)) ∙ y .answer); buffer = y .buffer }
 
 same-length-2 : tie.Need-same-length-2
 same-length-2 c = search needs
@@ -56,7 +56,7 @@ cascade-step-spec =
     tie.close
     (tie.spec
     step-requires
-    enum-known-i
+    enum-known-s
     kind-number-requires
     enum-told
     enum-known-why

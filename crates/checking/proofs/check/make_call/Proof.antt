@@ -22,8 +22,8 @@ slice-aggregate-step c = let a = c .before .before .before .args in sym (length-
 step-requires : tie.Need-step-requires
 step-requires c κs = search needs
 
-enum-known-left : tie.Need-enum-known-left
-enum-known-left c = search needs
+enum-known-s : tie.Need-enum-known-s
+enum-known-s c = search needs
 
 enum-told : tie.Need-enum-told
 enum-told c = search needs
@@ -39,7 +39,7 @@ returns c =
     let w = c .before in
     let s = w .before .before .before .before in
     let y = s .step .ensures in
-    step-called _ _ _ _ _ (omega arith) (s .step .kept .1 .0) (s .before .before .if1 .taken) _ _ (sym (ap ofStep (w .left .given .1)) ∙ y .answer) (y .buffer) refl
+    step-called _ _ _ _ _ (omega arith) (s .step .kept .1 .0) (s .before .before .if1 .taken) _ _ (sym (ap ofStep (w .s .given .1)) ∙ y .answer) (y .buffer) refl
 
 same-length-2 : tie.Need-same-length-2
 same-length-2 c = search needs
@@ -68,8 +68,8 @@ slice-aggregate-reduce c = let a = c .before .before .before .args in sym (lengt
 reduce-requires : tie.Need-reduce-requires
 reduce-requires c κs = search needs
 
-enum-known-left-2 : tie.Need-enum-known-left-2
-enum-known-left-2 c = search needs
+enum-known-r : tie.Need-enum-known-r
+enum-known-r c = search needs
 
 enum-told-3 : tie.Need-enum-told-3
 enum-told-3 c = search needs
@@ -82,7 +82,7 @@ returns-4 c =
     let w = c .before in
     let s = w .before .before .before .before in
     let y = s .reduce .ensures in
-    reduce-called _ _ _ _ _ (omega arith) (s .reduce .kept .1 .0) (s .before .before .if1 .left) _ _ (sym (ap ofReduce (w .left2 .given .1)) ∙ y .answer) (y .buffer) refl
+    reduce-called _ _ _ _ _ (omega arith) (s .reduce .kept .1 .0) (s .before .before .if1 .left) _ _ (sym (ap ofReduce (w .r .given .1)) ∙ y .answer) (y .buffer) refl
 
 same-length-5 : tie.Need-same-length-5
 same-length-5 c = search needs
@@ -101,7 +101,7 @@ make-call-spec =
     slice-relend-prefix-step
     slice-aggregate-step
     step-requires
-    enum-known-left
+    enum-known-s
     enum-told
     enum-told-2
     same-length
@@ -113,7 +113,7 @@ make-call-spec =
     slice-relend-prefix-reduce
     slice-aggregate-reduce
     reduce-requires
-    enum-known-left-2
+    enum-known-r
     enum-told-3
     same-length-4
     returns-4

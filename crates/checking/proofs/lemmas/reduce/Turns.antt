@@ -13,7 +13,7 @@ use Rattle.circuit.specs.Gate.{maxLines}
 use Rattle.circuit.specs.Words.{gatesOf, wordsOf, allValid}
 use Rattle.circuit.proofs.Promises.{gates-length, gates-words, words-gates, words-length}
 use Rattle.checking.specs.Match.{Kind}
-use Rattle.checking.specs.Step.{Step, found, none, stepGates, withCount, stepWords, filled}
+use Rattle.checking.specs.Step.{Search, searchFrom, searched, Step, found, none, stepGates, withCount, stepWords, filled}
 use Rattle.checking.specs.Reduce.{Reduced, tallied, reduceGates, numbered}
 use Rattle.checking.specs.StepLaws.{taken}
 use Rattle.checking.proofs.lemmas.step.Moving.{filled-length}
@@ -114,36 +114,29 @@ module _ (first words : List ℕ) (gates pairs merges : ℕ) (s : Standing first
   pub lent-whole : length lent % 3 ≡ 0
   lent-whole = let e : length lent ≡ 3 * gates = ap length lent-words ∙ words-length (s .now) ∙ ap (λ (k : ℕ). 3 * k) (s .size) in omega arith
 
+  -- none: the reduction has ended
+  ends : searchFrom 0 (gatesOf lent) ≡ Search.nothing → stepGates (s .now) ≡ none
+  unfolding stepGates
+  ends e = ap stepGates (sym lent-gates) ∙ ap (λ (x : Search). searched x (gatesOf lent)) e
+
+  pub ended : searchFrom 0 (gatesOf lent) ≡ Search.nothing
+      → Yields (record { left = gates; pairs = pairs; merges = merges }) words (numbered (reduceGates (gatesOf first)))
+      (filled (reduceGates (gatesOf first) .left) (length first))
+  ended e =
+      let d : reduceGates (gatesOf first) ≡ record { left = s .now; pairs = 0 + pairs; merges = 0 + merges } = s .sum ∙ ap (plus pairs merges) (reduce-none (s .now) (ends e)) in
+      let a : pairs ≡ 0 + pairs = omega arith in
+      let b : merges ≡ 0 + merges = omega arith in
+      record {
+        answer = ap₂ (λ (x y : ℕ). record { left = gates; pairs = x; merges = y }) a b ∙ ap (λ (x : ℕ). record { left = x; pairs = 0 + pairs; merges = 0 + merges }) (sym (s .size)) ∙ sym (ap numbered d);
+        buffer = s .held ∙ sym (ap (λ (x : Reduced (List Gate)). filled (x .left) (length first)) d);
+      }
+
   module _ (r : Step ℕ) (last : List ℕ) (y : Yields r last (withCount (stepGates (gatesOf lent))) (stepWords (stepGates (gatesOf lent)) lent)) where
     told : withCount (stepGates (s .now)) ≡ r
     told = sym (y .answer ∙ ap (λ (g : List Gate). withCount (stepGates g)) lent-gates)
 
     left : last ≡ stepWords (stepGates (s .now)) lent
     left = y .buffer ∙ ap (λ (g : List Gate). stepWords (stepGates g) lent) lent-gates
-
-    -- none: the reduction has ended
-    ends : r ≡ none → stepGates (s .now) ≡ none
-    ends e = go (stepGates (s .now)) refl
-      where
-        go : (t : Step (List Gate)) → stepGates (s .now) ≡ t → t ≡ none
-        go (found i j k hs) q = let c : withCount (found i j k hs) ≡ none = sym (ap withCount q) ∙ told ∙ e in let z : _≡_ {A = ℕ} 0 1 = cc in absurd (omega arith)
-        go none q = refl
-
-    pub ended : r ≡ none
-        → Yields (record { left = gates; pairs = pairs; merges = merges }) (putMid 0 (3 * gates - 0) words last) (numbered (reduceGates (gatesOf first)))
-        (filled (reduceGates (gatesOf first) .left) (length first))
-    ended e =
-        let n = ends e in
-        let d : reduceGates (gatesOf first) ≡ record { left = s .now; pairs = 0 + pairs; merges = 0 + merges } = s .sum ∙ ap (plus pairs merges) (reduce-none (s .now) n) in
-        let a : pairs ≡ 0 + pairs = omega arith in
-        let b : merges ≡ 0 + merges = omega arith in
-        let w : putMid 0 (3 * gates - 0) words last ≡ words =
-        ap (λ (l : List ℕ). l ++ drop (3 * gates - 0) words) (left ∙ ap (λ (t : Step (List Gate)). stepWords t lent) n)
-        ∙ lib.ListN.take-append-drop (3 * gates - 0) words in
-        record {
-          answer = ap₂ (λ (x y : ℕ). record { left = gates; pairs = x; merges = y }) a b ∙ ap (λ (x : ℕ). record { left = x; pairs = 0 + pairs; merges = 0 + merges }) (sym (s .size)) ∙ sym (ap numbered d);
-          buffer = w ∙ s .held ∙ sym (ap (λ (x : Reduced (List Gate)). filled (x .left) (length first)) d);
-        }
 
     -- found: one turn more
     finds : (i j : ℕ) (k : Kind) (n : ℕ) → r ≡ found i j k n → (hs : List Gate) × (stepGates (s .now) ≡ found i j k hs) × (length hs ≡ n)

@@ -1,14 +1,16 @@
 -- The laws of the search over words: one gate at a time. Assumes nothing.
-use mathlib.Core.Path.{_≡_, sym, ap, _∙_}
+use mathlib.Core.Path.{_≡_, refl, sym, ap, ap₂, _∙_}
 use mathlib.Core.Bool.{Bool, true, false, cond}
 use mathlib.Core.List.{List, _∷_}
 use Prim.Native.Nat.{ℕ, _+_, _*_, _/_, _≤_, _<_}
+use native.Mathlib.Omega.{arith}
 use lib.ListN.{length, drop}
 use Rattle.circuit.specs.declared.gate.Gate.{Gate}
 use Rattle.circuit.specs.Words.{gatesOf, gateAt}
 use Rattle.circuit.proofs.Promises.{gates-next, gates-end}
 use Rattle.checking.specs.Match.{mayPass, Match, Compared, apart, matched, matchOf}
 use Rattle.checking.specs.Step.{Scan, Search, judged, scanFrom, scanned, searchFrom}
+use Rattle.checking.specs.private.StepCode.{fromGate}
 
 -- ---- the scan from one gate on
 
@@ -58,15 +60,27 @@ module _ (i : ℕ) (g : Gate) (gs : List Gate) where
   unfolding searchFrom
   search-on e = ap (λ (s : Scan). scanned s i (searchFrom (i + 1) gs)) e
 
+-- what a scan found, from what it tells as a search
+scan-found : (i k j : ℕ) (m : Match) (s : Scan) → fromGate i s ≡ Search.at k j m → s ≡ Scan.at j m
+scan-found i k j m (Scan.at l o) e =
+    let x : l ≡ j = cc in
+    let y : o ≡ m = cc in
+    ap₂ Scan.at x y
+scan-found i k j m Scan.nothing e = let z : _≡_ {A = ℕ} 0 1 = cc in absurd (omega arith)
+
+scan-nothing : (i : ℕ) (s : Scan) → fromGate i s ≡ Search.nothing → s ≡ Scan.nothing
+scan-nothing i (Scan.at l o) e = let z : _≡_ {A = ℕ} 0 1 = cc in absurd (omega arith)
+scan-nothing i Scan.nothing e = refl
+
 module _ (ws : List ℕ) (i : ℕ) (inside : i < length ws / 3) where
   abbrev rest : List Gate
   rest = gatesOf (drop (3 * (i + 1)) ws)
 
-  pub words-found : (j : ℕ) (m : Match) → scanFrom (i + 1) (gateAt ws i) rest ≡ Scan.at j m → searchFrom i (gatesOf (drop (3 * i) ws)) ≡ Search.at i j m
-  words-found j m e = ap (searchFrom i) (gates-next ws i inside) ∙ search-hit i _ _ j m e
+  pub words-found : (k j : ℕ) (m : Match) → fromGate i (scanFrom (i + 1) (gateAt ws i) rest) ≡ Search.at k j m → searchFrom i (gatesOf (drop (3 * i) ws)) ≡ Search.at i j m
+  words-found k j m e = ap (searchFrom i) (gates-next ws i inside) ∙ search-hit i _ _ j m (scan-found i k j m _ e)
 
-  pub words-next : scanFrom (i + 1) (gateAt ws i) rest ≡ Scan.nothing → searchFrom i (gatesOf (drop (3 * i) ws)) ≡ searchFrom (i + 1) rest
-  words-next e = ap (searchFrom i) (gates-next ws i inside) ∙ search-on i _ _ e
+  pub words-next : fromGate i (scanFrom (i + 1) (gateAt ws i) rest) ≡ Search.nothing → searchFrom i (gatesOf (drop (3 * i) ws)) ≡ searchFrom (i + 1) rest
+  words-next e = ap (searchFrom i) (gates-next ws i inside) ∙ search-on i _ _ (scan-nothing i _ e)
 
 pub words-none : (ws : List ℕ) (i : ℕ) → length ws / 3 ≤ i → searchFrom i (gatesOf (drop (3 * i) ws)) ≡ Search.nothing
 unfolding searchFrom

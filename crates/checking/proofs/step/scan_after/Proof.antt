@@ -1,14 +1,15 @@
 -- `checking::step::scan_after` meets its contract. The loop's invariant: gate i matches none of the gates passed, so what is left decides. Assumes nothing.
 use mathlib.Core.Path.{_≡_, sym, ap, _∙_}
-use Prim.Native.Nat.{_≤_, _<_, _-_, _*_, _+_}
+use Prim.Native.Nat.{ℕ, _≤_, _<_, _-_, _*_, _+_}
 use native.Mathlib.Omega.{arith}
 use lib.ListN.{drop}
 use borrow.Author.Needs.{needs}
 use borrow.Author.Tests.{not-true, not-false}
 use Rattle.circuit.specs.declared.gate.Gate.{Gate}
 use Rattle.circuit.specs.Words.{gatesOf, gateAt}
-use Rattle.checking.specs.Step.{scanFrom}
+use Rattle.checking.specs.Step.{Scan, scanFrom}
 use Rattle.checking.specs.Match.{ofVerdict}
+use Rattle.checking.specs.private.StepCode.{fromGate}
 use Rattle.checking.proofs.lemmas.step.Relation.{target-low}
 use Rattle.checking.proofs.lemmas.step.Searching.{words-hit, words-stop, words-on, words-end}
 use Rattle.checking.proofs.step.scan_after.Statement.{statement}
@@ -19,6 +20,13 @@ Inv-loop words i gates g j₀ j = (i < j) × (j ≤ gates) × (scanFrom (i + 1) 
 
 abbrev μ-loop : tie.MeasureT-loop
 μ-loop words i gates g j₀ j = gates - j
+
+-- where the function starts, and what a scan from there found
+abbrev start : tie.At-loop Inv-loop μ-loop → tie.Start Inv-loop μ-loop
+start l = l .before .before .before
+
+found : {s t : Scan} (i : ℕ) → s ≡ t → fromGate i t ≡ fromGate i s
+found i e = sym (ap (fromGate i) e)
 
 gate-at-requires : tie.Need-gate-at-requires Inv-loop μ-loop
 gate-at-requires c κs = search needs
@@ -45,7 +53,7 @@ returns c =
     let b = c .before in
     let m = b .before .before in
     let l = m .before .before .before in
-    sym (l .loop .inv .2 ∙ words-hit _ _ _ _ (m .before .before .loop-test .taken) (m .before .gate-at2 .ensures) _ (sym (m .match-gates .ensures) ∙ ap ofVerdict (b .by .given .1)))
+    found (start l .args .i) (l .loop .inv .2 ∙ words-hit _ _ _ _ (m .before .before .loop-test .taken) (m .before .gate-at2 .ensures) _ (sym (m .match-gates .ensures) ∙ ap ofVerdict (b .by .given .1)))
 
 enum-told : tie.Need-enum-told Inv-loop μ-loop
 enum-told c = search needs
@@ -54,7 +62,7 @@ may-pass-requires : tie.Need-may-pass-requires Inv-loop μ-loop
 may-pass-requires c κs =
     let m = c .before .before in
     let l = m .before .before .before in
-    let s = l .before .before .before in
+    let s = start l in
     let ws = s .args .words .now in (
       target-low ws (s .args .i) _ (s .pre .1) (s .pre .0) (l .before .gate-at .ensures),
       target-low ws (l .loop .j) _ (s .pre .1) (m .before .before .loop-test .taken) (m .before .gate-at2 .ensures),
@@ -66,7 +74,7 @@ returns-2 c =
     let t = p .before in
     let m = t .before .before in
     let l = m .before .before .before in
-    sym (l .loop .inv .2
+    found (start l .args .i) (l .loop .inv .2
     ∙ words-stop _ _ _ _ (m .before .before .loop-test .taken) (m .before .gate-at2 .ensures) (sym (m .match-gates .ensures) ∙ ap ofVerdict (t .enum-told .given .1))
     (sym (p .may-pass .ensures) ∙ not-true _ (c .if1 .taken)))
 
@@ -90,7 +98,7 @@ loop-again c =
     )
 
 returns-3 : tie.Need-returns-3 Inv-loop μ-loop
-returns-3 c = sym (c .before .loop .inv .2 ∙ words-end _ _ _ (c .loop-test .left))
+returns-3 c = let l = c .before in found (start l .args .i) (l .loop .inv .2 ∙ words-end _ _ _ (c .loop-test .left))
 
 pub scan-after-spec : {M : Type 1} → statement M
 scan-after-spec =

@@ -6,7 +6,7 @@ use lib.ListN.{drop}
 use borrow.Author.Needs.{needs}
 use Rattle.circuit.specs.Words.{gatesOf}
 use Rattle.checking.specs.Step.{searchFrom}
-use Rattle.checking.specs.private.StepCode.{ofScan}
+use Rattle.checking.specs.private.StepCode.{ofSearch}
 use Rattle.checking.proofs.lemmas.step.Searching.{words-found, words-next, words-none}
 use Rattle.checking.proofs.step.search_gates.Statement.{statement}
 use Rattle.checking.proofs.step.search_gates.Tie as tie
@@ -31,7 +31,7 @@ returns c =
     let b = c .before in
     let s = b .before .before in
     let l = s .before .before in
-    sym (l .loop .inv .1 ∙ words-found _ _ (s .before .loop-test .taken) _ _ (sym (s .scan-after .ensures) ∙ ap ofScan (b .j .given .1)))
+    sym (l .loop .inv .1 ∙ words-found _ _ (s .before .loop-test .taken) _ _ _ (sym (s .scan-after .ensures) ∙ ap ofSearch (b .j .given .1)))
 
 enum-told : tie.Need-enum-told Inv-loop μ-loop
 enum-told c = search needs
@@ -46,7 +46,7 @@ loop-again : tie.Need-loop-again Inv-loop μ-loop
 loop-again c =
     let s = c .before .before in
     let l = s .before .before in
-    (omega arith, l .loop .inv .1 ∙ words-next _ _ (s .before .loop-test .taken) (sym (s .scan-after .ensures) ∙ ap ofScan (c .enum-told .given .1)))
+    (omega arith, l .loop .inv .1 ∙ words-next _ _ (s .before .loop-test .taken) (sym (s .scan-after .ensures) ∙ ap ofSearch (c .enum-told .given .1)))
 
 returns-2 : tie.Need-returns-2 Inv-loop μ-loop
 returns-2 c = sym (c .before .loop .inv .1 ∙ words-none _ _ (c .loop-test .left))

@@ -6,8 +6,8 @@ use Rattle.circuit.specs.Gate.{maxLines, maxMiterGates}
 use Rattle.circuit.specs.Outcome.{served}
 use Rattle.circuit.specs.Words.{ofCount, checkOutcome}
 use Rattle.circuit.proofs.Promises.{check-served, valid-all-more}
-use Rattle.checking.specs.private.StepCode.{ofStepped}
-use Rattle.checking.proofs.lemmas.step.Calls.{step-refused, step-made}
+use Rattle.checking.specs.private.StepCode.{ofSearch}
+use Rattle.checking.proofs.lemmas.step.Calls.{told-none, step-refused, step-made}
 use Rattle.checking.proofs.step.step.Statement.{statement}
 use Rattle.checking.proofs.step.step.Tie as tie
 
@@ -29,17 +29,18 @@ enum-told c = search needs
 search-gates-requires : tie.Need-search-gates-requires
 search-gates-requires c κs = let k = check-served _ _ _ _ (good (c .before)) in valid-all-more _ maxLines _ (k .lines-high) (k .gates)
 
-make-step-requires : tie.Need-make-step-requires
-make-step-requires c κs =
-    let s = c .before in
-    let k = check-served _ _ _ _ (good (s .before .before)) in
-    (omega (arith, k .size), s .search-gates .ensures)
-
 enum-told-2 : tie.Need-enum-told-2
 enum-told-2 c = search needs
 
 enum-known-i : tie.Need-enum-known-i
 enum-known-i c = search needs
+
+make-step-requires : tie.Need-make-step-requires
+make-step-requires c κs =
+    let f = c .before .before in
+    let s = f .before .before in
+    let k = check-served _ _ _ _ (good (s .before .before)) in
+    (omega (arith, k .size), sym (s .search-gates .ensures) ∙ ap ofSearch (f .i .given .1))
 
 same-length : tie.Need-same-length
 same-length c = search needs
@@ -54,19 +55,17 @@ same-length-2 c = search needs
 
 returns-2 : tie.Need-returns-2
 returns-2 c =
-    let s = c .before .before .before .before in
-    let y = s .make-step .ensures in
-    step-made _ _ _ (good (s .before .before .before .before)) _ _ (record { answer = sym (ap ofStepped (c .enum-told2 .given .1)) ∙ y .answer; buffer = y .buffer })
+    let s = c .before .before in
+    step-made _ _ _ (good (s .before .before)) _ _ (told-none _ (sym (s .search-gates .ensures) ∙ ap ofSearch (c .enum-told2 .given .1)))
 
 same-length-3 : tie.Need-same-length-3
 same-length-3 c = search needs
 
 returns-3 : tie.Need-returns-3
 returns-3 c =
-    let f = c .before in
-    let s = f .before .before .before .before in
-    let y = s .make-step .ensures in
-    step-made _ _ _ (good (s .before .before .before .before)) _ _ (record { answer = sym (ap ofStepped (f .i .given .1)) ∙ y .answer; buffer = y .buffer })
+    let m = c .before .before in
+    let s = m .before .before .before .before .before in
+    step-made _ _ _ (good (s .before .before)) _ _ (m .make-step .ensures)
 
 pub step-spec : {M : Type 1} → statement M
 step-spec =
@@ -76,9 +75,9 @@ step-spec =
     enum-known-why
     enum-told
     search-gates-requires
-    make-step-requires
     enum-told-2
     enum-known-i
+    make-step-requires
     same-length
     returns
     same-length-2

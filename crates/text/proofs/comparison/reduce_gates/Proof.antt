@@ -19,8 +19,8 @@ slice-aggregate-reduce c = search needs
 reduce-requires : tie.Need-reduce-requires
 reduce-requires c κs = search needs
 
-enum-known-left : tie.Need-enum-known-left
-enum-known-left c = search needs
+enum-known-r : tie.Need-enum-known-r
+enum-known-r c = search needs
 
 enum-told : tie.Need-enum-told
 enum-told c = search needs
@@ -32,7 +32,7 @@ returns : tie.Need-returns
 returns c =
     let s = c .before .before .before .before .before .before .before .before in
     let r = c .before .before .before .before .before .reduce in
-    left-in _ _ (s .args .room .now) (s .pre) _ _ _ _ (sym (ap ofReduce (c .before .left .given .1)) ∙ r .ensures .answer) (r .ensures .buffer) (r .kept .1 .0)
+    left-in _ _ (s .args .room .now) (s .pre) _ _ _ _ (sym (ap ofReduce (c .before .r .given .1)) ∙ r .ensures .answer) (r .ensures .buffer) (r .kept .1 .0)
 
 same-length-2 : tie.Need-same-length-2
 same-length-2 c = search needs
@@ -51,7 +51,7 @@ reduce-gates-spec =
     slice-relend-prefix-reduce
     slice-aggregate-reduce
     reduce-requires
-    enum-known-left
+    enum-known-r
     enum-told
     same-length
     returns
