@@ -1,7 +1,7 @@
--- The laws of `fold`, of lists in which a number does not stand, of reversed lists, of three elements in a row, and of `over`. Assumes nothing.
+-- The laws of `fold`, of `All`, of lists in which a number does not stand, of reversed lists, of three elements in a row, and of `over`. Assumes nothing.
 use mathlib.Core.Path.{_≡_, refl, sym, ap, ap₂, _∙_}
 use mathlib.Core.Bool.{Bool, true, not, _&&_}
-use mathlib.Core.List.{List, [], _∷_, _++_, reverse, reverse-cons, append-assoc, append-nil}
+use mathlib.Core.List.{List, [], _∷_, _++_, reverse, reverse-cons, append-assoc, append-nil, map}
 use Prim.Native.Nat.{ℕ, suc, _+_, _-_, _≤_, _<_}
 use native.Mathlib.Nat.{le-of-eq, le-of-lt}
 use native.Mathlib.Numerals.{add-one}
@@ -10,7 +10,7 @@ use lib.Dec.{eqb}
 use lib.ListN.{length, take, drop, getD, set, length-append, length-drop}
 use lib.Seq.{take-at, drop-at, drop-drop, take-all, drop-length, drop-cons, set-at, append-snoc, take-suc, length-take-le}
 use borrow.Rule.Slice.PartMut.{putMid, post-is}
-use Rattle.bits.specs.Lists.{fold, over}
+use Rattle.bits.specs.Lists.{fold, All, over}
 use Rattle.bits.proofs.Bools.{and-parts, both}
 
 -- ---- folds
@@ -31,6 +31,22 @@ module _ {A S : Type 0} (act : A → S → S) where
       ∙ fold-append (reverse xs) (x ∷ []) (fold act xs (act x s))
       ∙ ap (act x) (fold-back undo xs (act x s))
       ∙ undo x s
+
+-- ---- a property of every element
+
+module _ {A : Type 0} (P : A → Type 0) where
+  pub all-append : (xs ys : List A) → All P xs → All P ys → All P (xs ++ ys)
+  all-append [] ys a b = b
+  all-append (x ∷ xs) ys a b = (a .0, all-append xs ys (a .1) b)
+
+  -- a property that follows from it, and one of the elements of a mapped list
+  pub all-implies : (Q : A → Type 0) → ((x : A) → P x → Q x) → (xs : List A) → All P xs → All Q xs
+  all-implies Q h [] a = tt
+  all-implies Q h (x ∷ xs) a = (h x (a .0), all-implies Q h xs (a .1))
+
+  pub all-map : {B : Type 0} (Q : B → Type 0) (f : A → B) → ((x : A) → P x → Q (f x)) → (xs : List A) → All P xs → All Q (map f xs)
+  all-map Q f h [] a = tt
+  all-map Q f h (x ∷ xs) a = (h x (a .0), all-map Q f h xs (a .1))
 
 -- ---- a number that does not stand in a list
 

@@ -3,6 +3,7 @@ use mathlib.Core.Path.{_≡_}
 use mathlib.Core.List.{List, [], _∷_}
 use Prim.Native.Nat.{ℕ}
 use lib.IntN.{ℤ}
+use Rattle.bits.specs.Lists.{All}
 use Rattle.circuit.specs.declared.gate.Gate.{Gate}
 use Rattle.checking.specs.declared.clauses.Totals.{Totals}
 use Rattle.checking.specs.Clauses.{Clause, OR, XOR, plus, minus, clausesOf}
@@ -95,8 +96,7 @@ longRow =
 
 -- the sizes and the clauses of every row are those that the definitions give
 abbrev pub RowsHold : List ClauseRow → Type 0
-RowsHold [] = Unit {0}
-RowsHold (r ∷ rs) = ((sizesOf (r .lines) (r .gates) ≡ r .sizes) × (clausesOf (r .lines) (r .gates) ≡ r .clauses)) × RowsHold rs
+RowsHold rs = All (λ (r : ClauseRow). (sizesOf (r .lines) (r .gates) ≡ r .sizes) × (clausesOf (r .lines) (r .gates) ≡ r .clauses)) rs
 
 abbrev pub clauseRows : List ClauseRow
 clauseRows = emptyRow ∷ twoRow ∷ printedRow ∷ notRow ∷ negativeRow ∷ bothRow ∷ longRow ∷ []
@@ -121,8 +121,7 @@ printedWords =
     }
 
 abbrev pub WordsHold : List WordsRow → Type 0
-WordsHold [] = Unit {0}
-WordsHold (r ∷ rs) = (stored (clausesOf (r .lines) (r .gates)) ≡ r .words) × WordsHold rs
+WordsHold rs = All (λ (r : WordsRow). stored (clausesOf (r .lines) (r .gates)) ≡ r .words) rs
 
 abbrev pub wordsRows : List WordsRow
 wordsRows = printedWords ∷ []

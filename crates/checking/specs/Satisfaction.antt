@@ -7,6 +7,7 @@ use Prim.Native.Nat.{ℕ, zero, suc, _+_, _%_, _^_, _≤_}
 use lib.Dec.{eqb, leb}
 use lib.IntN.{ℤ, pos, negsuc}
 use lib.ListN.{length, getD}
+use Rattle.bits.specs.Lists.{All}
 use Rattle.circuit.specs.declared.gate.Gate.{Gate}
 use Rattle.circuit.specs.Run.{Equal, Differs}
 use Rattle.checking.specs.Clauses.{Clause, OR, XOR}
@@ -50,17 +51,18 @@ variableOf (pos v) = v
 variableOf (negsuc i) = suc i
 
 -- every literal is one of a variable from 1 to V
+abbrev pub LiteralWithin : ℕ → ℤ → Type 0
+LiteralWithin v l = (1 ≤ variableOf l) × (variableOf l ≤ v)
+
 abbrev pub LiteralsWithin : ℕ → List ℤ → Type 0
-LiteralsWithin v [] = Unit {0}
-LiteralsWithin v (l ∷ ls) = (1 ≤ variableOf l) × ((variableOf l ≤ v) × LiteralsWithin v ls)
+LiteralsWithin v ls = All (LiteralWithin v) ls
 
 abbrev pub clauseLiterals : Clause → List ℤ
 clauseLiterals (OR ls) = ls
 clauseLiterals (XOR ls) = ls
 
 abbrev pub ClausesWithin : ℕ → List Clause → Type 0
-ClausesWithin v [] = Unit {0}
-ClausesWithin v (c ∷ cs) = LiteralsWithin v (clauseLiterals c) × ClausesWithin v cs
+ClausesWithin v cs = All (λ (c : Clause). LiteralsWithin v (clauseLiterals c)) cs
 
 -- the clauses cs over V variables tell on which states of n lines two cascades differ
 pub record Tells (n variables : ℕ) (cs : List Clause) (a b : List Gate) : Type 0 where

@@ -7,6 +7,7 @@ use Prim.Native.Nat.{ℕ, zero, suc, _<_}
 use lib.Dec.{leb}
 use lib.IntN.{ℤ, pos, negsuc}
 use lib.ListN.{length, take, drop}
+use Rattle.bits.specs.Lists.{All}
 use Rattle.checking.specs.Clauses.{Clause, OR, XOR}
 
 -- 0 for OR or 1 for XOR, the literal count, the literals
@@ -75,5 +76,4 @@ FitsWord (pos v) = v < wordLimit
 FitsWord (negsuc i) = i < wordLimit
 
 abbrev pub AllFit : List ℤ → Type 0
-AllFit [] = Unit {0}
-AllFit (w ∷ ws) = FitsWord w × AllFit ws
+AllFit ws = All FitsWord ws

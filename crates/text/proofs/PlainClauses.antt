@@ -6,11 +6,13 @@ use mathlib.Core.List.{List, [], _∷_, _++_, map}
 use Prim.Native.Nat.{ℕ, _≤_}
 use native.Mathlib.Omega.{arith}
 use lib.IntN.{ℤ, negℤ}
+use Rattle.bits.specs.Lists.{All}
+use Rattle.bits.proofs.Lists.{all-append, all-map}
 use Rattle.circuit.specs.declared.gate.Gate.{Gate}
 use Rattle.checking.specs.Clauses.{Clause, OR, XOR}
 use Rattle.checking.specs.Satisfaction.{value, holds, satisfies, variableOf, LiteralsWithin, clauseLiterals, ClausesWithin, Satisfying, Tells}
-use Rattle.checking.proofs.Promises.{oddTrue, holds-or, holds-xor, value-neg, satisfies-append, within-append, neg-size, satisfies-none, satisfies-next}
-use Rattle.text.specs.Plain.{negations, plainClause, plainClauses, AllOr}
+use Rattle.checking.proofs.Promises.{oddTrue, holds-or, holds-xor, value-neg, satisfies-append, neg-within, satisfies-none, satisfies-next}
+use Rattle.text.specs.Plain.{negations, plainClause, plainClauses, IsOr, AllOr}
 
 -- ---- satisfaction
 
@@ -61,8 +63,8 @@ negated-hold σ m odd (l ∷ ls) w =
     ap (satisfies σ) (map-plus OR (map (λ (k : List ℤ). l ∷ k) p) (map (λ (k : List ℤ). negℤ l ∷ k) q))
     ∙ satisfies-append σ (map OR (map (λ (k : List ℤ). l ∷ k) p)) (map OR (map (λ (k : List ℤ). negℤ l ∷ k) q))
     ∙ ap₂ _&&_
-    (joined σ l p ∙ ap (λ (b : Bool). value σ l || b) (negated-hold σ m odd ls (w .1 .1)))
-    (joined σ (negℤ l) q ∙ ap₂ _||_ (value-neg σ l (w .0)) (negated-hold σ m (not odd) ls (w .1 .1)))
+    (joined σ l p ∙ ap (λ (b : Bool). value σ l || b) (negated-hold σ m odd ls (w .1)))
+    (joined σ (negℤ l) q ∙ ap₂ _||_ (value-neg σ l (w .0 .0)) (negated-hold σ m (not odd) ls (w .1)))
     ∙ step (value σ l) (oddTrue σ ls) odd
 
 xor-false : (b : Bool) → xor false b ≡ b
@@ -89,55 +91,38 @@ plain-satisfied σ m (c ∷ cs) w =
 
 -- ---- the literals are those of the list
 
--- every list of literals is within the variables
-abbrev Within : ℕ → List (List ℤ) → Type 0
-Within m kss = ClausesWithin m (map OR kss)
-
-put-before : (m : ℕ) (l : ℤ) (kss : List (List ℤ)) → 1 ≤ variableOf l → variableOf l ≤ m → Within m kss → Within m (map (λ (k : List ℤ). l ∷ k) kss)
-put-before m l [] a b w = tt
-put-before m l (k ∷ kss) a b w = ((a, (b, w .0)), put-before m l kss a b (w .1))
-
-negated-within : (m : ℕ) (odd : Bool) (ls : List ℤ) → LiteralsWithin m ls → Within m (negations odd ls)
+negated-within : (m : ℕ) (odd : Bool) (ls : List ℤ) → LiteralsWithin m ls → All (LiteralsWithin m) (negations odd ls)
 unfolding negations
 negated-within m true [] w = tt
 negated-within m false [] w = (tt, tt)
 negated-within m odd (l ∷ ls) w =
-    let p : List (List ℤ) = negations odd ls in
-    let q : List (List ℤ) = negations (not odd) ls in
-    let s = neg-size l in
-    mathlib.Core.Path.subst (ClausesWithin m) (sym (map-plus OR (map (λ (k : List ℤ). l ∷ k) p) (map (λ (k : List ℤ). negℤ l ∷ k) q)))
-    (within-append m (map OR (map (λ (k : List ℤ). l ∷ k) p)) (map OR (map (λ (k : List ℤ). negℤ l ∷ k) q))
-    (put-before m l p (w .0) (w .1 .0) (negated-within m odd ls (w .1 .1)))
-    (put-before m (negℤ l) q (omega (arith, s, w .0)) (omega (arith, s, w .1 .0)) (negated-within m (not odd) ls (w .1 .1))))
+    all-append (LiteralsWithin m) (map (λ (k : List ℤ). l ∷ k) (negations odd ls)) (map (λ (k : List ℤ). negℤ l ∷ k) (negations (not odd) ls))
+    (all-map (LiteralsWithin m) (LiteralsWithin m) (λ (k : List ℤ). l ∷ k) (λ k v. (w .0, v)) (negations odd ls) (negated-within m odd ls (w .1)))
+    (all-map (LiteralsWithin m) (LiteralsWithin m) (λ (k : List ℤ). negℤ l ∷ k) (λ k v. (neg-within m l (w .0), v)) (negations (not odd) ls) (negated-within m (not odd) ls (w .1)))
 
 clause-within : (m : ℕ) (c : Clause) → LiteralsWithin m (clauseLiterals c) → ClausesWithin m (plainClause c)
 clause-within m (OR ls) w = (w, tt)
-clause-within m (XOR ls) w = negated-within m false ls w
+clause-within m (XOR ls) w = all-map (LiteralsWithin m) _ OR (λ k v. v) (negations false ls) (negated-within m false ls w)
 
 pub plain-within : (m : ℕ) (cs : List Clause) → ClausesWithin m cs → ClausesWithin m (plainClauses cs)
 unfolding plainClauses
 plain-within m [] w = tt
-plain-within m (c ∷ cs) w = within-append m (plainClause c) (plainClauses cs) (clause-within m c (w .0)) (plain-within m cs (w .1))
+plain-within m (c ∷ cs) w = all-append _ (plainClause c) (plainClauses cs) (clause-within m c (w .0)) (plain-within m cs (w .1))
 
 -- ---- every clause is an OR
 
-or-append : (xs ys : List Clause) → AllOr xs → AllOr ys → AllOr (xs ++ ys)
-or-append [] ys a b = b
-or-append (OR ls ∷ xs) ys a b = or-append xs ys a b
-or-append (XOR ls ∷ xs) ys a b = absurd a
-
 or-map : (kss : List (List ℤ)) → AllOr (map OR kss)
 or-map [] = tt
-or-map (k ∷ kss) = or-map kss
+or-map (k ∷ kss) = (tt, or-map kss)
 
 clause-or : (c : Clause) → AllOr (plainClause c)
-clause-or (OR ls) = tt
+clause-or (OR ls) = (tt, tt)
 clause-or (XOR ls) = or-map (negations false ls)
 
 pub plain-or : (cs : List Clause) → AllOr (plainClauses cs)
 unfolding plainClauses
 plain-or [] = tt
-plain-or (c ∷ cs) = or-append (plainClause c) (plainClauses cs) (clause-or c) (plain-or cs)
+plain-or (c ∷ cs) = all-append IsOr (plainClause c) (plainClauses cs) (clause-or c) (plain-or cs)
 
 -- ---- so they tell the same
 

@@ -213,7 +213,7 @@ literals-back v (l ∷ ls) w =
     ap (λ (t : List ℕ). literalsRead (partedBy blank t)) (body-next l ls)
     ∙ ap literalsRead (parts-cut blank (literalText l) (bodyText ls) (literal-free blank l refl refl))
     ∙ literals-more (literalText l) (partedBy blank (bodyText ls)) (parts-some blank (bodyText ls))
-    ∙ ap₂ (bothRead _∷_) (literal-back l (w .0)) (literals-back v ls (w .1 .1))
+    ∙ ap₂ (bothRead _∷_) (literal-back l (w .0 .0)) (literals-back v ls (w .1))
 
 body-free : (s : ℕ) (ls : List ℤ) → isDigit s ≡ false → eqb minusSign s ≡ false → eqb blank s ≡ false → free s (bodyText ls) ≡ true
 unfolding literalsText free

@@ -37,7 +37,7 @@ pub literals-few : (v : ℕ) (ls : List ℤ) → v ≤ 4224 → LiteralsWithin v
 unfolding literalsText
 literals-few v [] h w = omega arith
 literals-few v (l ∷ ls) h w =
-    omega (arith, literal-few v l h (w .1 .0), literals-few v ls h (w .1 .1), length-append (literalText l ++ (blank ∷ [])) (literalsText ls), length-append (literalText l) (blank ∷ []))
+    omega (arith, literal-few v l h (w .0 .1), literals-few v ls h (w .1), length-append (literalText l ++ (blank ∷ [])) (literalsText ls), length-append (literalText l) (blank ∷ []))
 
 clause-few : (v : ℕ) (c : Clause) → v ≤ 4224 → LiteralsWithin v (clauseLiterals c) → length (clauseText c) ≤ 6 * length (storedClause c)
 clause-few v (OR ls) h w = omega (arith, literals-few v ls h w, length-append (literalsText ls) closing)

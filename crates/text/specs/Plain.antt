@@ -2,6 +2,7 @@
 use mathlib.Core.Bool.{Bool, true, false, not}
 use mathlib.Core.List.{List, [], _∷_, _++_, map}
 use lib.IntN.{ℤ, negℤ}
+use Rattle.bits.specs.Lists.{All}
 use Rattle.checking.specs.Clauses.{Clause, OR, XOR}
 
 -- the literals with an odd number of them negated, or an even one, in every way; the first one as it is comes before the first one negated
@@ -21,7 +22,9 @@ plainClauses [] = []
 plainClauses (c ∷ cs) = plainClause c ++ plainClauses cs
 
 -- every clause is an OR
+abbrev pub IsOr : Clause → Type 0
+IsOr (OR ls) = Unit {0}
+IsOr (XOR ls) = ⊥
+
 abbrev pub AllOr : List Clause → Type 0
-AllOr [] = Unit {0}
-AllOr (OR ls ∷ cs) = AllOr cs
-AllOr (XOR ls ∷ cs) = ⊥
+AllOr cs = All IsOr cs

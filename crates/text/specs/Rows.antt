@@ -2,6 +2,7 @@
 use mathlib.Core.Path.{_≡_}
 use mathlib.Core.List.{List, [], _∷_}
 use Prim.Native.Nat.{ℕ}
+use Rattle.bits.specs.Lists.{All}
 use Rattle.text.specs.Tomiter.{tomiterText}
 
 pub record Row : Type 0 where
@@ -60,5 +61,4 @@ abbrev pub textRows : List Row
 textRows = example ∷ nothing ∷ onlyOne ∷ inSecond ∷ afterEnd ∷ otherLines ∷ []
 
 abbrev pub RowsHold : List Row → Type 0
-RowsHold [] = Unit {0}
-RowsHold (r ∷ rs) = (tomiterText (r .input) ≡ r .text) × RowsHold rs
+RowsHold rs = All (λ (r : Row). tomiterText (r .input) ≡ r .text) rs

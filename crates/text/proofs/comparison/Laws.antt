@@ -10,6 +10,7 @@ use lib.ListN.{length, take, drop, length-append}
 use lib.Seq.{length-take-le, take-append-le}
 use borrow.Author.Tests.{eq-eqb, ne-eqb, le-leb, lt-leb, leb-false}
 use Rattle.bits.proofs.Bools.{either, cond-true, cond-false}
+use Rattle.bits.proofs.Lists.{all-append, all-implies}
 use Rattle.circuit.specs.declared.gate.Gate.{Gate}
 use Rattle.circuit.specs.declared.refusal.Refusal.{Refusal}
 use Rattle.circuit.specs.Gate.{controlsOf, maxLines, maxMiterGates}
@@ -21,7 +22,7 @@ use Rattle.checking.specs.declared.clauses.Totals.{Totals}
 use Rattle.checking.specs.Reduce.{Reduced, reduceGates, numbered, reduceOutcome, reduceBuffer}
 use Rattle.checking.specs.Compare.{maxSweepLines, Difference, lowestFrom, differenceOutcome}
 use Rattle.checking.specs.Clauses.{Clause, inputOf, moved, usedBy, literalOf, implied, gateClauses, gatesClauses, usedAfter, currentAfter, targeted, upFrom, differenceClause, differenceClauses, clausesOf, variablesOf}
-use Rattle.checking.specs.Satisfaction.{LiteralsWithin, clauseLiterals, ClausesWithin}
+use Rattle.checking.specs.Satisfaction.{LiteralWithin, clauseLiterals, ClausesWithin}
 use Rattle.checking.specs.Stored.{stored}
 use Rattle.checking.specs.Emit.{emitOutcome, emitBuffer}
 use Rattle.checking.proofs.Promises.{reduce-laws, difference-made, clause-laws, clauses-none, clauses-next, differences-none, differences-next, list-parts, emit-cascade}
@@ -88,10 +89,6 @@ module _ (n : ℕ) (a b : List ℕ) (wa : FileWords n a) (wb : FileWords n b) (f
 
 -- ---- every XOR of a clause list has two or three literals
 
-short-append : (xs ys : List Clause) → AllShort xs → AllShort ys → AllShort (xs ++ ys)
-short-append [] ys a b = b
-short-append (x ∷ xs) ys a b = (a .0, short-append xs ys (a .1) b)
-
 implied-short : (p : ℕ) (ls : List ℤ) → AllShort (implied p ls)
 implied-short p [] = tt
 implied-short p (l ∷ ls) = (tt, implied-short p ls)
@@ -99,13 +96,13 @@ implied-short p (l ∷ ls) = (tt, implied-short p ls)
 gate-short : (used v : ℕ) (ls : List ℤ) → AllShort (gateClauses used v ls)
 gate-short used v [] = (tt, tt)
 gate-short used v (c ∷ []) = (tt, tt)
-gate-short used v (c ∷ d ∷ ls) = (tt, short-append (implied _ (c ∷ d ∷ ls)) _ (implied-short _ (c ∷ d ∷ ls)) (tt, tt))
+gate-short used v (c ∷ d ∷ ls) = (tt, all-append ShortClause (implied _ (c ∷ d ∷ ls)) _ (implied-short _ (c ∷ d ∷ ls)) (tt, tt))
 
 gates-short : (used : ℕ) (current : ℕ → ℕ) (gs : List Gate) → AllShort (gatesClauses used current gs)
 gates-short used current [] = subst AllShort (sym (clauses-none used current)) tt
 gates-short used current (g ∷ gs) =
     subst AllShort (sym (clauses-next used current g gs))
-    (short-append (gateClauses used (current (g .target)) (map (literalOf current) (controlsOf g))) (gatesClauses (usedBy used g) (moved used current g) gs)
+    (all-append ShortClause (gateClauses used (current (g .target)) (map (literalOf current) (controlsOf g))) (gatesClauses (usedBy used g) (moved used current g) gs)
     (gate-short used (current (g .target)) (map (literalOf current) (controlsOf g))) (gates-short (usedBy used g) (moved used current g) gs))
 
 line-short : (hit : Bool) (d a b : ℕ) → ShortClause (differenceClause hit d a b)
@@ -121,19 +118,15 @@ lines-short hit left right used (line ∷ lines) =
 pub list-short : (n : ℕ) (gs : List Gate) → AllShort (clausesOf n gs)
 list-short n gs =
     subst AllShort (sym (list-parts n gs))
-    (short-append (gatesClauses n inputOf gs) _ (gates-short n inputOf gs)
-    (short-append (differenceClauses (targeted gs) inputOf (currentAfter n inputOf gs) (usedAfter n gs) (upFrom 0 n)) _
+    (all-append ShortClause (gatesClauses n inputOf gs) _ (gates-short n inputOf gs)
+    (all-append ShortClause (differenceClauses (targeted gs) inputOf (currentAfter n inputOf gs) (usedAfter n gs) (upFrom 0 n)) _
     (lines-short (targeted gs) inputOf (currentAfter n inputOf gs) (usedAfter n gs) (upFrom 0 n)) (tt, tt)))
 
 -- ---- and few variables
 
-literals-more : (m k : ℕ) (ls : List ℤ) → m ≤ k → LiteralsWithin m ls → LiteralsWithin k ls
-literals-more m k [] h w = tt
-literals-more m k (l ∷ ls) h w = (w .0, (omega (arith, w .1 .0), literals-more m k ls h (w .1 .1)))
-
 within-more : (m k : ℕ) (cs : List Clause) → m ≤ k → ClausesWithin m cs → ClausesWithin k cs
-within-more m k [] h w = tt
-within-more m k (c ∷ cs) h w = (literals-more m k (clauseLiterals c) h (w .0), within-more m k cs h (w .1))
+within-more m k cs h =
+    all-implies _ _ (λ c. all-implies (LiteralWithin m) (LiteralWithin k) (λ l w. (w .0, omega (arith, w .1))) (clauseLiterals c)) cs
 
 pub list-within : (n : ℕ) (gs : List Gate) → n ≤ maxLines → length gs ≤ maxMiterGates → allValid n gs ≡ true → ClausesWithin maxVariables (clausesOf n gs)
 list-within n gs h l v = within-more (variablesOf n gs) maxVariables (clausesOf n gs) (clause-laws .variables-few n gs h l) (clause-laws .list-tells n gs h v .within)

@@ -135,7 +135,7 @@ module _ (z : ℤ) (ls : List ℤ) (p : Plainable z ls) (e : z ≡ pos 1) where
   two-literals h =
       let s = two-shape ls h in
       let w = subst (LiteralsWithin maxVariables) s (p .within) in
-      record { record-is = ap₂ plainRecord e s; long = h; first = w .1 .0; second = w .1 .1 .1 .0 }
+      record { record-is = ap₂ plainRecord e s; long = h; first = w .0 .1; second = w .1 .0 .1 }
 
   short : TwoOrThree ls
   short = subst (λ (k : ℤ). ShortRecord k ls) e (p .short)
@@ -144,7 +144,7 @@ module _ (z : ℤ) (ls : List ℤ) (p : Plainable z ls) (e : z ≡ pos 1) where
   three-literals h =
       let s = three-shape ls short h in
       let w = subst (LiteralsWithin maxVariables) s (p .within) in
-      record { record-is = ap₂ plainRecord e s; long = ap length s; first = w .1 .0; second = w .1 .1 .1 .0; third = w .1 .1 .1 .1 .1 .0 }
+      record { record-is = ap₂ plainRecord e s; long = ap length s; first = w .0 .1; second = w .1 .0 .1; third = w .1 .1 .0 .1 }
 
   -- two at least
   pub some-literals : 2 ≤ length ls
@@ -162,7 +162,7 @@ module _ (z : ℤ) (ls : List ℤ) (p : Plainable z ls) (e : z ≡ pos 1) where
       by : (ls : List ℤ) → TwoOrThree ls → LiteralsWithin maxVariables ls → (variableOf (at-place ls 0) ≤ maxVariables) × (variableOf (at-place ls 1) ≤ maxVariables)
       by [] t w = absurd t
       by (a ∷ []) t w = absurd t
-      by (a ∷ b ∷ ls) t w = (w .1 .0, w .1 .1 .1 .0)
+      by (a ∷ b ∷ ls) t w = (w .0 .1, w .1 .0 .1)
 
 pub clauses-append : (xs ys : List Clause) → clausesText (xs ++ ys) ≡ clausesText xs ++ clausesText ys
 unfolding clausesText
@@ -265,9 +265,9 @@ unfolding negations
 clause-few (OR ls) s w = (omega (arith, or-long ls, literals-few maxVariables ls (omega arith) w), omega arith)
 clause-few (XOR []) s w = absurd s
 clause-few (XOR (a ∷ [])) s w = absurd s
-clause-few (XOR (a ∷ b ∷ [])) s w = (omega (arith, pair-long a b, twice-few a (w .1 .0), twice-few b (w .1 .1 .1 .0)), omega arith)
+clause-few (XOR (a ∷ b ∷ [])) s w = (omega (arith, pair-long a b, twice-few a (w .0 .1), twice-few b (w .1 .0 .1)), omega arith)
 clause-few (XOR (a ∷ b ∷ c ∷ [])) s w =
-    (omega (arith, triple-long a b c, twice-few a (w .1 .0), twice-few b (w .1 .1 .1 .0), twice-few c (w .1 .1 .1 .1 .1 .0)), omega arith)
+    (omega (arith, triple-long a b c, twice-few a (w .0 .1), twice-few b (w .1 .0 .1), twice-few c (w .1 .1 .0 .1)), omega arith)
 clause-few (XOR (a ∷ b ∷ c ∷ d ∷ ls)) s w = absurd s
 
 pub plain-few : (cs : List Clause) → AllShort cs → ClausesWithin maxVariables cs

@@ -3,7 +3,8 @@ use mathlib.Core.Path.{_≡_}
 use mathlib.Core.List.{List, [], _∷_, _++_}
 use Prim.Native.Nat.{ℕ, zero, suc, _≤_}
 use lib.IntN.{ℤ, pos, negsuc, negℤ}
-use Rattle.circuit.specs.Text.{minusSign, minusSign}
+use Rattle.bits.specs.Lists.{All}
+use Rattle.circuit.specs.Text.{minusSign}
 use Rattle.checking.specs.Clauses.{Clause, OR, XOR}
 use Rattle.checking.specs.Stored.{stored, ReadBack, clausesRead, badRecord, clausesIn}
 use lib.ListN.{length}
@@ -83,8 +84,7 @@ ShortClause (OR ls) = Unit {0}
 ShortClause (XOR ls) = TwoOrThree ls
 
 abbrev pub AllShort : List Clause → Type 0
-AllShort [] = Unit {0}
-AllShort (c ∷ cs) = ShortClause c × AllShort cs
+AllShort cs = All ShortClause cs
 
 -- no clause list has more variables
 abbrev pub maxVariables : ℕ

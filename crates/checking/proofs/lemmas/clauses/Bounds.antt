@@ -8,20 +8,18 @@ use lib.Dec.{eqb, leb}
 use lib.IntN.{ℤ, pos, negsuc, negℤ}
 use lib.ListN.{length, length-map}
 use borrow.Author.Tests.{le-leb}
+use Rattle.bits.specs.Lists.{All}
 use Rattle.bits.proofs.Bools.{either, cond-true, cond-false}
+use Rattle.bits.proofs.Lists.{all-append, all-map}
 use Rattle.circuit.specs.declared.gate.Gate.{Gate}
 use Rattle.circuit.specs.Gate.{maxLines, maxMiterGates, Control, controlsOf}
 use Rattle.circuit.specs.Words.{allValid}
 use Rattle.circuit.proofs.Promises.{valid-facts, few-controls, valid-parts}
 use Rattle.checking.specs.Clauses.{Clause, OR, XOR, plus, minus, inputOf, literalOf, implied, manyClauses, gateClauses, newVariable, usedBy, moved, clausesOfGate, gatesClauses, usedAfter, currentAfter, targeted, upFrom, differenceClause, differenceClauses, clausesOf, variablesOf, countP}
-use Rattle.checking.specs.Satisfaction.{variableOf, LiteralsWithin, clauseLiterals, ClausesWithin}
+use Rattle.checking.specs.Satisfaction.{variableOf, LiteralWithin, LiteralsWithin, clauseLiterals, ClausesWithin}
 use Rattle.checking.specs.Stored.{stored, FitsWord, AllFit, wordLimit}
 use Rattle.checking.proofs.lemmas.clauses.Gates.{Within, controls-within, new-named}
 use Rattle.checking.proofs.lemmas.clauses.Forced.{Inside, inside-upFrom, used-more, length-upFrom}
-
-pub within-append : (m : ℕ) (xs ys : List Clause) → ClausesWithin m xs → ClausesWithin m ys → ClausesWithin m (xs ++ ys)
-within-append m [] ys a b = b
-within-append m (x ∷ xs) ys a b = (a .0, within-append m xs ys (a .1) b)
 
 minus-size : (v : ℕ) → variableOf (minus v) ≡ v
 minus-size zero = refl
@@ -31,6 +29,10 @@ pub neg-size : (l : ℤ) → variableOf (negℤ l) ≡ variableOf l
 neg-size (pos zero) = refl
 neg-size (pos (suc v)) = refl
 neg-size (negsuc i) = refl
+
+-- the opposite of a literal is one of the same variable
+pub neg-within : (m : ℕ) (l : ℤ) → LiteralWithin m l → LiteralWithin m (negℤ l)
+neg-within m l w = (omega (arith, neg-size l, w .0), omega (arith, neg-size l, w .1))
 
 -- the current variables of lines below n are from 1 to m
 pub record Named (n m : ℕ) (current : ℕ → ℕ) : Type 0 where
@@ -46,31 +48,27 @@ module _ (n m : ℕ) (current : ℕ → ℕ) (named : Named n m current) where
       by false v = minus-size v
 
   literals-within : (cs : List Control) → Within n cs → LiteralsWithin m (map (literalOf current) cs)
-  literals-within [] w = tt
-  literals-within (c ∷ cs) w =
-      (omega (arith, literal-size c, named .low (c .line) (w .0)), (omega (arith, literal-size c, named .high (c .line) (w .0)), literals-within cs (w .1)))
+  literals-within =
+      all-map _ (LiteralWithin m) (literalOf current)
+      (λ c h. (omega (arith, literal-size c, named .low (c .line) h), omega (arith, literal-size c, named .high (c .line) h)))
 
   implied-within : (p : ℕ) → p < m → (ls : List ℤ) → LiteralsWithin m ls → ClausesWithin m (implied (suc p) ls)
   implied-within p h [] w = tt
-  implied-within p h (l ∷ ls) w = ((omega arith, (omega arith, (w .0, (w .1 .0, tt)))), implied-within p h ls (w .1 .1))
-
-  negated-within : (ls : List ℤ) → LiteralsWithin m ls → LiteralsWithin m (map negℤ ls)
-  negated-within [] w = tt
-  negated-within (l ∷ ls) w = (omega (arith, neg-size l, w .0), (omega (arith, neg-size l, w .1 .0), negated-within ls (w .1 .1)))
+  implied-within p h (l ∷ ls) w = (((omega arith, omega arith), (w .0, tt)), implied-within p h ls (w .1))
 
   many-within : (used t : ℕ) (ls : List ℤ) → suc (suc used) ≤ m → t < n → LiteralsWithin m ls
       → ClausesWithin m (manyClauses (suc used) (suc (suc used)) (current t) ls)
   many-within used t ls h ht w = (
-    (omega arith, (omega arith, negated-within ls w)),
-    within-append m (implied (suc used) ls) _ (implied-within used (omega arith) ls w)
-        ((omega arith, (h, (named .low t ht, (named .high t ht, (omega arith, (omega arith, tt)))))), tt),
+    ((omega arith, omega arith), all-map (LiteralWithin m) (LiteralWithin m) negℤ (neg-within m) ls w),
+    all-append _ (implied (suc used) ls) _ (implied-within used (omega arith) ls w)
+        (((omega arith, h), ((named .low t ht, named .high t ht), ((omega arith, omega arith), tt))), tt),
   )
 
   gate-within : (used t : ℕ) (cs : List Control) → newVariable used (length cs) ≤ m → t < n → Within n cs
       → ClausesWithin m (gateClauses used (current t) (map (literalOf current) cs))
-  gate-within used t [] h ht w = ((omega arith, (h, (named .low t ht, (named .high t ht, tt)))), tt)
+  gate-within used t [] h ht w = (((omega arith, h), ((named .low t ht, named .high t ht), tt)), tt)
   gate-within used t (c ∷ []) h ht w =
-      ((omega arith, (h, (named .low t ht, (named .high t ht, literals-within (c ∷ []) w)))), tt)
+      (((omega arith, h), ((named .low t ht, named .high t ht), literals-within (c ∷ []) w)), tt)
   gate-within used t (c ∷ d ∷ cs) h ht w = many-within used t (map (literalOf current) (c ∷ d ∷ cs)) h ht (literals-within (c ∷ d ∷ cs) w)
 
 moved-named : (n m used : ℕ) (current : ℕ → ℕ) (g : Gate) → usedBy used g ≤ m → Named n m current → Named n m (moved used current g)
@@ -94,7 +92,7 @@ gates-within n m used current [] few v h named = tt
 gates-within n m used current (g ∷ gs) few v h named =
     let (a, b) = valid-parts n g gs v in
     let w : usedBy used g ≤ m = omega (arith, used-more (usedBy used g) gs) in
-    within-append m (clausesOfGate used current g) _
+    all-append _ (clausesOfGate used current g) _
     (gate-within n m current named used (g .target) (controlsOf g) w (valid-facts n g a .target-below) (controls-within n g few a))
     (gates-within n m (usedBy used g) (moved used current g) gs few b h (moved-named n m used current g w named))
 
@@ -106,8 +104,8 @@ after-named n m used current (g ∷ gs) h named =
     after-named n m (usedBy used g) (moved used current g) gs h (moved-named n m used current g w named)
 
 difference-within : (m d a b : ℕ) (hit : Bool) → suc d ≤ m → 1 ≤ a → a ≤ m → 1 ≤ b → b ≤ m → LiteralsWithin m (clauseLiterals (differenceClause hit (suc d) a b))
-difference-within m d a b true h a₁ a₂ b₁ b₂ = (omega arith, (h, (a₁, (a₂, (b₁, (b₂, tt))))))
-difference-within m d a b false h a₁ a₂ b₁ b₂ = (omega arith, (h, tt))
+difference-within m d a b true h a₁ a₂ b₁ b₂ = ((omega arith, h), ((a₁, a₂), ((b₁, b₂), tt)))
+difference-within m d a b false h a₁ a₂ b₁ b₂ = ((omega arith, h), tt)
 
 differences-within : (n m : ℕ) (hit : ℕ → Bool) (left right : ℕ → ℕ) → Named n m left → Named n m right
     → (used : ℕ) (ks : List ℕ) → used + length ks ≤ m → Inside n ks → ClausesWithin m (differenceClauses hit left right used ks)
@@ -121,7 +119,7 @@ differences-within n m hit left right a b used (k ∷ ks) h w = (
 last-within : (m i k : ℕ) → 1 ≤ i → i + k ≤ suc m → LiteralsWithin m (map plus (upFrom i k))
 unfolding upFrom
 last-within m i zero one h = tt
-last-within m i (suc k) one h = (one, (omega arith, last-within m (suc i) k (omega arith) (omega arith)))
+last-within m i (suc k) one h = ((one, omega arith), last-within m (suc i) k (omega arith) (omega arith))
 
 pub inputs-named : (n m : ℕ) → n ≤ m → Named n m inputOf
 inputs-named n m h = record { low = λ k l. omega arith; high = λ k l. omega arith }
@@ -133,8 +131,8 @@ clauses-within n gs few v =
     let m = usedAfter n gs + n in
     let more = used-more n gs in
     let start : Named n m inputOf = inputs-named n m (omega arith) in
-    within-append m (gatesClauses n inputOf gs) _ (gates-within n m n inputOf gs few v (omega arith) start)
-    (within-append m (differenceClauses (targeted gs) inputOf (currentAfter n inputOf gs) (usedAfter n gs) (upFrom 0 n)) _
+    all-append _ (gatesClauses n inputOf gs) _ (gates-within n m n inputOf gs few v (omega arith) start)
+    (all-append _ (differenceClauses (targeted gs) inputOf (currentAfter n inputOf gs) (usedAfter n gs) (upFrom 0 n)) _
     (differences-within n m (targeted gs) inputOf (currentAfter n inputOf gs) start (after-named n m n inputOf gs (omega arith) start)
     (usedAfter n gs) (upFrom 0 n) (omega (arith, length-upFrom 0 n)) (inside-upFrom n 0 n (omega arith)))
     (last-within m (suc (usedAfter n gs)) n (omega arith) (omega arith), tt))
@@ -176,12 +174,7 @@ variables-counted n gs = omega (arith, used-counted n gs)
 
 -- no clause has more than m literals
 abbrev Short : ℕ → List Clause → Type 0
-Short m [] = Unit {0}
-Short m (c ∷ cs) = (length (clauseLiterals c) ≤ m) × Short m cs
-
-short-append : (m : ℕ) (xs ys : List Clause) → Short m xs → Short m ys → Short m (xs ++ ys)
-short-append m [] ys a b = b
-short-append m (x ∷ xs) ys a b = (a .0, short-append m xs ys (a .1) b)
+Short m cs = All (λ (c : Clause). length (clauseLiterals c) ≤ m) cs
 
 short-implied : (m p : ℕ) (ls : List ℤ) → 2 ≤ m → Short m (implied p ls)
 short-implied m p [] h = tt
@@ -190,7 +183,7 @@ short-implied m p (l ∷ ls) h = (h, short-implied m p ls h)
 short-many : (m p w v : ℕ) (ls : List ℤ) → length ls + 3 ≤ m → Short m (manyClauses p w v ls)
 short-many m p w v ls h = (
   omega (arith, length-map ls negℤ),
-  short-append m (implied p ls) _ (short-implied m p ls (omega arith)) (omega arith, tt),
+  all-append _ (implied p ls) _ (short-implied m p ls (omega arith)) (omega arith, tt),
 )
 
 short-gate : (m used v : ℕ) (ls : List ℤ) → length ls + 3 ≤ m → Short m (gateClauses used v ls)
@@ -202,7 +195,7 @@ short-gates : (m used : ℕ) (current : ℕ → ℕ) (gs : List Gate) → maxLin
 unfolding gatesClauses
 short-gates m used current [] h = tt
 short-gates m used current (g ∷ gs) h =
-    short-append m (clausesOfGate used current g) _
+    all-append _ (clausesOfGate used current g) _
     (short-gate m used (current (g .target)) (map (literalOf current) (controlsOf g)) (omega (arith, length-map (controlsOf g) (literalOf current), few-controls maxLines g)))
     (short-gates m (usedBy used g) (moved used current g) gs h)
 
@@ -218,8 +211,8 @@ short-differences m hit left right used (k ∷ ks) h = (one (hit k) (suc used) (
 pub counts-small : (n : ℕ) (gs : List Gate) → n ≤ maxLines → Short (maxLines + 3) (clausesOf n gs)
 unfolding clausesOf
 counts-small n gs few =
-    short-append (maxLines + 3) (gatesClauses n inputOf gs) _ (short-gates (maxLines + 3) n inputOf gs (omega arith))
-    (short-append (maxLines + 3) (differenceClauses (targeted gs) inputOf (currentAfter n inputOf gs) (usedAfter n gs) (upFrom 0 n)) _
+    all-append _ (gatesClauses n inputOf gs) _ (short-gates (maxLines + 3) n inputOf gs (omega arith))
+    (all-append _ (differenceClauses (targeted gs) inputOf (currentAfter n inputOf gs) (usedAfter n gs) (upFrom 0 n)) _
     (short-differences (maxLines + 3) (targeted gs) inputOf (currentAfter n inputOf gs) (usedAfter n gs) (upFrom 0 n) (omega arith))
     (omega (arith, length-map (upFrom (suc (usedAfter n gs)) n) plus, length-upFrom (suc (usedAfter n gs)) n), tt))
 
@@ -229,7 +222,7 @@ size-fits (negsuc i) h = omega arith
 
 literals-fit : (m : ℕ) (ls ws : List ℤ) → m < wordLimit → LiteralsWithin m ls → AllFit ws → AllFit (ls ++ ws)
 literals-fit m [] ws h w f = f
-literals-fit m (l ∷ ls) ws h w f = (size-fits l (omega (arith, w .1 .0)), literals-fit m ls ws h (w .1 .1) f)
+literals-fit m (l ∷ ls) ws h w f = (size-fits l (omega (arith, w .0 .1)), literals-fit m ls ws h (w .1) f)
 
 stored-fits : (m k : ℕ) (cs : List Clause) → m < wordLimit → k < wordLimit → ClausesWithin m cs → Short k cs → AllFit (stored cs)
 unfolding stored

@@ -8,6 +8,7 @@ use native.Mathlib.Omega.{arith}
 use lib.ListN.{length, take, length-append, length-map}
 use borrow.Author.Tests.{lt-ltb}
 use Rattle.bits.specs.Digits.{bit}
+use Rattle.bits.specs.Lists.{All}
 use Rattle.bits.proofs.Bools.{and-parts, both, either, cond-true, cond-false, or-none, xor-false}
 use Rattle.bits.proofs.Digits.{bits-below}
 use Rattle.circuit.specs.declared.gate.Gate.{Gate}
@@ -42,16 +43,16 @@ reads-inputs n σ = record { named = λ k h. omega arith; read = λ k h. sym (sp
 
 -- ---- the variables d
 
--- where the states differ only on the lines that are hit, the clauses hold exactly when each d tells whether they do
+-- lines below n
 abbrev pub Inside : ℕ → List ℕ → Type 0
-Inside n [] = Unit {0}
-Inside n (k ∷ ks) = (k < n) × Inside n ks
+Inside n ks = All (λ (k : ℕ). k < n) ks
 
 pub inside-upFrom : (n i m : ℕ) → i + m ≤ n → Inside n (upFrom i m)
 unfolding upFrom
 inside-upFrom n i zero h = tt
 inside-upFrom n i (suc m) h = (omega arith, inside-upFrom n (suc i) m (omega arith))
 
+-- where the states differ only on the lines that are hit, the clauses hold exactly when each d tells whether they do
 module _ (n : ℕ) (σ : List Bool) (hit : ℕ → Bool) (left right : ℕ → ℕ) (s r : ℕ) (before : Reads n σ left s) (after : Reads n σ right r)
     (unhit : (k : ℕ) → k < n → hit k ≡ false → bit r k ≡ bit s k) where
   difference-law : (d k : ℕ) → k < n → holds σ (differenceClause (hit k) (suc d) (left k) (right k)) ≡ same (variable σ (suc d)) (xor (bit s k) (bit r k))

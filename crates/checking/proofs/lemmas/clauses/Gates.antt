@@ -9,7 +9,9 @@ use lib.IntN.{pos, negℤ}
 use lib.ListN.{length}
 use borrow.Author.Tests.{eqb-true}
 use Rattle.bits.specs.Digits.{bit}
+use Rattle.bits.specs.Lists.{All}
 use Rattle.bits.proofs.Bools.{and-parts, either, cond-true, cond-false, or-none}
+use Rattle.bits.proofs.Lists.{all-append}
 use Rattle.circuit.specs.declared.gate.Gate.{Gate}
 use Rattle.circuit.specs.Gate.{maxLines, valid, fires, apply, Control, controlAt, controlsBelow, controlsOf, met, allMet}
 use Rattle.circuit.specs.Words.{allValid}
@@ -23,12 +25,7 @@ use Rattle.checking.proofs.lemmas.clauses.Tests.{same, same-true, and-c
 -- ---- controls on lines below n
 
 abbrev pub Within : ℕ → List Control → Type 0
-Within n [] = Unit {0}
-Within n (c ∷ cs) = (c .line < n) × Within n cs
-
-within-append : (n : ℕ) (xs ys : List Control) → Within n xs → Within n ys → Within n (xs ++ ys)
-within-append n [] ys a b = b
-within-append n (x ∷ xs) ys a b = (a .0, within-append n xs ys (a .1) b)
+Within n cs = All (λ (c : Control). c .line < n) cs
 
 within-line : (n k : ℕ) (p q : Bool) → k < n
     → Within n (cond p (record { line = k; positive = true } ∷ []) (cond q (record { line = k; positive = false } ∷ []) []))
@@ -40,7 +37,7 @@ within-below : (n m : ℕ) (g : Gate) → m ≤ n → Within n (controlsBelow m 
 within-below n zero g h = subst (Within n) (sym (controls-none g)) tt
 within-below n (suc m) g h =
     subst (Within n) (sym (controls-next m g))
-    (within-append n (controlsBelow m g) (controlAt g m) (within-below n m g (omega arith)) (within-line n m (bit (g .positive) m) (bit (g .negative) m) h))
+    (all-append _ (controlsBelow m g) (controlAt g m) (within-below n m g (omega arith)) (within-line n m (bit (g .positive) m) (bit (g .negative) m) h))
 
 pub controls-within : (n : ℕ) (g : Gate) → n ≤ maxLines → valid n g ≡ true → Within n (controlsOf g)
 controls-within n g l v = subst (Within n) (sym (controls-below n g l v)) (within-below n n g (omega arith))
