@@ -15,9 +15,9 @@ use Rattle.checking.specs.Reduce.{reduceGates}
 use Rattle.checking.specs.Compare.{maxSweepLines, Difference, none, lowest, lowestFrom}
 use Rattle.checking.specs.Clauses.{Clause, clausesOf, variablesOf}
 use Rattle.checking.specs.Stored.{stored}
-use Rattle.text.specs.Dimacs.{decimal, dimacsOf}
+use Rattle.text.specs.Dimacs.{dimacsOf}
 use Rattle.text.specs.Plain.{plainClauses}
-use Rattle.text.specs.Tomiter.{refusalText}
+use Rattle.text.specs.Tomiter.{numbersText, refusalText}
 
 -- a file has 262,144 bytes at most, and a clause list 262,144 words
 abbrev pub maxFile : ℕ
@@ -123,8 +123,7 @@ equalText word = equalWord ++ (tab ∷ (word ++ (lineFeed ∷ [])))
 
 -- `differ`, the state, the output of the first and of the second, tab-parted, and an LF
 unfoldable pub differText : ℕ → ℕ → ℕ → List ℕ
-differText state first second =
-    differWord ++ (tab ∷ (decimal state ++ (tab ∷ (decimal first ++ (tab ∷ (decimal second ++ (lineFeed ∷ [])))))))
+differText state first second = differWord ++ (tab ∷ numbersText state first second)
 
 abbrev pub comparisonText : Comparison → List ℕ
 comparisonText reduced = equalText reductionWord

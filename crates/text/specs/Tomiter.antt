@@ -66,10 +66,13 @@ verdict input =
 abbrev pub refusedWord : List ℕ
 refusedWord = 114 ∷ 101 ∷ 102 ∷ 117 ∷ 115 ∷ 101 ∷ 100 ∷ []
 
+-- three numbers, tab-parted, and an LF
+abbrev pub numbersText : ℕ → ℕ → ℕ → List ℕ
+numbersText a b c = decimal a ++ (tab ∷ (decimal b ++ (tab ∷ (decimal c ++ (lineFeed ∷ [])))))
+
 -- `refused`, number, file, place, tab-parted, and an LF
 unfoldable pub refusalText : ℕ → ℕ → ℕ → List ℕ
-refusalText number file place =
-    refusedWord ++ (tab ∷ (decimal number ++ (tab ∷ (decimal file ++ (tab ∷ (decimal place ++ (lineFeed ∷ [])))))))
+refusalText number file place = refusedWord ++ (tab ∷ numbersText number file place)
 
 abbrev pub verdictText : Verdict → List ℕ
 verdictText (listed variables cs) = dimacsOf variables cs

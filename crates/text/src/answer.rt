@@ -4,16 +4,16 @@ use crate::TextAnswer;
 use crate::comparison::ComparedAnswer;
 use circuit::refusal::Refusal;
 ghost use mathlib.Core.Path.{_≡_};
-ghost use Prim.Native.Nat.{_+_, _≤_};
+ghost use mathlib.Core.List.{_++_};
+ghost use Prim.Native.Nat.{_+_};
 ghost use lib.ListN.{length};
 ghost use Rattle.circuit.specs.Outcome.{Yields};
-ghost use Rattle.circuit.specs.private.Put.{Put};
 ghost use Rattle.text.specs.Answers.{ofText};
 ghost use Rattle.text.specs.Dimacs.{decimal, dimacsOf};
 ghost use Rattle.text.specs.Plain.{plainClauses};
-ghost use Rattle.text.specs.Tomiter.{refusalText};
+ghost use Rattle.text.specs.Tomiter.{numbersText, refusalText};
 ghost use Rattle.text.specs.private.Words.{storedIn, StoresPlain};
-ghost use Rattle.text.specs.Compare.{differText, comparisonText, fitOutcome, fitBuffer};
+ghost use Rattle.text.specs.Compare.{comparisonText, fitOutcome, fitBuffer};
 ghost use Rattle.text.specs.private.Comparing.{ofCompared, ComparedReady};
 
 // Writes a text that stands elsewhere.
@@ -33,33 +33,21 @@ fn three_digits(a: u64, b: u64, c: u64) -> usize
     crate::plain::digits(a) + crate::plain::digits(b) + crate::plain::digits(c)
 }
 
+// Writes a word and three numbers, tab-parted, and an LF.
+fn fit_three(out: &mut [u8], word: &[u8], a: u64, b: u64, c: u64) -> TextAnswer
+    ensures { λ r. ⌜ Yields (ofText r) (now (out .exit)) (fitOutcome (now (word .entry) ++ numbersText a b c) (length (now (out .entry)))) (fitBuffer (now (word .entry) ++ numbersText a b c) (now (out .entry))) ⌝ }
+{
+    if out.len() < word.len() + three_digits(a, b, c) + 3 {
+        return TextAnswer::Refused(Refusal::no_room());
+    }
+    TextAnswer::Bytes(crate::put::put_three(out, word, a, b, c))
+}
+
 // Writes a refusal.
-pub(crate) fn fit_refusal(out: &mut [u8], number: u64, file: u64, place: u64) -> TextAnswer
-    ensures { λ r. ⌜ Yields (ofText r) (now (out .exit)) (fitOutcome (refusalText number file place) (length (now (out .entry)))) (fitBuffer (refusalText number file place) (now (out .entry))) ⌝ }
+pub(crate) fn fit_refusal(out: &mut [u8], why: Refusal, file: u64) -> TextAnswer
+    ensures { λ r. ⌜ Yields (ofText r) (now (out .exit)) (fitOutcome (refusalText (why .number) file (why .place)) (length (now (out .entry)))) (fitBuffer (refusalText (why .number) file (why .place)) (now (out .entry))) ⌝ }
 {
-    if out.len() < three_digits(number, file, place) + 11 {
-        return TextAnswer::Refused(Refusal::no_room());
-    }
-    TextAnswer::Bytes(crate::program::put_refusal(out, number, file, place))
-}
-
-// Writes a state on which two cascades differ, and their outputs.
-fn put_difference(out: &mut [u8], state: u64, first: u64, second: u64) -> usize
-    requires { ⌜ length (differText state first second) ≤ length (now out) ⌝ }
-    ensures { λ r. ⌜ Put r (now (out .exit)) (differText state first second) (now (out .entry)) ⌝ }
-{
-    let at = crate::put::put_numbered(&mut out[0..], b"differ\t", state);
-    at + crate::program::put_place(&mut out[at..], first, second)
-}
-
-// Writes the same where it fits.
-fn fit_difference(out: &mut [u8], state: u64, first: u64, second: u64) -> TextAnswer
-    ensures { λ r. ⌜ Yields (ofText r) (now (out .exit)) (fitOutcome (differText state first second) (length (now (out .entry)))) (fitBuffer (differText state first second) (now (out .entry))) ⌝ }
-{
-    if out.len() < three_digits(state, first, second) + 10 {
-        return TextAnswer::Refused(Refusal::no_room());
-    }
-    TextAnswer::Bytes(put_difference(out, state, first, second))
+    fit_three(out, b"refused\t", why.number, file, why.place)
 }
 
 // Writes the plain clauses that words store, over so many variables.
@@ -88,8 +76,8 @@ pub(crate) fn fit_answer(out: &mut [u8], answer: ComparedAnswer, clauses: &[i16]
             state,
             first,
             second,
-        } => fit_difference(out, state, first, second),
-        ComparedAnswer::Refused { why, file } => fit_refusal(out, why.number, file, why.place),
+        } => fit_three(out, b"differ\t", state, first, second),
+        ComparedAnswer::Refused { why, file } => fit_refusal(out, why, file),
         ComparedAnswer::Clauses(totals) => {
             let end = totals.words as usize;
             fit_clauses(out, totals.variables, &clauses[..end])

@@ -187,8 +187,6 @@ pub(crate) fn fit_checked(out: &mut [u8], answer: CheckedAnswer) -> TextAnswer
             first,
             second,
         } => fit_outputs(out, lines, first, second),
-        CheckedAnswer::Refused { why, file } => {
-            crate::answer::fit_refusal(out, why.number, file, why.place)
-        }
+        CheckedAnswer::Refused { why, file } => crate::answer::fit_refusal(out, why, file),
     }
 }

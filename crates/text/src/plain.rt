@@ -122,22 +122,13 @@ pub(crate) fn list_sizes(words: &[i16]) -> PlainSizes
     PlainSizes { bytes, clauses }
 }
 
-// Writes the OR of two literals.
-fn put_or_two(out: &mut [u8], a: i16, b: i16) -> usize
-    requires { ⌜ length (clausesText (OR (a ∷ b ∷ []) ∷ [])) ≤ length (now out) ⌝ }
-    ensures { λ r. ⌜ Put r (now (out .exit)) (clausesText (OR (a ∷ b ∷ []) ∷ [])) (now (out .entry)) ⌝ }
+// Writes two ORs.
+fn put_ors(out: &mut [u8], first: &[i16], second: &[i16]) -> usize
+    requires { ⌜ length (clausesText (OR (now first) ∷ OR (now second) ∷ [])) ≤ length (now out) ⌝ }
+    ensures { λ r. ⌜ Put r (now (out .exit)) (clausesText (OR (now (first .entry)) ∷ OR (now (second .entry)) ∷ [])) (now (out .entry)) ⌝ }
 {
-    let literals = [a, b];
-    crate::dimacs::put_closed(out, &literals)
-}
-
-// Writes the OR of three literals.
-fn put_or_three(out: &mut [u8], a: i16, b: i16, c: i16) -> usize
-    requires { ⌜ length (clausesText (OR (a ∷ b ∷ c ∷ []) ∷ [])) ≤ length (now out) ⌝ }
-    ensures { λ r. ⌜ Put r (now (out .exit)) (clausesText (OR (a ∷ b ∷ c ∷ []) ∷ [])) (now (out .entry)) ⌝ }
-{
-    let literals = [a, b, c];
-    crate::dimacs::put_closed(out, &literals)
+    let at = crate::dimacs::put_closed(&mut out[0..], first);
+    at + crate::dimacs::put_closed(&mut out[at..], second)
 }
 
 // Writes the plain clauses of an XOR of two literals.
@@ -146,8 +137,9 @@ fn put_pair(out: &mut [u8], a: i16, b: i16) -> usize
     requires { ⌜ length (clausesText (plainClause (XOR (a ∷ b ∷ [])))) ≤ length (now out) ⌝ }
     ensures { λ r. ⌜ Put r (now (out .exit)) (clausesText (plainClause (XOR (a ∷ b ∷ [])))) (now (out .entry)) ⌝ }
 {
-    let at = put_or_two(&mut out[0..], a, b);
-    at + put_or_two(&mut out[at..], negated(a), negated(b))
+    let first = [a, b];
+    let second = [negated(a), negated(b)];
+    put_ors(out, &first, &second)
 }
 
 // Writes the ORs of three literals, and of the first and the opposite of the others.
@@ -156,8 +148,9 @@ fn put_both(out: &mut [u8], a: i16, b: i16, c: i16) -> usize
     requires { ⌜ length (clausesText (bothOrs a b c)) ≤ length (now out) ⌝ }
     ensures { λ r. ⌜ Put r (now (out .exit)) (clausesText (bothOrs a b c)) (now (out .entry)) ⌝ }
 {
-    let at = put_or_three(&mut out[0..], a, b, c);
-    at + put_or_three(&mut out[at..], a, negated(b), negated(c))
+    let first = [a, b, c];
+    let second = [a, negated(b), negated(c)];
+    put_ors(out, &first, &second)
 }
 
 // Writes the plain clauses of an XOR of three literals.

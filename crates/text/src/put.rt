@@ -7,6 +7,7 @@ ghost use lib.ListN.{length};
 ghost use Rattle.circuit.specs.private.Put.{Put};
 ghost use Rattle.circuit.specs.Text.{lineFeed, digit};
 ghost use Rattle.text.specs.Dimacs.{decimal};
+ghost use Rattle.text.specs.Tomiter.{numbersText};
 
 // Writes a word.
 pub(crate) fn put_word(out: &mut [u8], word: &[u8]) -> usize
@@ -102,4 +103,14 @@ pub(crate) fn put_last(out: &mut [u8], word: &[u8], k: u64) -> usize
 {
     let at = put_numbered(&mut out[0..], word, k);
     at + put_word(&mut out[at..], b"\n")
+}
+
+// Writes a word and three numbers, tab-parted, and an LF.
+pub(crate) fn put_three(out: &mut [u8], word: &[u8], a: u64, b: u64, c: u64) -> usize
+    requires { ⌜ length (now word) + length (decimal a) + length (decimal b) + length (decimal c) + 3 ≤ length (now out) ⌝ }
+    ensures { λ r. ⌜ Put r (now (out .exit)) (now (word .entry) ++ numbersText a b c) (now (out .entry)) ⌝ }
+{
+    let at = put_numbered(&mut out[0..], word, a);
+    let to = at + put_numbered(&mut out[at..], b"\t", b);
+    to + put_last(&mut out[to..], b"\t", c)
 }

@@ -1,5 +1,5 @@
 -- A text that is written where it fits, and how long the texts of answers are. Assumes nothing.
-use mathlib.Core.Path.{_≡_, refl, sym, ap, subst, _∙_}
+use mathlib.Core.Path.{_≡_, refl, sym, ap, subst}
 use mathlib.Core.List.{List, [], _∷_, _++_}
 use Prim.Native.Nat.{ℕ, _+_, _^_, _≤_, _<_}
 use native.Mathlib.Omega.{arith}
@@ -13,8 +13,8 @@ use Rattle.circuit.specs.private.Put.{Put}
 use Rattle.circuit.specs.Text.{tab, lineFeed}
 use Rattle.circuit.proofs.Promises.{demand-met, demand-failed, told, why}
 use Rattle.text.specs.Dimacs.{blank, decimal, headerText}
-use Rattle.text.specs.Tomiter.{refusalText}
-use Rattle.text.specs.Compare.{differText, comparisonText, fitOutcome, fitBuffer}
+use Rattle.text.specs.Tomiter.{refusedWord, numbersText, refusalText}
+use Rattle.text.specs.Compare.{differWord, differText, comparisonText, fitOutcome, fitBuffer}
 use Rattle.text.specs.declared.comparison.ComparedAnswer.{ComparedAnswer}
 use Rattle.text.specs.private.Comparing.{ofCompared}
 use Rattle.text.proofs.Decimal.{decimal-few}
@@ -50,17 +50,17 @@ answer-as x y clauses r last out e t =
 pub digits-few : (k : ℕ) → k < 2 ^ 64 → length (decimal k) ≤ 20
 digits-few k h = decimal-few 19 k (omega arith)
 
-three-long : (a b c : ℕ) → length (decimal a ++ (tab ∷ (decimal b ++ (tab ∷ (decimal c ++ (lineFeed ∷ [])))))) ≡ length (decimal a) + length (decimal b) + length (decimal c) + 3
-three-long a b c =
-    omega (arith, length-append (decimal a) (tab ∷ (decimal b ++ (tab ∷ (decimal c ++ (lineFeed ∷ []))))), length-append (decimal b) (tab ∷ (decimal c ++ (lineFeed ∷ []))), length-append (decimal c) (lineFeed ∷ []))
+pub three-long : (word : List ℕ) (a b c : ℕ) → length (word ++ numbersText a b c) ≡ length word + length (decimal a) + length (decimal b) + length (decimal c) + 3
+three-long word a b c =
+    omega (arith, length-append word (numbersText a b c), length-append (decimal a) (tab ∷ (decimal b ++ (tab ∷ (decimal c ++ (lineFeed ∷ []))))), length-append (decimal b) (tab ∷ (decimal c ++ (lineFeed ∷ []))), length-append (decimal c) (lineFeed ∷ []))
 
 pub differ-long : (a b c : ℕ) → length (differText a b c) ≡ length (decimal a) + length (decimal b) + length (decimal c) + 10
 unfolding differText
-differ-long a b c = omega (arith, three-long a b c)
+differ-long a b c = omega (arith, three-long (differWord ++ (tab ∷ [])) a b c)
 
 pub refusal-long : (a b c : ℕ) → length (refusalText a b c) ≡ length (decimal a) + length (decimal b) + length (decimal c) + 11
 unfolding refusalText
-refusal-long a b c = omega (arith, three-long a b c)
+refusal-long a b c = omega (arith, three-long (refusedWord ++ (tab ∷ [])) a b c)
 
 one-long : length (decimal 0) ≡ 1
 one-long = ap length (Rattle.text.proofs.Decimal.decimal-short 0 (omega arith))

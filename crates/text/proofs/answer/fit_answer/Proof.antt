@@ -3,6 +3,7 @@ use mathlib.Core.Path.{sym, subst}
 use lib.Seq.{length-take-le}
 use Rattle.text.specs.declared.comparison.ComparedAnswer.{ComparedAnswer}
 use Rattle.text.specs.declared.comparison.ComparedAnswer.the-variants as answer
+use Rattle.text.specs.Compare.{differText}
 use Rattle.text.specs.private.Comparing.{InClauses, ComparedReady}
 use Rattle.text.proofs.answer.Laws.{answer-as}
 use borrow.Author.Needs.{needs}
@@ -34,8 +35,11 @@ fit-text-requires-2 c κs = search needs
 enum-known-answer : tie.Need-enum-known-answer
 enum-known-answer c = search needs
 
-fit-difference-requires : tie.Need-fit-difference-requires
-fit-difference-requires c κs = search needs
+slice-aggregate-fit-three : tie.Need-slice-aggregate-fit-three
+slice-aggregate-fit-three c = search needs
+
+fit-three-requires : tie.Need-fit-three-requires
+fit-three-requires c κs = search needs
 
 enum-known-answer-2 : tie.Need-enum-known-answer-2
 enum-known-answer-2 c = search needs
@@ -68,7 +72,8 @@ same-length-3 : tie.Need-same-length-3
 same-length-3 c = search needs
 
 returns-3 : tie.Need-returns-3
-returns-3 c = answer-as _ _ (c .before .before .before .before .before .before .before .before .args .clauses .now) _ _ _ (c .before .before .before .before .before .answer .given .1) (c .before .before .fit-difference .ensures)
+unfolding differText
+returns-3 c = answer-as _ _ (c .before .before .before .before .before .before .before .before .before .args .clauses .now) _ _ _ (c .before .before .before .before .before .before .answer .given .1) (c .before .before .fit-three .ensures)
 
 same-length-4 : tie.Need-same-length-4
 same-length-4 c = search needs
@@ -93,7 +98,8 @@ fit-answer-spec =
     slice-aggregate-fit-text-2
     fit-text-requires-2
     enum-known-answer
-    fit-difference-requires
+    slice-aggregate-fit-three
+    fit-three-requires
     enum-known-answer-2
     fit-refusal-requires
     enum-known-answer-3

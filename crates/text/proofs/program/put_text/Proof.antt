@@ -8,6 +8,7 @@ use Rattle.text.specs.declared.list.ListAnswer.{ListAnswer}
 use Rattle.text.specs.Tomiter.{refusalText, verdict, tomiterText}
 use Rattle.text.specs.private.Lists.{Delivers}
 use Rattle.text.proofs.Sizes.{text-fits}
+use Rattle.text.proofs.answer.Laws.{refusal-long}
 use Rattle.text.proofs.program.Laws.{Written, refusal-text, list-text}
 use borrow.Author.Needs.{needs}
 use Rattle.text.proofs.program.put_text.Statement.{statement}
@@ -37,11 +38,15 @@ list-requires c κs = search needs
 enum-known-why : tie.Need-enum-known-why
 enum-known-why c = search needs
 
-put-refusal-requires : tie.Need-put-refusal-requires
-put-refusal-requires c κs =
-    let s = c .before .before .before .before .before .before .before .before .before in
-    let e = refused (c .before .before) in
-    omega (arith, ap length e, text-fits (s .args .input .now), s .pre)
+slice-aggregate-put-three : tie.Need-slice-aggregate-put-three
+slice-aggregate-put-three c = search needs
+
+put-three-requires : tie.Need-put-three-requires
+put-three-requires c κs =
+    let s = c .before .before .before .before .before .before .before .before .before .before in
+    let e = refused (c .before .before .before) in
+    let w = c .before .before .before .why .given .0 in
+    omega (arith, ap length e, refusal-long (w .0 .number) (w .1 .0) (w .0 .place), text-fits (s .args .input .now), s .pre)
 
 enum-known-totals : tie.Need-enum-known-totals
 enum-known-totals c = search needs
@@ -62,7 +67,8 @@ same-length : tie.Need-same-length
 same-length c = search needs
 
 returns : tie.Need-returns
-returns c = put-as _ _ _ _ _ (refused (c .before .before .before .before .before)) (c .before .before .put-refusal .ensures)
+unfolding refusalText
+returns c = put-as _ _ _ _ _ (refused (c .before .before .before .before .before .before)) (c .before .before .put-three .ensures)
 
 same-length-2 : tie.Need-same-length-2
 same-length-2 c = search needs
@@ -77,7 +83,8 @@ put-text-spec =
     slice-aggregate-list
     list-requires
     enum-known-why
-    put-refusal-requires
+    slice-aggregate-put-three
+    put-three-requires
     enum-known-totals
     array-share-prefix-clauses
     slice-aggregate-put-list
