@@ -1,7 +1,7 @@
 // Two cascades compared: by the reduction of their miter, by the sweep, or by clauses for a solver.
 
 use crate::pair::FilesAnswer;
-use checking::clauses::SizesAnswer;
+use checking::clauses::EmitAnswer;
 use checking::clauses::Totals;
 use checking::compare::DifferenceAnswer;
 use checking::reduce::ReduceAnswer;
@@ -76,8 +76,8 @@ fn list_gates(n: u64, words: &[u64], clauses: &mut [i16]) -> ComparedAnswer
     ensures { λ r. ⌜ SaysCompared r (now (clauses .exit)) (listAs n (gatesOf (now (words .entry)))) ⌝ }
 {
     match checking::clauses::emit(n, words, clauses) {
-        SizesAnswer::Refused(why) => ComparedAnswer::Refused { why, file: 0 },
-        SizesAnswer::Sizes(totals) => {
+        EmitAnswer::Refused(why) => ComparedAnswer::Refused { why, file: 0 },
+        EmitAnswer::Totals(totals) => {
             if (crate::MAX_LIST as u64) < totals.words {
                 return ComparedAnswer::Refused {
                     why: Refusal::no_room(),

@@ -1,6 +1,6 @@
 // From the bytes of two cascade files to the clause list of their miter.
 
-use checking::clauses::SizesAnswer;
+use checking::clauses::EmitAnswer;
 use checking::clauses::Totals;
 use circuit::file::ReadAnswer;
 use circuit::gate::Gate;
@@ -31,8 +31,8 @@ fn list_pair(na: u64, a: &[u64], nb: u64, b: &[u64], clauses: &mut [i16]) -> Lis
         CountAnswer::Gates(gates) => {
             let end = Gate::WORDS * gates;
             match checking::clauses::emit(na, &room[..end], clauses) {
-                SizesAnswer::Refused(why) => ListAnswer::Refused { why, file: 0 },
-                SizesAnswer::Sizes(totals) => ListAnswer::Listed(totals),
+                EmitAnswer::Refused(why) => ListAnswer::Refused { why, file: 0 },
+                EmitAnswer::Totals(totals) => ListAnswer::Listed(totals),
             }
         }
     }

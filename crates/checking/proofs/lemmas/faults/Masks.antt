@@ -16,7 +16,7 @@ use Rattle.circuit.specs.declared.gate.Gate.{Gate}
 use Rattle.circuit.specs.Gate.{maxLines, fires, apply}
 use Rattle.circuit.specs.Run.{run}
 use Rattle.circuit.proofs.Promises.{run-append, run-none, run-one}
-use Rattle.checking.specs.Faults.{isFree, missing, everywhere, stands, maskWhere, masksFrom}
+use Rattle.checking.specs.Faults.{isFree, missing, missingControl, everywhere, stands, maskWhere, masksFrom}
 use Rattle.checking.specs.private.Narrowing.{kept, narrowed, narrowedBy}
 
 -- ---- digits
@@ -172,15 +172,15 @@ every-more pattern before (y ∷ xs) x =
     ∙ sym (and-assoc (pattern (run before y)) (everywhere pattern before xs) (pattern (run before x)))
 
 stands-more : (positive : Bool) (before : List Gate) (g : Gate) (xs : List ℕ) (x k : ℕ)
-    → (stands positive before g xs k && missing positive k g (run before x)) ≡ stands positive before g (xs ++ (x ∷ [])) k
+    → (stands (missingControl positive) before g xs k && missing positive k g (run before x)) ≡ stands (missingControl positive) before g (xs ++ (x ∷ [])) k
 stands-more positive before g xs x k =
     and-assoc (isFree g k) (everywhere (missing positive k g) before xs) (missing positive k g (run before x))
     ∙ ap (λ (b : Bool). isFree g k && b) (sym (every-more (missing positive k g) before xs x))
 
 mask-more : (n : ℕ) (positive : Bool) (before : List Gate) (g : Gate) (xs : List ℕ) (x : ℕ) → n ≤ maxLines
-    → bitAnd (maskWhere n (stands positive before g xs)) (kept positive g (run before x)) ≡ maskWhere n (stands positive before g (xs ++ (x ∷ [])))
+    → bitAnd (maskWhere n (stands (missingControl positive) before g xs)) (kept positive g (run before x)) ≡ maskWhere n (stands (missingControl positive) before g (xs ++ (x ∷ [])))
 mask-more n positive before g xs x l =
-    kept-mask n positive g (run before x) (stands positive before g xs) l
+    kept-mask n positive g (run before x) (stands (missingControl positive) before g xs) l
     ∙ same-mask n _ _ (λ k h. stands-more positive before g xs x k)
 
 -- the masks of all gates after one state more
@@ -191,7 +191,7 @@ narrowed-masks n before [] xs x rest l = refl
 narrowed-masks n before (g ∷ gs) xs x rest l =
     ap₂ (λ (a b : ℕ). a ∷ b ∷ narrowed gs (apply g (run before x)) (masksFrom n (before ++ (g ∷ [])) gs xs ++ rest))
     (mask-more n true before g xs x l) (mask-more n false before g xs x l)
-    ∙ ap (λ (ms : List ℕ). maskWhere n (stands true before g (xs ++ (x ∷ []))) ∷ maskWhere n (stands false before g (xs ++ (x ∷ []))) ∷ ms)
+    ∙ ap (λ (ms : List ℕ). maskWhere n (stands (missingControl true) before g (xs ++ (x ∷ []))) ∷ maskWhere n (stands (missingControl false) before g (xs ++ (x ∷ []))) ∷ ms)
     (ap (λ (s : ℕ). narrowed gs s (masksFrom n (before ++ (g ∷ [])) gs xs ++ rest)) (sym (run-append before (g ∷ []) x ∙ run-one g (run before x)))
     ∙ narrowed-masks n (before ++ (g ∷ [])) gs xs x rest l)
 
