@@ -1,4 +1,4 @@
--- Every literal is one of a variable from 1 to V, and every stored word fits 16 bits. Assumes nothing.
+-- Every literal is one of a variable from 1 to V, and every stored number fits a word. Assumes nothing.
 use mathlib.Core.Path.{_≡_, refl, sym, subst}
 use mathlib.Core.Bool.{Bool, true, false, cond}
 use mathlib.Core.List.{List, [], _∷_, _++_, map}
@@ -15,7 +15,7 @@ use Rattle.circuit.specs.declared.gate.Gate.{Gate}
 use Rattle.circuit.specs.Gate.{maxLines, maxMiterGates, Control, Inside, controlsOf}
 use Rattle.circuit.specs.Words.{allValid}
 use Rattle.circuit.proofs.Promises.{valid-facts, few-controls, valid-parts, controls-inside}
-use Rattle.checking.specs.Clauses.{Clause, OR, XOR, plus, minus, inputOf, literalOf, implied, manyClauses, gateClauses, newVariable, usedBy, moved, clausesOfGate, gatesClauses, usedAfter, currentAfter, targeted, upFrom, differenceClause, differenceClauses, clausesOf, variablesOf, countP}
+use Rattle.checking.specs.Clauses.{Clause, OR, XOR, plus, minus, inputOf, literalOf, implied, manyClauses, gateClauses, newVariable, usedBy, moved, clausesOfGate, gatesClauses, usedAfter, currentAfter, targeted, upFrom, differenceClause, differenceClauses, clausesOf, variablesOf, maxVariables, countP}
 use Rattle.checking.specs.Satisfaction.{variableOf, LiteralWithin, LiteralsWithin, clauseLiterals, ClausesWithin}
 use Rattle.checking.specs.Stored.{stored, FitsWord, AllFit, wordLimit}
 use Rattle.checking.proofs.lemmas.clauses.Gates.{new-named}
@@ -154,7 +154,7 @@ pub variables-bound : (n : ℕ) (gs : List Gate) → variablesOf n gs ≤ 2 * n 
 unfolding variablesOf
 variables-bound n gs = omega (arith, used-bound n gs)
 
-pub variables-few : (n : ℕ) (gs : List Gate) → n ≤ maxLines → length gs ≤ maxMiterGates → variablesOf n gs ≤ 4224
+pub variables-few : (n : ℕ) (gs : List Gate) → n ≤ maxLines → length gs ≤ maxMiterGates → variablesOf n gs ≤ maxVariables
 variables-few n gs few short = omega (arith, variables-bound n gs)
 
 -- a w for each gate, and a p for each with two controls or more
@@ -230,7 +230,7 @@ stored-fits m k [] h l a b = tt
 stored-fits m k (OR ls ∷ cs) h l a b = (omega arith, (omega (arith, b .0), literals-fit m ls (stored cs) h (a .0) (stored-fits m k cs h l (a .1) (b .1))))
 stored-fits m k (XOR ls ∷ cs) h l a b = (omega arith, (omega (arith, b .0), literals-fit m ls (stored cs) h (a .0) (stored-fits m k cs h l (a .1) (b .1))))
 
--- every word of a list fits 16 bits
+-- every number of a list fits a word
 pub words-fit : (n : ℕ) (gs : List Gate) → n ≤ maxLines → length gs ≤ maxMiterGates → allValid n gs ≡ true → AllFit (stored (clausesOf n gs))
 words-fit n gs few short v =
     stored-fits (variablesOf n gs) (maxLines + 3) (clausesOf n gs) (omega (arith, variables-bound n gs)) (omega arith) (clauses-within n gs few v) (counts-small n gs few)
