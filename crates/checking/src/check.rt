@@ -1,5 +1,6 @@
 // The whole way from two cascades to clauses: the miter, a list of calls on it, and the emission.
 
+use crate::clauses::ClauseWord;
 use crate::clauses::EmitAnswer;
 use circuit::gate::Gate;
 use circuit::words::CountAnswer;
@@ -55,7 +56,7 @@ pub fn check(
     b: &[u64],
     calls: &[u64],
     work: &mut [u64],
-    out: &mut [i16],
+    out: &mut [ClauseWord],
 ) -> EmitAnswer
     ensures { λ r. ⌜ Checks na (now (a .entry)) nb (now (b .entry)) (callsOf (now (calls .entry))) (now (work .entry)) (now (out .entry)) (ofEmit r) (now (work .exit)) (now (out .exit)) ⌝ }
 {

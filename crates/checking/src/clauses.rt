@@ -13,6 +13,9 @@ ghost use Rattle.circuit.specs.Words.{gatesOf, validFrom};
 ghost use Rattle.checking.specs.Sizes.{gateSizes, sizesOf, sizesOutcome, ofSizes};
 ghost use Rattle.checking.specs.Emit.{emitOutcome, emitBuffer, ofEmit};
 
+// A word of a clause list: a kind, a count or a literal. Its width is `wordWidth` (Stored).
+pub type ClauseWord = i16;
+
 // The variables, clauses and words of a clause list.
 pub struct Totals {
     pub variables: u64,
@@ -115,7 +118,7 @@ pub fn sizes(n: u64, words: &[u64]) -> SizesAnswer
 }
 
 // The stored clauses of a cascade at the buffer's start, and their totals; else 2, 11, 6, 7 or 10.
-pub fn emit(n: u64, words: &[u64], out: &mut [i16]) -> EmitAnswer
+pub fn emit(n: u64, words: &[u64], out: &mut [ClauseWord]) -> EmitAnswer
     ensures { λ r. ⌜ Yields (ofEmit r) (now (out .exit)) (emitOutcome n (now (words .entry)) (length (now (out .entry)))) (emitBuffer n (now (words .entry)) (now (out .entry))) ⌝ }
 {
     match cascade_totals(n, words) {

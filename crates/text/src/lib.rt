@@ -1,5 +1,6 @@
 // The text of a clause list, and the program's whole job on slices.
 
+use checking::clauses::ClauseWord;
 use circuit::refusal::Refusal;
 ghost use Rattle.text.specs.Tomiter.{WritesText};
 ghost use mathlib.Core.Path.{_≡_};
@@ -69,7 +70,7 @@ pub fn compare(
     a: &mut [u64],
     b: &mut [u64],
     miter: &mut [u64],
-    clauses: &mut [i16],
+    clauses: &mut [ClauseWord],
 ) -> TextAnswer
     ensures { λ r. ⌜ Serves (ofText r) (now (out .exit)) (compareOutcome (now (first .entry)) (now (second .entry)) (rooms (length (now (a .entry))) (length (now (b .entry))) (length (now (miter .entry))) (length (now (clauses .entry)))) (length (now (out .entry)))) (compareBuffer (now (first .entry)) (now (second .entry)) (rooms (length (now (a .entry))) (length (now (b .entry))) (length (now (miter .entry))) (length (now (clauses .entry)))) (now (out .entry))) (RoomShort (rooms (length (now (a .entry))) (length (now (b .entry))) (length (now (miter .entry))) (length (now (clauses .entry))))) ((now (a .exit) ≡ now (a .entry)) × (now (b .exit) ≡ now (b .entry)) × (now (miter .exit) ≡ now (miter .entry)) × (now (clauses .exit) ≡ now (clauses .entry))) ⌝ }
 {

@@ -1,7 +1,7 @@
 -- The laws of faults: candidates bit by bit, repairs, excluded lines, and the stand-ins. Assumes nothing.
 use mathlib.Core.Path.{_≡_, refl, sym, ap, ap₂, _∙_}
 use mathlib.Core.Logic.{_↔_}
-use mathlib.Core.Bool.{Bool, true, false, not, xor, _&&_, _||_, true≢false, false≢true}
+use mathlib.Core.Bool.{Bool, true, false, not, xor, _&&_, _||_, true≢false}
 use mathlib.Core.List.{List, [], _∷_, _++_, append-nil, append-assoc}
 use Prim.Native.Nat.{ℕ, zero, suc, _+_, _*_, _^_, _<_, _≤_}
 use native.Mathlib.Numerals.{add-one}
@@ -13,7 +13,7 @@ use lib.Seq.{split-at, drop-at}
 use borrow.Author.Tests.{eqb-true, eqb-false, eq-eqb, ne-eqb, ltb-true, lt-ltb, not-true}
 use Rattle.bits.specs.Digits.{bit}
 use Rattle.bits.specs.Lists.{over}
-use Rattle.bits.proofs.Bools.{and-parts, both, either, same-test, not-held}
+use Rattle.bits.proofs.Bools.{and-parts, both, either, same-test, not-held, xor-twice, xor-all, none-xor, or-left, or-right, or-second, table₁}
 use Rattle.bits.proofs.Digits.{bit-or, bit-pow}
 use Rattle.bits.proofs.Lists.{over-length}
 use Rattle.circuit.specs.declared.gate.Gate.{Gate}
@@ -83,18 +83,10 @@ parts-free : (g : Gate) (k : ℕ) → (k ≡ g .target → ⊥) → bit (g .posi
 parts-free g k t p q = both (ap not (ne-eqb k (g .target) t)) (both (ap not p) (ap not q))
 
 xor-sign : (positive b : Bool) → xor positive b ≡ true → b ≡ not positive
-unfolding xor
-xor-sign true true e = sym e
-xor-sign true false e = refl
-xor-sign false true e = refl
-xor-sign false false e = e
+xor-sign positive b e = sym (xor-twice positive b) ∙ ap (xor positive) e ∙ xor-all positive
 
 sign-xor : (positive b : Bool) → b ≡ not positive → xor positive b ≡ true
-unfolding xor
-sign-xor true true e = sym e
-sign-xor true false e = refl
-sign-xor false true e = refl
-sign-xor false false e = e
+sign-xor positive b e = ap (xor positive) (e ∙ sym (xor-all positive)) ∙ xor-twice positive true
 
 module _ (n : ℕ) (gs : List Gate) (xs : List ℕ) (i : ℕ) (positive : Bool) (k : ℕ) where
   abbrev g : Gate
@@ -153,53 +145,25 @@ repair-leaves pattern repair gs i h r x e =
 
 -- ---- one control more
 
-or-set : (a b : Bool) → (a || b) ≡ true → (a ≡ false → b ≡ true)
-or-set true b e f = absurd (true≢false f)
-or-set false b e f = e
-
-or-left : (a b : Bool) → a ≡ true → (a || b) ≡ true
-or-left true b e = refl
-or-left false b e = absurd (false≢true e)
-
-or-right : (a b : Bool) → b ≡ true → (a || b) ≡ true
-or-right true b e = refl
-or-right false b e = e
-
 -- the digits of a mask with line k added
 more-bit : (m k j : ℕ) → bit (bitOr m (2 ^ k)) j ≡ (bit m j || eqb j k)
 more-bit m k j = bit-or m (2 ^ k) j ∙ ap (λ (b : Bool). bit m j || b) (bit-pow k j)
 
 more-cases : {P : Type 0} (m k j : ℕ) → bit (bitOr m (2 ^ k)) j ≡ true → (bit m j ≡ true → P) → (j ≡ k → P) → P
-more-cases m k j e f g = either (bit m j) f (λ t. g (eqb-true j k (or-set (bit m j) (eqb j k) (sym (more-bit m k j) ∙ e) t)))
+more-cases m k j e f g = either (bit m j) f (λ t. g (eqb-true j k (or-second (bit m j) (eqb j k) (sym (more-bit m k j) ∙ e) t)))
 
 more-old : (m k j : ℕ) → bit m j ≡ true → bit (bitOr m (2 ^ k)) j ≡ true
-more-old m k j e = more-bit m k j ∙ or-left (bit m j) (eqb j k) e
+more-old m k j e = more-bit m k j ∙ or-left (eqb j k) e
 
 more-new : (m k : ℕ) → bit (bitOr m (2 ^ k)) k ≡ true
-more-new m k = more-bit m k k ∙ or-right (bit m k) (eqb k k) (eq-eqb k k refl)
+more-new m k = more-bit m k k ∙ or-right (bit m k) (eq-eqb k k refl)
 
 more-none : (m k j : ℕ) → bit m j ≡ false → (j ≡ k → ⊥) → bit (bitOr m (2 ^ k)) j ≡ false
 more-none m k j e h = more-bit m k j ∙ ap₂ _||_ e (ne-eqb j k h)
 
-on-value : (b : Bool) → b ≡ true → not (xor true b) ≡ true
+on-value : (b : Bool) → not (xor true b) ≡ b
 unfolding xor
-on-value true e = refl
-on-value false e = e
-
-value-on : (b : Bool) → not (xor true b) ≡ true → b ≡ true
-unfolding xor
-value-on true e = refl
-value-on false e = e
-
-off-value : (b : Bool) → b ≡ false → not (xor false b) ≡ true
-unfolding xor
-off-value true e = sym e
-off-value false e = refl
-
-value-off : (b : Bool) → not (xor false b) ≡ true → b ≡ false
-unfolding xor
-value-off true e = sym e
-value-off false e = refl
+on-value = table₁ _ _ refl
 
 -- the gate fires where it did and the line has the right value
 pub control-fires : (positive : Bool) (k : ℕ) (g : Gate) (s : ℕ) → fires (withControl positive k g) s ≡ (fires g s && not (xor positive (bit s k)))
@@ -207,22 +171,22 @@ control-fires true k g s =
     same-test (fires (withControl true k g) s) (fires g s && not (xor true (bit s k)))
     (λ e.
     let f = fires-lines (withControl true k g) s e in
-    both (lines-fires g s (record { on = λ j t. f .on j (more-old (g .positive) k j t); off = f .off })) (on-value (bit s k) (f .on k (more-new (g .positive) k))))
+    both (lines-fires g s (record { on = λ j t. f .on j (more-old (g .positive) k j t); off = f .off })) (on-value (bit s k) ∙ f .on k (more-new (g .positive) k)))
     (λ e.
     let (a, b) = and-parts (fires g s) (not (xor true (bit s k))) e in
     let f = fires-lines g s a in
     lines-fires (withControl true k g) s
-    (record { on = λ j t. more-cases (g .positive) k j t (f .on j) (λ i. ap (bit s) i ∙ value-on (bit s k) b); off = f .off }))
+    (record { on = λ j t. more-cases (g .positive) k j t (f .on j) (λ i. ap (bit s) i ∙ sym (on-value (bit s k)) ∙ b); off = f .off }))
 control-fires false k g s =
     same-test (fires (withControl false k g) s) (fires g s && not (xor false (bit s k)))
     (λ e.
     let f = fires-lines (withControl false k g) s e in
-    both (lines-fires g s (record { on = f .on; off = λ j t. f .off j (more-old (g .negative) k j t) })) (off-value (bit s k) (f .off k (more-new (g .negative) k))))
+    both (lines-fires g s (record { on = f .on; off = λ j t. f .off j (more-old (g .negative) k j t) })) (ap not (none-xor (bit s k) ∙ f .off k (more-new (g .negative) k))))
     (λ e.
     let (a, b) = and-parts (fires g s) (not (xor false (bit s k))) e in
     let f = fires-lines g s a in
     lines-fires (withControl false k g) s
-    (record { on = f .on; off = λ j t. more-cases (g .negative) k j t (f .off j) (λ i. ap (bit s) i ∙ value-off (bit s k) b) }))
+    (record { on = f .on; off = λ j t. more-cases (g .negative) k j t (f .off j) (λ i. ap (bit s) i ∙ not-true (bit s k) (ap not (sym (none-xor (bit s k))) ∙ b)) }))
 
 pub control-valid : (n : ℕ) (positive : Bool) (k : ℕ) (g : Gate) → valid n g ≡ true → k < n → isFree g k ≡ true → valid n (withControl positive k g) ≡ true
 control-valid n true k g v h f =

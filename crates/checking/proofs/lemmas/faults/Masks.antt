@@ -10,7 +10,7 @@ use lib.Bits.{bitAnd, bitOr, bitXor}
 use lib.Pow.{pow-pos}
 use borrow.Author.Tests.{eqb-true, eqb-false, ltb-true, ltb-false, lt-ltb, le-ltb}
 use Rattle.bits.specs.Digits.{bit}
-use Rattle.bits.proofs.Bools.{either, cond-true, cond-false}
+use Rattle.bits.proofs.Bools.{either, cond-true, cond-false, xor-all, table₂, table₃}
 use Rattle.bits.proofs.Digits.{bit-and, bit-or, bit-xor, bit-pow, bit-sum, bit-none, bits-equal, bit-above, line-clear}
 use Rattle.circuit.specs.declared.gate.Gate.{Gate}
 use Rattle.circuit.specs.Gate.{maxLines, fires, apply}
@@ -101,18 +101,8 @@ all-bit n k = ap (λ (x : ℕ). bit x k) (all-lines n) ∙ mask-bit n (λ k. tru
 
 -- ---- the free lines of a gate
 
-xor-all : (a : Bool) → xor a true ≡ not a
-unfolding xor
-xor-all true = refl
-xor-all false = refl
-
 free-digit : (p q t : Bool) → not ((p || q) || t) ≡ (not t && (not p && not q))
-free-digit true q true = refl
-free-digit true q false = refl
-free-digit false true true = refl
-free-digit false true false = refl
-free-digit false false true = refl
-free-digit false false false = refl
+free-digit = table₃ _ _ refl
 
 pub free-mask : (n : ℕ) (g : Gate) → n ≤ maxLines
     → bitAnd (2 ^ n - 1) (bitXor (bitOr (bitOr (g .positive) (g .negative)) (2 ^ g .target)) (2 ^ maxLines - 1)) ≡ maskWhere n (isFree g)
@@ -138,10 +128,7 @@ free-mask n g l =
 
 kept-sign : (positive b : Bool) → cond positive (not b) b ≡ xor positive b
 unfolding xor
-kept-sign true true = refl
-kept-sign true false = refl
-kept-sign false true = refl
-kept-sign false false = refl
+kept-sign = table₂ _ _ refl
 
 -- a state leaves a line exactly when the pattern matches
 pub kept-bit : (positive : Bool) (g : Gate) (s k : ℕ) → k < maxLines → bit (kept positive g s) k ≡ missing positive k g s
