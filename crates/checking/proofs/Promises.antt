@@ -11,6 +11,7 @@ pub use Rattle.checking.proofs.lemmas.faults.StandIns.{fault-laws}
 pub use Rattle.checking.proofs.lemmas.faults.Refusals.{refusal-laws}
 -- calls on two cascades
 pub use Rattle.checking.proofs.lemmas.miter.Laws.{miter-refused}
+pub use Rattle.checking.proofs.lemmas.check.Laws.{uncalled-refused, uncalled-served, uncalled-clauses}
 pub use Rattle.checking.proofs.lemmas.compare.Laws.{sweep-says, difference-made, refused-pick, made-pick}
 -- clauses: what the list is made of, what satisfies it, and how it is stored and emitted
 pub use Rattle.checking.proofs.lemmas.clauses.Maps.{clauses-none, clauses-next, differences-none, differences-next, list-parts}

@@ -6,7 +6,6 @@ use checking::clauses::Totals;
 use circuit::file::ReadAnswer;
 use circuit::gate::Gate;
 use circuit::refusal::Refusal;
-use circuit::words::CountAnswer;
 ghost use mathlib.Core.Path.{_≡_};
 ghost use lib.ListN.{length};
 ghost use Rattle.circuit.specs.Words.{gatesOf};
@@ -27,15 +26,9 @@ fn list_pair(na: u64, a: &[u64], nb: u64, b: &[u64], clauses: &mut [ClauseWord])
     ensures { λ r. ⌜ Delivers r (now (clauses .exit)) (pairVerdict na (gatesOf (now (a .entry))) nb (gatesOf (now (b .entry)))) ⌝ }
 {
     let mut room = [0u64; crate::MITER_WORDS];
-    match checking::miter::miter(na, a, nb, b, &mut room) {
-        CountAnswer::Refused(why) => ListAnswer::Refused { why, file: 0 },
-        CountAnswer::Gates(gates) => {
-            let end = Gate::WORDS * gates;
-            match checking::clauses::emit(na, &room[..end], clauses) {
-                EmitAnswer::Refused(why) => ListAnswer::Refused { why, file: 0 },
-                EmitAnswer::Totals(totals) => ListAnswer::Listed(totals),
-            }
-        }
+    match checking::check::check(na, a, nb, b, &[], &mut room, clauses) {
+        EmitAnswer::Refused(why) => ListAnswer::Refused { why, file: 0 },
+        EmitAnswer::Totals(totals) => ListAnswer::Listed(totals),
     }
 }
 

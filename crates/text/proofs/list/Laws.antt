@@ -1,7 +1,7 @@
 -- What the functions from an input to its clause list owe, case by case. Assumes nothing.
 use mathlib.Core.Path.{_≡_, refl, sym, ap, ap₂, subst, _∙_}
 use mathlib.Core.Bool.{true, false}
-use mathlib.Core.List.{List}
+use mathlib.Core.List.{List, []}
 use Prim.Native.Nat.{ℕ, _+_, _*_, _≤_, _<_}
 use native.Mathlib.Omega.{arith}
 use lib.Dec.{eqb, leb}
@@ -28,11 +28,11 @@ use Rattle.checking.specs.Clauses.{Clause, clausesOf, variablesOf}
 use Rattle.checking.specs.Stored.{stored}
 use Rattle.checking.specs.Sizes.{totals}
 use Rattle.checking.specs.Emit.{emitOutcome, emitBuffer}
-use Rattle.checking.proofs.Promises.{miter-laws, miter-refused, emit-laws, emit-cascade}
+use Rattle.checking.specs.Check.{callsOf, checkedOutcome, clausesLeft}
+use Rattle.checking.proofs.Promises.{miter-laws, miter-refused, uncalled-refused, uncalled-served, uncalled-clauses, emit-laws, emit-cascade}
 use Rattle.text.specs.declared.list.ListAnswer.{ListAnswer}
 use Rattle.text.specs.declared.list.ListAnswer.the-variants as list
 use Rattle.text.specs.Tomiter.{maxInput, maxWords, Verdict, listed, refusedAt, ofFile, listVerdict, pairVerdict, secondVerdict, verdict}
-use Rattle.text.specs.private.Lists.{FileWords, Delivers}
 use Rattle.text.specs.private.Lists.{FileWords, ListStands, Delivers}
 
 -- the same verdict, said in another way
@@ -127,12 +127,46 @@ module _ (na : ℕ) (a : List ℕ) (nb : ℕ) (b : List ℕ) (wa : FileWords na 
   unfolding pairVerdict
   pair-listed e = cond-true (eqb na nb) _ _ (eq-eqb na nb e)
 
-  pub pair-bad : (why : Refusal) (buffer : List ℤ) → miterOutcome na a nb b room ≡ refused (why .number) (why .place)
-      → Delivers (list.Refused why 0) buffer (pairVerdict na (gatesOf a) nb (gatesOf b))
-  pair-bad why buffer e =
-      either (eqb na nb)
-      (λ t. absurd (never (miter-made (eqb-true na nb t)) e))
-      (λ t. says-refusal why 0 buffer _ lineCountsDiffer 0 (pair-differs (eqb-false na nb t)) (sym e ∙ miter-differs (eqb-false na nb t)))
+  -- by the miter's clauses, after no call
+  module _ (work : List ℕ) (lent : length work ≡ room) (out : List ℤ) (size : length out ≡ maxWords) (o : Outcome Totals) (told : o ≡ checkedOutcome na a nb b (callsOf []) work (length out)) where
+    module _ (e : na ≡ nb) where
+      served-at : miterOutcome na a nb b (length work) ≡ served (wa .count + wb .count)
+      served-at = ap (miterOutcome na a nb b) lent ∙ miter-made e
+
+      abbrev miter : List ℕ
+      miter = take (3 * (wa .count + wb .count)) (miterBuffer na a nb b work)
+
+      stands : Cascade na miter maxMiterGates (wa .count + wb .count)
+      stands = miter-laws .miter-stands na a nb b work (wa .count + wb .count) served-at .cascade
+
+      emitted : emitOutcome na miter (length out) ≡ o
+      emitted = sym (told ∙ uncalled-served na a nb b work (wa .count + wb .count) served-at (length out))
+
+      verdict-is : pairVerdict na (gatesOf a) nb (gatesOf b) ≡ listVerdict na (gatesOf miter)
+      verdict-is = pair-listed e ∙ ap (listVerdict na) (sym (miter-laws .miter-stands na a nb b work (wa .count + wb .count) served-at .gates))
+
+    refused-at : (na ≡ nb → ⊥) → o ≡ refused lineCountsDiffer 0
+    refused-at h = told ∙ uncalled-refused na a nb b work lineCountsDiffer 0 (length out) (ap (miterOutcome na a nb b) lent ∙ miter-differs h)
+
+    pub pair-bad : (why : Refusal) (buffer : List ℤ) → o ≡ refused (why .number) (why .place) → Delivers (list.Refused why 0) buffer (pairVerdict na (gatesOf a) nb (gatesOf b))
+    pair-bad why buffer r =
+        either (eqb na nb)
+        (λ t.
+        let e = eqb-true na nb t in
+        says-as (list.Refused why 0) buffer _ _ (verdict-is e) (list-bad na (miter e) _ (stands e) (length out) size why buffer (emitted e ∙ r)))
+        (λ t.
+        let h = eqb-false na nb t in
+        says-refusal why 0 buffer _ lineCountsDiffer 0 (pair-differs h) (sym r ∙ refused-at h))
+
+    pub pair-good : (t : Totals) (buffer : List ℤ) → o ≡ served t → buffer ≡ clausesLeft (miterOutcome na a nb b (length work)) na a nb b (callsOf []) work out
+        → Delivers (list.Listed t) buffer (pairVerdict na (gatesOf a) nb (gatesOf b))
+    pair-good t buffer s is =
+        either (eqb na nb)
+        (λ x.
+        let e = eqb-true na nb x in
+        says-as (list.Listed t) buffer _ _ (verdict-is e)
+        (list-good na (miter e) _ (stands e) (length out) size t buffer out refl (emitted e ∙ s) (is ∙ uncalled-clauses na a nb b work (wa .count + wb .count) (served-at e) out)))
+        (λ x. absurd (never s (refused-at (eqb-false na nb x))))
 
   pub mitered : (gates : ℕ) (buffer out : List ℕ) → length out ≡ room → miterOutcome na a nb b (length out) ≡ served gates → buffer ≡ miterBuffer na a nb b out → 6144 ≤ length buffer
       → Mitered na a nb b buffer gates

@@ -4,6 +4,7 @@ use mathlib.Core.List.{List, [], _∷_, _++_}
 use Prim.Native.Nat.{ℕ, suc, _+_, _*_, _-_, _/_, _<_, _≤_}
 use native.Mathlib.Nat.{le-refl}
 use native.Mathlib.Omega.{arith}
+use lib.IntN.{ℤ}
 use lib.ListN.{length, take, drop, getD, length-drop}
 use lib.Seq.{length-take-le, take-append-le, take-at}
 use Rattle.bits.specs.Lists.{over}
@@ -12,17 +13,35 @@ use Rattle.circuit.specs.declared.gate.Gate.{Gate}
 use Rattle.circuit.specs.Gate.{maxLines, maxMiterGates}
 use Rattle.circuit.specs.Outcome.{Outcome, served, refused, Yields}
 use Rattle.circuit.specs.Words.{gatesOf, checkOutcome, Cascade}
-use Rattle.circuit.proofs.Promises.{check-served, valid-all-more, gates-length}
+use Rattle.circuit.proofs.Promises.{then-served, then-refused, check-served, valid-all-more, gates-length}
 use Rattle.checking.specs.Step.{Step, found, none, stepGates, withCount, stepOutcome, stepBuffer}
 use Rattle.checking.specs.StepLaws.{Stands}
 use Rattle.checking.specs.Reduce.{Reduced, reduceGates, reduceOutcome, reduceBuffer}
 use Rattle.checking.specs.Equality.{Call, stepOn, reduceOn, stepLeaves, reduceLeaves, after, afterAll}
-use Rattle.checking.specs.Check.{callOf, callsOf, Held, heldWords, stepGatesLeft, reduceGatesLeft, called, calledAll}
+use Rattle.checking.specs.Miter.{miterOutcome, miterBuffer}
+use Rattle.checking.specs.Emit.{emitOutcome, emitBuffer}
+use Rattle.checking.specs.Check.{callOf, callsOf, Held, heldWords, stepGatesLeft, reduceGatesLeft, called, calledAll, checkedOutcome, clausesLeft}
 use Rattle.checking.proofs.lemmas.step.Calls.{step-refused}
 use Rattle.checking.proofs.lemmas.step.Laws.{none-kept, step-laws}
 use Rattle.checking.proofs.lemmas.reduce.Laws.{step-shrinks, reduce-refused}
 use Rattle.checking.proofs.lemmas.reduce.Relation.{reduce-laws}
 use Rattle.bits.proofs.Lists.{two}
+
+-- ---- no call: the clauses are those of the miter
+
+module _ (na : ℕ) (a : List ℕ) (nb : ℕ) (b work : List ℕ) where
+  pub uncalled-refused : (number place size : ℕ) → miterOutcome na a nb b (length work) ≡ refused number place → checkedOutcome na a nb b (callsOf []) work size ≡ refused number place
+  unfolding checkedOutcome
+  uncalled-refused number place size e = then-refused _ _ number place e
+
+  module _ (k : ℕ) (e : miterOutcome na a nb b (length work) ≡ served k) where
+    pub uncalled-served : (size : ℕ) → checkedOutcome na a nb b (callsOf []) work size ≡ emitOutcome na (take (3 * k) (miterBuffer na a nb b work)) size
+    unfolding checkedOutcome callsOf calledAll
+    uncalled-served size = then-served _ _ k e
+
+    pub uncalled-clauses : (out : List ℤ) → clausesLeft (miterOutcome na a nb b (length work)) na a nb b (callsOf []) work out ≡ emitBuffer na (take (3 * k) (miterBuffer na a nb b work)) out
+    unfolding callsOf calledAll
+    uncalled-clauses out = ap (λ (o : Outcome ℕ). clausesLeft o na a nb b (callsOf []) work out) e
 
 -- ---- one call
 
