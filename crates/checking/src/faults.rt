@@ -16,7 +16,7 @@ ghost use Rattle.circuit.specs.Outcome.{Yields};
 ghost use Rattle.circuit.specs.Refusal.{badState, agreeingState};
 ghost use Rattle.circuit.specs.Words.{gatesOf, allValid, ofCount};
 ghost use Rattle.checking.specs.Compare.{outputsDiffer};
-ghost use Rattle.checking.specs.Faults.{isFree, gateMasks, maskWhere, masksFrom, eachFrom, faultCheck, faultOutcome, faultBuffer};
+ghost use Rattle.checking.specs.Faults.{isFree, missingControl, gateMasks, maskWhere, masksFrom, eachFrom, faultCheck, faultOutcome, faultBuffer};
 ghost use Rattle.checking.specs.private.Narrowing.{kept, narrowed, narrowedBy};
 
 // The masks of a gate: of a missing positive control, then of a missing negative one.
@@ -48,7 +48,7 @@ fn free_lines(g: Gate, n: u64) -> u64
 
 // The lines that a state leaves in the mask of missing positive controls.
 fn kept_positive(g: Gate, state: u64) -> u64
-    ensures { λ r. ⌜ r ≡ kept true g state ⌝ }
+    ensures { λ r. ⌜ r ≡ kept (missingControl true) g state ⌝ }
 {
     if g.fires(state) {
         return state ^ u64::MAX;
@@ -58,7 +58,7 @@ fn kept_positive(g: Gate, state: u64) -> u64
 
 // The lines that a state leaves in the mask of missing negative controls.
 fn kept_negative(g: Gate, state: u64) -> u64
-    ensures { λ r. ⌜ r ≡ kept false g state ⌝ }
+    ensures { λ r. ⌜ r ≡ kept (missingControl false) g state ⌝ }
 {
     if g.fires(state) {
         return state;

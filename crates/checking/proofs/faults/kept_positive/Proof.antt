@@ -1,8 +1,8 @@
 -- `checking::faults::kept_positive` meets its contract. Assumes nothing.
 use mathlib.Core.Path.{sym, _∙_}
+use mathlib.Core.Bool.{true, false}
 use borrow.Author.Needs.{needs}
-use Rattle.bits.proofs.Bools.{cond-true, cond-false}
-use Rattle.checking.specs.private.Narrowing.{kept}
+use Rattle.checking.proofs.lemmas.faults.Masks.{kept-fired, kept-idle}
 use Rattle.checking.proofs.faults.kept_positive.Statement.{statement}
 use Rattle.checking.proofs.faults.kept_positive.Tie as tie
 
@@ -10,12 +10,16 @@ fires-requires : tie.Need-fires-requires
 fires-requires c κs = search needs
 
 returns : tie.Need-returns
-unfolding kept
-returns c = sym (cond-true _ _ _ (sym (c .before .fires .ensures) ∙ c .if1 .taken))
+returns c =
+    let f = c .before in
+    let s = f .before in
+    kept-fired true (s .args .g) (s .args .state) (s .fits .state .fits) (sym (f .fires .ensures) ∙ c .if1 .taken)
 
 returns-2 : tie.Need-returns-2
-unfolding kept
-returns-2 c = sym (cond-false _ _ _ (sym (c .before .fires .ensures) ∙ c .if1 .left))
+returns-2 c =
+    let f = c .before in
+    let s = f .before in
+    kept-idle true (s .args .g) (s .args .state) (sym (f .fires .ensures) ∙ c .if1 .left)
 
 pub kept-positive-spec : {M : Type 1} → statement M
 kept-positive-spec = tie.close (tie.spec fires-requires returns returns-2)

@@ -1,7 +1,7 @@
 -- The laws of the loops over gates and states, and of what the call answers and leaves. Assumes nothing.
 use mathlib.Core.Path.{_≡_, refl, sym, ap, ap₂, subst, _∙_}
 use mathlib.Core.Bool.{Bool, true, false, and-true}
-use mathlib.Core.List.{List, [], _∷_, _++_, append-assoc}
+use mathlib.Core.List.{List, [], _∷_, _++_, map, append-assoc}
 use Prim.Native.Nat.{ℕ, suc, _+_, _*_, _/_, _^_, _<_, _≤_}
 use native.Mathlib.Omega.{arith}
 use lib.Dec.{ltb}
@@ -18,7 +18,7 @@ use Rattle.circuit.specs.Refusal.{badState, agreeingState, noRoom}
 use Rattle.circuit.specs.Words.{gatesOf, gateAt, Counts, pairOutcome, Cascade}
 use Rattle.circuit.proofs.Promises.{demand-met, demand-failed, then-served, then-refused, then-both, told, gates-next, gates-end, pair-served}
 use Rattle.checking.specs.Compare.{outputsDiffer}
-use Rattle.checking.specs.Faults.{isFree, missingControl, gateMasks, stands, maskWhere, masksFrom, faultMasks, eachFrom, faultCheck, faultOutcome, faultBuffer, everywhere}
+use Rattle.checking.specs.Faults.{isFree, Fault, missingControl, gateFaults, gateMasks, stands, maskWhere, masksFrom, faultMasks, eachFrom, faultCheck, faultOutcome, faultBuffer, everywhere}
 use Rattle.checking.specs.private.Narrowing.{kept, narrowed, narrowedBy}
 use Rattle.checking.proofs.lemmas.faults.Masks.{same-mask, narrowed-by}
 
@@ -56,20 +56,23 @@ module _ (out : List ℕ) (at : ℕ) (inside : at + 1 < length out) where
 
 -- ---- the masks before any state
 
--- the free lines of each gate, twice
+-- the lines on which each fault of a gate may be
 abbrev pub freeMasks : ℕ → List Gate → List ℕ
 freeMasks n [] = []
-freeMasks n (g ∷ gs) = maskWhere n (isFree g) ∷ maskWhere n (isFree g) ∷ freeMasks n gs
+freeMasks n (g ∷ gs) = map (λ fault. maskWhere n (fault .lines g)) gateFaults ++ freeMasks n gs
+
+-- no state strikes a line
+free-stands : (n : ℕ) (faults : List Fault) (before : List Gate) (g : Gate)
+    → map (λ fault. maskWhere n (stands fault before g [])) faults ≡ map (λ fault. maskWhere n (fault .lines g)) faults
+unfolding everywhere
+free-stands n [] before g = refl
+free-stands n (fault ∷ faults) before g =
+    ap₂ (λ (m : ℕ) (ms : List ℕ). m ∷ ms) (same-mask n (stands fault before g []) (fault .lines g) (λ k h. and-true (fault .lines g k))) (free-stands n faults before g)
 
 pub free-masks : (n : ℕ) (before gs : List Gate) → masksFrom n before gs [] ≡ freeMasks n gs
-unfolding masksFrom everywhere
+unfolding masksFrom
 free-masks n before [] = refl
-free-masks n before (g ∷ gs) =
-    ap₂ (λ (x y : ℕ). x ∷ y ∷ masksFrom n (before ++ (g ∷ [])) gs []) (alone true) (alone false)
-    ∙ ap (λ (ms : List ℕ). maskWhere n (isFree g) ∷ maskWhere n (isFree g) ∷ ms) (free-masks n (before ++ (g ∷ [])) gs)
-  where
-    alone : (positive : Bool) → maskWhere n (stands (missingControl positive) before g []) ≡ maskWhere n (isFree g)
-    alone positive = same-mask n (stands (missingControl positive) before g []) (isFree g) (λ k h. and-true (isFree g k))
+free-masks n before (g ∷ gs) = ap₂ (λ (ms rest : List ℕ). ms ++ rest) (free-stands n gateFaults before g) (free-masks n (before ++ (g ∷ [])) gs)
 
 -- the gates from i on, and the words of the buffer behind those that are done
 abbrev pub freeLeft : ℕ → List ℕ → List ℕ → ℕ → List ℕ
@@ -91,7 +94,7 @@ module _ (ws out : List ℕ) (i : ℕ) (g : Gate) (inside : i < length ws / 3) (
       ∙ ap (λ (k : ℕ). take k (twoSet out (2 * i) m m) ++ more (drop k (twoSet out (2 * i) m m))) up
 
   -- one state more
-  pub narrow-turn : (s v w : ℕ) → v ≡ bitAnd (getD out (2 * i) 0) (kept true g s) → w ≡ bitAnd (getD out (2 * i + 1) 0) (kept false g s)
+  pub narrow-turn : (s v w : ℕ) → v ≡ bitAnd (getD out (2 * i) 0) (kept (missingControl true) g s) → w ≡ bitAnd (getD out (2 * i + 1) 0) (kept (missingControl false) g s)
       → take (2 * i) out ++ narrowed (gatesOf (drop (3 * i) ws)) s (drop (2 * i) out)
       ≡ take (2 * (i + 1)) (twoSet out (2 * i) v w) ++ narrowed (gatesOf (drop (3 * (i + 1)) ws)) (apply g s) (drop (2 * (i + 1)) (twoSet out (2 * i) v w))
   unfolding narrowed

@@ -1,7 +1,7 @@
 -- The laws of masks: their digits, the free lines of a gate, and the masks after one state more. Assumes nothing.
 use mathlib.Core.Path.{_≡_, refl, sym, ap, ap₂, _∙_}
 use mathlib.Core.Bool.{Bool, true, false, not, xor, cond, _&&_, _||_, or-false, and-true, or-true, and-false, and-assoc}
-use mathlib.Core.List.{List, [], _∷_, _++_, append-assoc, append-nil}
+use mathlib.Core.List.{List, [], _∷_, _++_, map, append-assoc, append-nil}
 use Prim.Native.Nat.{ℕ, zero, suc, _+_, _-_, _^_, _<_, _≤_}
 use native.Mathlib.Nat.{le-refl}
 use native.Mathlib.Omega.{arith}
@@ -10,14 +10,14 @@ use lib.Bits.{bitAnd, bitOr, bitXor}
 use lib.Pow.{pow-pos}
 use borrow.Author.Tests.{eqb-true, eqb-false, ltb-true, ltb-false, lt-ltb, le-ltb}
 use Rattle.bits.specs.Digits.{bit}
-use Rattle.bits.proofs.Bools.{either, cond-true, cond-false, xor-all, table₂, table₃}
+use Rattle.bits.proofs.Bools.{either, cond-true, cond-false, none-xor, xor-all, table₁, table₃}
 use Rattle.bits.proofs.Digits.{bit-and, bit-or, bit-xor, bit-pow, bit-sum, bit-none, bits-equal, bit-above, line-clear}
 use Rattle.circuit.specs.declared.gate.Gate.{Gate}
 use Rattle.circuit.specs.Gate.{maxLines, fires, apply}
 use Rattle.circuit.specs.Run.{run}
 use Rattle.circuit.proofs.Promises.{run-append, run-none, run-one}
-use Rattle.checking.specs.Faults.{isFree, missing, missingControl, everywhere, stands, maskWhere, masksFrom}
-use Rattle.checking.specs.private.Narrowing.{kept, narrowed, narrowedBy}
+use Rattle.checking.specs.Faults.{isFree, Fault, missingControl, gateFaults, everywhere, stands, maskWhere, masksFrom}
+use Rattle.checking.specs.private.Narrowing.{kept, narrowedGate, narrowed, narrowedBy}
 
 -- ---- digits
 
@@ -126,29 +126,40 @@ free-mask n g l =
 
 -- ---- one state more
 
-kept-sign : (positive b : Bool) → cond positive (not b) b ≡ xor positive b
+all-xor : (a : Bool) → xor a true ≡ xor true a
 unfolding xor
-kept-sign = table₂ _ _ refl
+all-xor = table₁ _ _ refl
 
--- a state leaves a line exactly when the pattern matches
-pub kept-bit : (positive : Bool) (g : Gate) (s k : ℕ) → k < maxLines → bit (kept positive g s) k ≡ missing positive k g s
+-- what the state of a gate that fires leaves for a missing control, and that of a gate that does not
+module _ (positive : Bool) (g : Gate) (s : ℕ) where
+  pub kept-fired : s < 2 ^ maxLines → fires g s ≡ true → cond positive (bitXor s (2 ^ maxLines - 1)) s ≡ kept (missingControl positive) g s
+  unfolding kept
+  kept-fired small e =
+      is-mask maxLines _ _ (λ k h. low positive k h ∙ sym (ap (λ (b : Bool). b && xor positive (bit s k)) e)) (high positive)
+    where
+      low : (positive : Bool) (k : ℕ) → k < maxLines → bit (cond positive (bitXor s (2 ^ maxLines - 1)) s) k ≡ xor positive (bit s k)
+      low true k h = bit-xor _ _ k ∙ ap (xor (bit s k)) (all-bit maxLines k ∙ lt-ltb k maxLines h) ∙ all-xor (bit s k)
+      low false k h = sym (none-xor (bit s k))
+
+      high : (positive : Bool) (k : ℕ) → maxLines ≤ k → bit (cond positive (bitXor s (2 ^ maxLines - 1)) s) k ≡ false
+      high true k h = bit-xor _ _ k ∙ ap₂ xor (bit-above maxLines s k small h) (all-bit maxLines k ∙ le-ltb k maxLines h) ∙ none-xor false
+      high false k h = bit-above maxLines s k small h
+
+  pub kept-idle : fires g s ≡ false → 0 ≡ kept (missingControl positive) g s
+  unfolding kept
+  kept-idle e = is-mask maxLines _ 0 (λ k h. bit-none k ∙ sym (ap (λ (b : Bool). b && xor positive (bit s k)) e)) (λ k h. bit-none k)
+
+-- a mask after one state more
+kept-mask : (n : ℕ) (fault : Fault) (g : Gate) (s : ℕ) (f : ℕ → Bool) → n ≤ maxLines
+    → bitAnd (maskWhere n f) (kept fault g s) ≡ maskWhere n (λ k. f k && fault .pattern k g s)
 unfolding kept
-kept-bit positive g s k h =
-    either (fires g s)
-    (λ e. ap (λ (x : ℕ). bit x k) (cond-true _ _ _ e) ∙ chosen positive ∙ sym (ap (λ (b : Bool). b && xor positive (bit s k)) e))
-    (λ e. ap (λ (x : ℕ). bit x k) (cond-false _ _ _ e) ∙ bit-none k ∙ sym (ap (λ (b : Bool). b && xor positive (bit s k)) e))
-  where
-    chosen : (positive : Bool) → bit (cond positive (bitXor s (2 ^ maxLines - 1)) s) k ≡ xor positive (bit s k)
-    chosen true =
-        bit-xor _ _ k ∙ ap (xor (bit s k)) (all-bit maxLines k ∙ lt-ltb k maxLines h) ∙ xor-all (bit s k) ∙ kept-sign true (bit s k)
-    chosen false = kept-sign false (bit s k)
-
-pub kept-mask : (n : ℕ) (positive : Bool) (g : Gate) (s : ℕ) (f : ℕ → Bool) → n ≤ maxLines
-    → bitAnd (maskWhere n f) (kept positive g s) ≡ maskWhere n (λ k. f k && missing positive k g s)
-kept-mask n positive g s f l =
+kept-mask n fault g s f l =
     is-mask n _ _
-    (λ k h. bit-and _ _ k ∙ ap₂ _&&_ (mask-bit n f k ∙ ap (λ (b : Bool). b && f k) (lt-ltb k n h)) (kept-bit positive g s k (omega arith)))
-    (λ k h. bit-and _ _ k ∙ ap (λ (b : Bool). b && bit (kept positive g s) k) (mask-bit n f k ∙ ap (λ (b : Bool). b && f k) (le-ltb k n h)))
+    (λ k h.
+    bit-and _ _ k
+    ∙ ap₂ _&&_ (mask-bit n f k ∙ ap (λ (b : Bool). b && f k) (lt-ltb k n h))
+    (mask-bit maxLines _ k ∙ ap (λ (b : Bool). b && fault .pattern k g s) (lt-ltb k maxLines (omega arith))))
+    (λ k h. bit-and _ _ k ∙ ap (λ (b : Bool). b && bit (kept fault g s) k) (mask-bit n f k ∙ ap (λ (b : Bool). b && f k) (le-ltb k n h)))
 
 every-more : (pattern : ℕ → Bool) (before : List Gate) (xs : List ℕ) (x : ℕ)
     → everywhere pattern before (xs ++ (x ∷ [])) ≡ (everywhere pattern before xs && pattern (run before x))
@@ -158,17 +169,23 @@ every-more pattern before (y ∷ xs) x =
     ap (λ (b : Bool). pattern (run before y) && b) (every-more pattern before xs x)
     ∙ sym (and-assoc (pattern (run before y)) (everywhere pattern before xs) (pattern (run before x)))
 
-stands-more : (positive : Bool) (before : List Gate) (g : Gate) (xs : List ℕ) (x k : ℕ)
-    → (stands (missingControl positive) before g xs k && missing positive k g (run before x)) ≡ stands (missingControl positive) before g (xs ++ (x ∷ [])) k
-stands-more positive before g xs x k =
-    and-assoc (isFree g k) (everywhere (missing positive k g) before xs) (missing positive k g (run before x))
-    ∙ ap (λ (b : Bool). isFree g k && b) (sym (every-more (missing positive k g) before xs x))
+stands-more : (fault : Fault) (before : List Gate) (g : Gate) (xs : List ℕ) (x k : ℕ)
+    → (stands fault before g xs k && fault .pattern k g (run before x)) ≡ stands fault before g (xs ++ (x ∷ [])) k
+stands-more fault before g xs x k =
+    and-assoc (fault .lines g k) (everywhere (fault .pattern k g) before xs) (fault .pattern k g (run before x))
+    ∙ ap (λ (b : Bool). fault .lines g k && b) (sym (every-more (fault .pattern k g) before xs x))
 
-mask-more : (n : ℕ) (positive : Bool) (before : List Gate) (g : Gate) (xs : List ℕ) (x : ℕ) → n ≤ maxLines
-    → bitAnd (maskWhere n (stands (missingControl positive) before g xs)) (kept positive g (run before x)) ≡ maskWhere n (stands (missingControl positive) before g (xs ++ (x ∷ [])))
-mask-more n positive before g xs x l =
-    kept-mask n positive g (run before x) (stands (missingControl positive) before g xs) l
-    ∙ same-mask n _ _ (λ k h. stands-more positive before g xs x k)
+mask-more : (n : ℕ) (fault : Fault) (before : List Gate) (g : Gate) (xs : List ℕ) (x : ℕ) → n ≤ maxLines
+    → bitAnd (maskWhere n (stands fault before g xs)) (kept fault g (run before x)) ≡ maskWhere n (stands fault before g (xs ++ (x ∷ [])))
+mask-more n fault before g xs x l =
+    kept-mask n fault g (run before x) (stands fault before g xs) l ∙ same-mask n _ _ (λ k h. stands-more fault before g xs x k)
+
+-- the masks of a gate after one state more
+gate-more : (n : ℕ) (faults : List Fault) (before : List Gate) (g : Gate) (xs : List ℕ) (x : ℕ) (more : List ℕ → List ℕ) (rest : List ℕ) → n ≤ maxLines
+    → narrowedGate faults g (run before x) more (map (λ fault. maskWhere n (stands fault before g xs)) faults ++ rest)
+    ≡ map (λ fault. maskWhere n (stands fault before g (xs ++ (x ∷ [])))) faults ++ more rest
+gate-more n [] before g xs x more rest l = refl
+gate-more n (fault ∷ faults) before g xs x more rest l = ap₂ (λ (m : ℕ) (ms : List ℕ). m ∷ ms) (mask-more n fault before g xs x l) (gate-more n faults before g xs x more rest l)
 
 -- the masks of all gates after one state more
 pub narrowed-masks : (n : ℕ) (before gs : List Gate) (xs : List ℕ) (x : ℕ) (rest : List ℕ) → n ≤ maxLines
@@ -176,9 +193,8 @@ pub narrowed-masks : (n : ℕ) (before gs : List Gate) (xs : List ℕ) (x : ℕ)
 unfolding narrowed masksFrom
 narrowed-masks n before [] xs x rest l = refl
 narrowed-masks n before (g ∷ gs) xs x rest l =
-    ap₂ (λ (a b : ℕ). a ∷ b ∷ narrowed gs (apply g (run before x)) (masksFrom n (before ++ (g ∷ [])) gs xs ++ rest))
-    (mask-more n true before g xs x l) (mask-more n false before g xs x l)
-    ∙ ap (λ (ms : List ℕ). maskWhere n (stands (missingControl true) before g (xs ++ (x ∷ []))) ∷ maskWhere n (stands (missingControl false) before g (xs ++ (x ∷ []))) ∷ ms)
+    gate-more n gateFaults before g xs x (narrowed gs (apply g (run before x))) (masksFrom n (before ++ (g ∷ [])) gs xs ++ rest) l
+    ∙ ap (λ (ms : List ℕ). map (λ fault. maskWhere n (stands fault before g (xs ++ (x ∷ [])))) gateFaults ++ ms)
     (ap (λ (s : ℕ). narrowed gs s (masksFrom n (before ++ (g ∷ [])) gs xs ++ rest)) (sym (run-append before (g ∷ []) x ∙ run-one g (run before x)))
     ∙ narrowed-masks n (before ++ (g ∷ [])) gs xs x rest l)
 
