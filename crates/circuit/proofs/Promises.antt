@@ -19,4 +19,4 @@ pub use Rattle.circuit.proofs.lemmas.file.Laws.{reader, read-as, read-s
 pub use Rattle.circuit.proofs.lemmas.file.RoundTrip.{round-trip, idle-reading, idle-writing, read-leaves}
 pub use Rattle.circuit.proofs.lemmas.file.Lines.{longer-some, same-true, same-self, true-same}
 pub use Rattle.circuit.proofs.lemmas.file.Numbers.{is-digit, digit-bounds}
-pub use Rattle.circuit.proofs.lemmas.file.put.Laws.{Written, written-none, written-first, written-more, written-put, put-as, rest-length}
+pub use Rattle.circuit.proofs.lemmas.file.put.Laws.{Written, copied, written-none, written-first, written-more, written-put, put-as, rest-length}

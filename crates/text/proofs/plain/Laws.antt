@@ -12,7 +12,7 @@ use mir.Syntax.{w16}
 use mir.Val.{SFits, toZ, ofZ}
 use mir.ValLaws.{toZ-ofZ}
 use borrow.Rule.Slice.PartMut.{putMid}
-use Rattle.circuit.specs.private.Put.{Put}
+use Rattle.bits.specs.Lists.{Put}
 use Rattle.circuit.proofs.Promises.{Written, written-none, written-more, written-put, put-as}
 use Rattle.checking.specs.Clauses.{Clause, OR, XOR}
 use Rattle.checking.specs.Satisfaction.{variableOf, LiteralsWithin, clauseLiterals, ClausesWithin}
