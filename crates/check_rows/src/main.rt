@@ -1,18 +1,18 @@
 // From two cascades to clauses, with lists of calls on their miter: for each the answer and then the miter's buffer.
 
-use checking::clauses::SizesAnswer;
+use checking::clauses::EmitAnswer;
 
 // The variables, clauses and words, or a refusal's number and place; then the buffer of thirteen words that held 9.
 fn print_check(na: u64, a: &[u64], nb: u64, b: &[u64], calls: &[u64], out: &mut [i16]) {
     let mut room = [9u64; 13];
     match checking::check::check(na, a, nb, b, calls, &mut room, out) {
-        SizesAnswer::Sizes(totals) => {
+        EmitAnswer::Totals(totals) => {
             rows::print_row(
                 b"clauses ",
                 &[totals.variables, totals.clauses, totals.words],
             );
         }
-        SizesAnswer::Refused(why) => {
+        EmitAnswer::Refused(why) => {
             rows::print_row(b"refused ", &[why.number, why.place]);
         }
     }

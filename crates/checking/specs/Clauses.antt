@@ -1,12 +1,12 @@
 -- The clause list of a cascade, by document 01. A literal is a number with a sign: v of variable v, or −v. Variables count from 1.
 use mathlib.Core.Bool.{Bool, false, cond, _||_}
 use mathlib.Core.List.{List, [], _∷_, _++_, map}
-use Prim.Native.Nat.{ℕ, zero, suc, _+_}
+use Prim.Native.Nat.{ℕ, zero, suc, _+_, _*_}
 use lib.Dec.{eqb, leb}
 use lib.IntN.{ℤ, pos, negℤ}
 use lib.ListN.{length}
 use Rattle.circuit.specs.declared.gate.Gate.{Gate}
-use Rattle.circuit.specs.Gate.{Control, controlsOf}
+use Rattle.circuit.specs.Gate.{maxLines, maxMiterGates, Control, controlsOf}
 
 pub data Clause : Type 0 where
   OR XOR : List ℤ → Clause
@@ -101,6 +101,10 @@ clausesOf n gs =
 -- V: all variables numbered here
 unfoldable pub variablesOf : ℕ → List Gate → ℕ
 variablesOf n gs = usedAfter n gs + n
+
+-- no list of a miter has more
+abbrev pub maxVariables : ℕ
+maxVariables = 2 * maxLines + 2 * maxMiterGates
 
 -- how many gates have a p
 unfoldable pub countP : List Gate → ℕ

@@ -2,10 +2,10 @@
 use mathlib.Core.Path.{_≡_}
 use mathlib.Core.Logic.{_↔_}
 use mathlib.Core.Bool.{Bool, true, false, not}
-use mathlib.Core.List.{List, [], _∷_, _++_}
+use mathlib.Core.List.{List, [], _∷_, _++_, map}
 use Prim.Native.Nat.{ℕ, _+_, _*_, _-_, _^_, _<_, _≤_}
 use lib.Bits.{bitOr}
-use lib.ListN.{length, take, drop, getD}
+use lib.ListN.{length, take, drop, getD, replicate}
 use Rattle.bits.specs.Digits.{bit}
 use Rattle.circuit.specs.declared.gate.Gate.{Gate}
 use Rattle.circuit.specs.Gate.{maxLines, valid, fires, apply}
@@ -13,7 +13,7 @@ use Rattle.circuit.specs.Outcome.{served, Untouched}
 use Rattle.circuit.specs.Words.{gatesOf, gateIn, allValid}
 use Rattle.circuit.specs.Run.{run, Differs}
 use Rattle.checking.specs.Compare.{Difference, none, lowestFrom, Says}
-use Rattle.checking.specs.Faults.{isFree, missing, maskWhere, faultMasks, faultOutcome, faultBuffer}
+use Rattle.checking.specs.Faults.{isFree, missing, gateFaults, gateMasks, maskWhere, faultMasks, faultOutcome, faultBuffer}
 use Rattle.checking.specs.RefusalLaws.{Every}
 
 -- ---- the sweep
@@ -37,31 +37,31 @@ pub record Candidate (n : ℕ) (gs : List Gate) (xs : List ℕ) (i : ℕ) (posit
   pub fired : (j : ℕ) → j < length xs → fires (gateIn gs i) (stateAt gs i xs j) ≡ true
   pub line : (j : ℕ) → j < length xs → bit (stateAt gs i xs j) k ≡ not positive
 
--- two masks a gate, positive then negative, in which exactly the candidates stand
-pub record Masking (masks : ℕ → List Gate → List ℕ → List ℕ) : Type 0 where
-  pub size : (n : ℕ) (gs : List Gate) (xs : List ℕ) → length (masks n gs xs) ≡ 2 * length gs
-  pub first : (n : ℕ) (gs : List Gate) (xs : List ℕ) (i k : ℕ) → i < length gs → (bit (getD (masks n gs xs) (2 * i) 0) k ≡ true) ↔ Candidate n gs xs i true k
-  pub second : (n : ℕ) (gs : List Gate) (xs : List ℕ) (i k : ℕ) → i < length gs → (bit (getD (masks n gs xs) (2 * i + 1) 0) k ≡ true) ↔ Candidate n gs xs i false k
-
--- the place of a gate's mask in the buffer: positive, then negative
+-- the place of a gate's mask: positive, then negative
 abbrev pub maskPlace : Bool → ℕ → ℕ
-maskPlace true i = 2 * i
-maskPlace false i = 2 * i + 1
+maskPlace true i = gateMasks * i
+maskPlace false i = gateMasks * i + 1
+
+-- two masks a gate, in which exactly the candidates stand
+pub record Masking (masks : ℕ → List Gate → List ℕ → List ℕ) : Type 0 where
+  pub size : (n : ℕ) (gs : List Gate) (xs : List ℕ) → length (masks n gs xs) ≡ gateMasks * length gs
+  pub lines : (n : ℕ) (gs : List Gate) (xs : List ℕ) (i line : ℕ) (positive : Bool) → i < length gs
+      → (bit (getD (masks n gs xs) (maskPlace positive i) 0) line ≡ true) ↔ Candidate n gs xs i positive line
 
 -- what stands in the last contents of a buffer after a served call on k gates of a suspect: exactly the candidates, and the rest as it was
 pub record MasksStand (n : ℕ) (suspect : List Gate) (states : List ℕ) (k : ℕ) (first last : List ℕ) : Type 0 where
   pub long : length last ≡ length first
   pub lines : (i line : ℕ) (positive : Bool) → i < k → (bit (getD last (maskPlace positive i) 0) line ≡ true) ↔ Candidate n suspect states i positive line
-  pub rest : drop (2 * k) last ≡ drop (2 * k) first
+  pub rest : drop (gateMasks * k) last ≡ drop (gateMasks * k) first
 
 -- 01's stand-ins: nothing struck, everything struck
 abbrev pub strikesNothing : ℕ → List Gate → List ℕ → List ℕ
 strikesNothing n [] xs = []
-strikesNothing n (g ∷ gs) xs = maskWhere n (isFree g) ∷ maskWhere n (isFree g) ∷ strikesNothing n gs xs
+strikesNothing n (g ∷ gs) xs = map (λ fault. maskWhere n (fault .lines g)) gateFaults ++ strikesNothing n gs xs
 
 abbrev pub strikesAll : ℕ → List Gate → List ℕ → List ℕ
 strikesAll n [] xs = []
-strikesAll n (g ∷ gs) xs = 0 ∷ 0 ∷ strikesAll n gs xs
+strikesAll n (g ∷ gs) xs = replicate gateMasks 0 ++ strikesAll n gs xs
 
 -- ---- repairs
 

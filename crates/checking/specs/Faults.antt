@@ -1,6 +1,6 @@
 -- Faults: the lines that may be a missing control of a gate of the suspect, by document 01. A line that stands is a candidate.
 use mathlib.Core.Bool.{Bool, true, false, not, xor, cond, _&&_}
-use mathlib.Core.List.{List, [], _∷_, _++_}
+use mathlib.Core.List.{List, [], _∷_, _++_, map}
 use Prim.Native.Nat.{ℕ, zero, suc, _+_, _*_, _^_}
 use lib.Dec.{eqb, leb, ltb}
 use lib.ListN.{length}
@@ -17,33 +17,44 @@ use Rattle.checking.specs.Compare.{outputsDiffer}
 abbrev pub isFree : Gate → ℕ → Bool
 isFree g k = not (eqb k (g .target)) && (not (bit (g .positive) k) && not (bit (g .negative) k))
 
+-- a fault of a gate: the lines on which it may be, and its pattern on line k at the state before the gate
+pub record Fault : Type 0 where
+  pub lines : Gate → ℕ → Bool
+  pub pattern : ℕ → Gate → ℕ → Bool
+
 -- the pattern of a missing control on line k: the gate fires, and the line is 0 for a positive one, 1 for a negative one
 abbrev pub missing : Bool → ℕ → Gate → ℕ → Bool
 missing positive k g s = fires g s && xor positive (bit s k)
+
+abbrev pub missingControl : Bool → Fault
+missingControl positive = record { lines = isFree; pattern = missing positive }
+
+-- the faults that have a mask for each gate, in the order of the masks: a missing positive control, then a missing negative one
+abbrev pub gateFaults : List Fault
+gateFaults = missingControl true ∷ missingControl false ∷ []
+
+-- the masks of a gate
+abbrev pub gateMasks : ℕ
+gateMasks = length gateFaults
 
 -- the pattern matches for every given state, at the gate that comes after the gates `before`
 unfoldable pub everywhere : (ℕ → Bool) → List Gate → List ℕ → Bool
 everywhere pattern before [] = true
 everywhere pattern before (x ∷ xs) = pattern (run before x) && everywhere pattern before xs
 
--- line k stands in a mask of gate g
-abbrev pub stands : Bool → List Gate → Gate → List ℕ → ℕ → Bool
-stands positive before g xs k = isFree g k && everywhere (missing positive k g) before xs
+-- line k stands in the mask of a fault of gate g
+abbrev pub stands : Fault → List Gate → Gate → List ℕ → ℕ → Bool
+stands fault before g xs k = fault .lines g k && everywhere (fault .pattern k g) before xs
 
 -- the mask of the lines below n of which the test holds
 unfoldable pub maskWhere : ℕ → (ℕ → Bool) → ℕ
 maskWhere zero test = 0
 maskWhere (suc n) test = maskWhere n test + cond (test n) (2 ^ n) 0
 
--- the masks of a gate
-abbrev pub gateMasks : ℕ
-gateMasks = 2
-
--- two masks a gate: missing positive controls, then missing negative ones
+-- the masks of each gate, one a fault
 unfoldable pub masksFrom : ℕ → List Gate → List Gate → List ℕ → List ℕ
 masksFrom n before [] xs = []
-masksFrom n before (g ∷ gs) xs =
-    maskWhere n (stands true before g xs) ∷ maskWhere n (stands false before g xs) ∷ masksFrom n (before ++ (g ∷ [])) gs xs
+masksFrom n before (g ∷ gs) xs = map (λ fault. maskWhere n (stands fault before g xs)) gateFaults ++ masksFrom n (before ++ (g ∷ [])) gs xs
 
 abbrev pub faultMasks : ℕ → List Gate → List ℕ → List ℕ
 faultMasks n suspect xs = masksFrom n [] suspect xs

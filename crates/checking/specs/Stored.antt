@@ -3,10 +3,12 @@ use mathlib.Core.Path.{_≡_}
 use mathlib.Core.Bool.{cond}
 use mathlib.Core.List.{List, [], _∷_, _++_}
 use mathlib.Core.Option.{Option, none, some}
-use Prim.Native.Nat.{ℕ, zero, suc, _<_}
+use Prim.Native.Nat.{ℕ, zero, suc, _^_, _<_}
 use lib.Dec.{leb}
 use lib.IntN.{ℤ, pos, negsuc}
 use lib.ListN.{length, take, drop}
+use mir.Syntax.{Width, w16}
+use mir.Val.{hbits}
 use Rattle.bits.specs.Lists.{All}
 use Rattle.checking.specs.Clauses.{Clause, OR, XOR}
 
@@ -67,9 +69,12 @@ pub record BadAt (ws : List ℤ) (i : ℕ) : Type 0 where
   pub some-left : left ≡ [] → ⊥
   pub no-clause : (c : Clause) (more : List ℤ) → left ≡ storedClause c ++ more → ⊥
 
--- a signed 16-bit word holds the numbers from −2 ^ 15 to 2 ^ 15 − 1
+-- the width of a clause word, `ClauseWord` in the code; a signed one holds the numbers from −wordLimit to wordLimit − 1
+abbrev pub wordWidth : Width
+wordWidth = w16
+
 abbrev pub wordLimit : ℕ
-wordLimit = 32768
+wordLimit = 2 ^ hbits wordWidth
 
 abbrev pub FitsWord : ℤ → Type 0
 FitsWord (pos v) = v < wordLimit

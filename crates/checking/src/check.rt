@@ -1,13 +1,14 @@
 // The whole way from two cascades to clauses: the miter, a list of calls on it, and the emission.
 
-use crate::clauses::SizesAnswer;
+use crate::clauses::ClauseWord;
+use crate::clauses::EmitAnswer;
 use circuit::gate::Gate;
 use circuit::words::CountAnswer;
 ghost use Prim.Native.Nat.{_*_, _≤_};
 ghost use lib.ListN.{length};
 ghost use Rattle.circuit.specs.Outcome.{Yields};
 ghost use Rattle.checking.specs.Check.{callOf, callsOf, called, calledAll, Checks};
-ghost use Rattle.checking.specs.Sizes.{ofSizes};
+ghost use Rattle.checking.specs.Emit.{ofEmit};
 use crate::reduce::ReduceAnswer;
 use crate::step::StepAnswer;
 
@@ -55,12 +56,12 @@ pub fn check(
     b: &[u64],
     calls: &[u64],
     work: &mut [u64],
-    out: &mut [i16],
-) -> SizesAnswer
-    ensures { λ r. ⌜ Checks na (now (a .entry)) nb (now (b .entry)) (callsOf (now (calls .entry))) (now (work .entry)) (now (out .entry)) (ofSizes r) (now (work .exit)) (now (out .exit)) ⌝ }
+    out: &mut [ClauseWord],
+) -> EmitAnswer
+    ensures { λ r. ⌜ Checks na (now (a .entry)) nb (now (b .entry)) (callsOf (now (calls .entry))) (now (work .entry)) (now (out .entry)) (ofEmit r) (now (work .exit)) (now (out .exit)) ⌝ }
 {
     match crate::miter::miter(na, a, nb, b, work) {
-        CountAnswer::Refused(why) => SizesAnswer::Refused(why),
+        CountAnswer::Refused(why) => EmitAnswer::Refused(why),
         CountAnswer::Gates(gates) => {
             let left = make_calls(calls, gates, work);
             let end = Gate::WORDS * left;

@@ -1,5 +1,6 @@
-// The clauses of a cascade, in signed 16-bit words: its gates, its lines, and the OR of all d.
+// The clauses of a cascade, in clause words: its gates, its lines, and the OR of all d.
 
+use crate::clauses::ClauseWord;
 use circuit::gate::Gate;
 ghost use mathlib.Core.Path.{_≡_};
 ghost use Prim.Native.Nat.{_+_, _≤_, _<_};
@@ -43,7 +44,7 @@ fn set_inputs(n: u64, current: &mut [u64])
 }
 
 // The gates' clauses at the buffer's start; the current variables after them.
-fn put_gates(n: u64, words: &[u64], current: &mut [u64], out: &mut [i16]) -> Front
+fn put_gates(n: u64, words: &[u64], current: &mut [u64], out: &mut [ClauseWord]) -> Front
     requires { ⌜ GatesReady n (now words) (now current) (length (now out)) ⌝ }
     ensures { λ r. ⌜ GatesPut n (gatesOf (now (words .entry))) (now (current .exit)) (now (out .entry)) (now (out .exit)) (r .at) (r .used) ⌝ }
 {
@@ -64,7 +65,7 @@ fn put_gates(n: u64, words: &[u64], current: &mut [u64], out: &mut [i16]) -> Fro
 }
 
 // The clause of a line's d at the buffer's start; how many words.
-fn put_difference(hit: bool, d: u64, a: u64, b: u64, out: &mut [i16]) -> usize
+fn put_difference(hit: bool, d: u64, a: u64, b: u64, out: &mut [ClauseWord]) -> usize
     requires { ⌜ LineReady hit d a b (length (now out)) ⌝ }
     ensures { λ r. ⌜ Yields r (now (out .exit)) (length (lineStored hit d a b)) (over (lineStored hit d a b) (now (out .entry))) ⌝ }
 {
@@ -80,7 +81,7 @@ fn put_difference(hit: bool, d: u64, a: u64, b: u64, out: &mut [i16]) -> usize
 }
 
 // The clauses of the lines at the buffer's start; a line is hit where its last variable is no input.
-fn put_differences(n: u64, current: &[u64], used: u64, out: &mut [i16]) -> usize
+fn put_differences(n: u64, current: &[u64], used: u64, out: &mut [ClauseWord]) -> usize
     requires { ⌜ LinesReady n (now current) used (length (now out)) ⌝ }
     ensures { λ r. ⌜ Yields r (now (out .exit)) (length (linesStored n (now (current .entry)) used)) (over (linesStored n (now (current .entry)) used) (now (out .entry))) ⌝ }
 {
@@ -95,7 +96,7 @@ fn put_differences(n: u64, current: &[u64], used: u64, out: &mut [i16]) -> usize
 }
 
 // The OR of all d at the buffer's start.
-fn put_last(n: u64, used: u64, out: &mut [i16])
+fn put_last(n: u64, used: u64, out: &mut [ClauseWord])
     requires { ⌜ n ≤ maxLines ⌝ }
     requires { ⌜ used + n < wordLimit ⌝ }
     requires { ⌜ n + 2 ≤ length (now out) ⌝ }
@@ -111,7 +112,7 @@ fn put_last(n: u64, used: u64, out: &mut [i16])
 }
 
 // The stored clauses of a cascade at the buffer's start.
-pub(crate) fn put_list(n: u64, words: &[u64], out: &mut [i16])
+pub(crate) fn put_list(n: u64, words: &[u64], out: &mut [ClauseWord])
     requires { ⌜ ListReady n (now words) (length (now out)) ⌝ }
     ensures { λ _. ⌜ now (out .exit) ≡ over (stored (clausesOf n (gatesOf (now (words .entry))))) (now (out .entry)) ⌝ }
 {

@@ -1,5 +1,6 @@
-// The clauses of one gate, in signed 16-bit words.
+// The clauses of one gate, in clause words.
 
+use crate::clauses::ClauseWord;
 use circuit::gate::Gate;
 ghost use mathlib.Core.Path.{_≡_};
 ghost use mathlib.Core.List.{[], _∷_};
@@ -12,19 +13,19 @@ ghost use Rattle.checking.specs.Stored.{wordLimit};
 ghost use Rattle.checking.specs.private.Emitter.{literalWord, literalsIn, controlsStored, Currents, Lines, Many, manyStored, gateStored, Ready};
 
 // The number as a word.
-pub(crate) fn number(x: u64) -> i16
+pub(crate) fn number(x: u64) -> ClauseWord
     requires { ⌜ x < wordLimit ⌝ }
     ensures { λ r. ⌜ r ≡ pos x ⌝ }
 {
-    x as i16
+    x as ClauseWord
 }
 
 // The literal of a variable.
-pub(crate) fn literal(variable: u64, positive: bool) -> i16
+pub(crate) fn literal(variable: u64, positive: bool) -> ClauseWord
     requires { ⌜ variable < wordLimit ⌝ }
     ensures { λ r. ⌜ r ≡ literalWord positive variable ⌝ }
 {
-    let v = variable as i16;
+    let v = variable as ClauseWord;
     if positive {
         return v;
     }
@@ -32,7 +33,7 @@ pub(crate) fn literal(variable: u64, positive: bool) -> i16
 }
 
 // Three words at the buffer's start.
-pub(crate) fn put_3(out: &mut [i16], a: i16, b: i16, c: i16)
+pub(crate) fn put_3(out: &mut [ClauseWord], a: ClauseWord, b: ClauseWord, c: ClauseWord)
     requires { ⌜ 3 ≤ length (now out) ⌝ }
     ensures { λ _. ⌜ now (out .exit) ≡ over (a ∷ (b ∷ (c ∷ []))) (now (out .entry)) ⌝ }
 {
@@ -42,7 +43,7 @@ pub(crate) fn put_3(out: &mut [i16], a: i16, b: i16, c: i16)
 }
 
 // Four words at the buffer's start.
-fn put_4(out: &mut [i16], a: i16, b: i16, c: i16, d: i16)
+fn put_4(out: &mut [ClauseWord], a: ClauseWord, b: ClauseWord, c: ClauseWord, d: ClauseWord)
     requires { ⌜ 4 ≤ length (now out) ⌝ }
     ensures { λ _. ⌜ now (out .exit) ≡ over (a ∷ (b ∷ (c ∷ (d ∷ [])))) (now (out .entry)) ⌝ }
 {
@@ -53,7 +54,14 @@ fn put_4(out: &mut [i16], a: i16, b: i16, c: i16, d: i16)
 }
 
 // Five words at the buffer's start.
-pub(crate) fn put_5(out: &mut [i16], a: i16, b: i16, c: i16, d: i16, e: i16)
+pub(crate) fn put_5(
+    out: &mut [ClauseWord],
+    a: ClauseWord,
+    b: ClauseWord,
+    c: ClauseWord,
+    d: ClauseWord,
+    e: ClauseWord,
+)
     requires { ⌜ 5 ≤ length (now out) ⌝ }
     ensures { λ _. ⌜ now (out .exit) ≡ over (a ∷ (b ∷ (c ∷ (d ∷ (e ∷ []))))) (now (out .entry)) ⌝ }
 {
@@ -72,7 +80,7 @@ fn put_controls(
     n: u64,
     current: &[u64],
     p: u64,
-    out: &mut [i16],
+    out: &mut [ClauseWord],
 )
     requires { ⌜ Currents n (now current) ⌝ }
     requires { ⌜ Lines lines k n ⌝ }
@@ -105,7 +113,7 @@ fn put_many(
     current: &[u64],
     used: u64,
     v: u64,
-    out: &mut [i16],
+    out: &mut [ClauseWord],
 ) -> usize
     requires { ⌜ Currents n (now current) ⌝ }
     requires { ⌜ Many lines k n used v (length (now out)) ⌝ }
@@ -128,7 +136,7 @@ fn put_many(
 }
 
 // The gate's clauses at the buffer's start, with `used` variables numbered so far; how many words.
-pub(crate) fn put_gate(g: Gate, n: u64, current: &[u64], used: u64, out: &mut [i16]) -> usize
+pub(crate) fn put_gate(g: Gate, n: u64, current: &[u64], used: u64, out: &mut [ClauseWord]) -> usize
     requires { ⌜ Ready n used (now current) g (length (now out)) ⌝ }
     ensures { λ r. ⌜ Yields r (now (out .exit)) (length (gateStored used (now (current .entry)) g)) (over (gateStored used (now (current .entry)) g) (now (out .entry))) ⌝ }
 {

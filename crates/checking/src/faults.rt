@@ -16,8 +16,11 @@ ghost use Rattle.circuit.specs.Outcome.{Yields};
 ghost use Rattle.circuit.specs.Refusal.{badState, agreeingState};
 ghost use Rattle.circuit.specs.Words.{gatesOf, allValid, ofCount};
 ghost use Rattle.checking.specs.Compare.{outputsDiffer};
-ghost use Rattle.checking.specs.Faults.{isFree, maskWhere, masksFrom, eachFrom, faultCheck, faultOutcome, faultBuffer};
+ghost use Rattle.checking.specs.Faults.{isFree, gateMasks, maskWhere, masksFrom, eachFrom, faultCheck, faultOutcome, faultBuffer};
 ghost use Rattle.checking.specs.private.Narrowing.{kept, narrowed, narrowedBy};
+
+// The masks of a gate: of a missing positive control, then of a missing negative one.
+const MASKS: usize = 2;
 
 // The lines below n.
 fn lines_below(n: u64) -> u64
@@ -63,18 +66,18 @@ fn kept_negative(g: Gate, state: u64) -> u64
     0
 }
 
-// The masks before any state: the free lines of each gate, twice.
+// The masks before any state: the free lines of each gate, in each of its masks.
 fn start_masks(n: u64, words: &[u64], out: &mut [u64])
     requires { ⌜ n ≤ maxLines ⌝ }
     requires { ⌜ allValid n (gatesOf (now words)) ≡ true ⌝ }
-    requires { ⌜ 2 * length (gatesOf (now words)) ≤ length (now out) ⌝ }
+    requires { ⌜ gateMasks * length (gatesOf (now words)) ≤ length (now out) ⌝ }
     ensures { λ _. ⌜ now (out .exit) ≡ over (masksFrom n [] (gatesOf (now (words .entry))) []) (now (out .entry)) ⌝ }
 {
     let gates = words.len() / Gate::WORDS;
     let mut i = 0;
     while i < gates {
         let free = free_lines(circuit::words::gate_at(words, i), n);
-        let at = 2 * i;
+        let at = MASKS * i;
         out[at] = free;
         out[at + 1] = free;
         i += 1;
@@ -84,7 +87,7 @@ fn start_masks(n: u64, words: &[u64], out: &mut [u64])
 // The masks after one state more.
 fn narrow(words: &[u64], state: u64, out: &mut [u64])
     requires { ⌜ allValid maxLines (gatesOf (now words)) ≡ true ⌝ }
-    requires { ⌜ 2 * length (gatesOf (now words)) ≤ length (now out) ⌝ }
+    requires { ⌜ gateMasks * length (gatesOf (now words)) ≤ length (now out) ⌝ }
     ensures { λ _. ⌜ now (out .exit) ≡ narrowed (gatesOf (now (words .entry))) state (now (out .entry)) ⌝ }
 {
     let gates = words.len() / Gate::WORDS;
@@ -92,7 +95,7 @@ fn narrow(words: &[u64], state: u64, out: &mut [u64])
     let mut i = 0;
     while i < gates {
         let g = circuit::words::gate_at(words, i);
-        let at = 2 * i;
+        let at = MASKS * i;
         out[at] = out[at] & kept_positive(g, s);
         out[at + 1] = out[at + 1] & kept_negative(g, s);
         s = g.toggle(s);
@@ -103,7 +106,7 @@ fn narrow(words: &[u64], state: u64, out: &mut [u64])
 // The masks after all states.
 fn narrow_all(words: &[u64], states: &[u64], out: &mut [u64])
     requires { ⌜ allValid maxLines (gatesOf (now words)) ≡ true ⌝ }
-    requires { ⌜ 2 * length (gatesOf (now words)) ≤ length (now out) ⌝ }
+    requires { ⌜ gateMasks * length (gatesOf (now words)) ≤ length (now out) ⌝ }
     ensures { λ _. ⌜ now (out .exit) ≡ narrowedBy (gatesOf (now (words .entry))) (now (states .entry)) (now (out .entry)) ⌝ }
 {
     let mut i = 0;
@@ -173,7 +176,7 @@ pub fn fault_masks(
     match check_faults(na, suspect, nb, reference, states) {
         CountAnswer::Refused(why) => CountAnswer::Refused(why),
         CountAnswer::Gates(gates) => {
-            if out.len() < 2 * gates {
+            if out.len() < MASKS * gates {
                 return CountAnswer::Refused(Refusal::no_room());
             }
             start_masks(na, suspect, out);

@@ -17,6 +17,7 @@ pub use Rattle.circuit.proofs.lemmas.inverse.Laws.{run-inverse, inverse
 -- files, and the bytes of a text
 pub use Rattle.circuit.proofs.lemmas.file.Laws.{reader, read-as, read-served, served-read, read-refused, write-served, served-write, write-refused, refuses-all}
 pub use Rattle.circuit.proofs.lemmas.file.RoundTrip.{round-trip, idle-reading, idle-writing, read-leaves}
+pub use Rattle.circuit.proofs.lemmas.file.Controls.{controls-inside}
 pub use Rattle.circuit.proofs.lemmas.file.Lines.{longer-some, same-true, same-self, true-same}
 pub use Rattle.circuit.proofs.lemmas.file.Numbers.{is-digit, digit-bounds}
 pub use Rattle.circuit.proofs.lemmas.file.put.Laws.{Written, copied, written-none, written-first, written-more, written-put, put-as, rest-length}

@@ -1,7 +1,7 @@
 -- Reading a cascade file by lines and fields, and what the two calls on files answer and leave, by document 01.
 use mathlib.Core.Bool.{Bool, true, false, not, cond, _&&_, _||_, Bool·beq}
 use mathlib.Core.List.{List, [], _∷_, _++_}
-use Prim.Native.Nat.{ℕ, _+_, _*_, _-_, _^_, _<_}
+use Prim.Native.Nat.{ℕ, _+_, _*_, _-_, _^_}
 use lib.Dec.{eqb, leb, ltb}
 use lib.Bits.{bitOr}
 use lib.ListN.{length}
@@ -92,11 +92,6 @@ controlsFrom n i cs [] = served cs
 controlsFrom n i cs (f ∷ fs) = andThen (controlOf n i f) (λ c. controlsFrom n i (cs ++ (c ∷ [])) fs)
 
 -- ---- the gate of line i
-
--- every control is a line of the cascade
-pub data Inside (n : ℕ) : List Control → Type 0 where
-  none : Inside n []
-  more : (c : Control) (cs : List Control) → c .line < n → Inside n cs → Inside n (c ∷ cs)
 
 -- whether line t is among the controls
 unfoldable pub among : ℕ → List Control → Bool

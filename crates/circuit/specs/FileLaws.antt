@@ -7,12 +7,12 @@ use Prim.Native.Nat.{ℕ, _+_, _*_, _/_, _<_, _≤_}
 use lib.ListN.{length, take}
 use Rattle.bits.specs.Lists.{over}
 use Rattle.circuit.specs.declared.gate.Gate.{Gate}
-use Rattle.circuit.specs.Gate.{maxLines, maxGates, Control}
+use Rattle.circuit.specs.Gate.{maxLines, maxGates, Control, Inside}
 use Rattle.circuit.specs.Outcome.{Outcome, served, refused, Wrong, Fails, Untouched, Yields}
 use Rattle.circuit.specs.Refusal.{wrongForm, badLineCount, lineOutside, targetControlled, notRising, tooManyGates, noRoom}
 use Rattle.circuit.specs.Words.{gatesOf, wordsOf, allValid, Cascade, WordsRefused}
 use Rattle.circuit.specs.Text.{linesWord, gateWord, endWord, numberText, controlText, headerLine, gateLines, textOf}
-use Rattle.circuit.specs.File.{Inside, Line, firstLine, linesOf, fieldsOf, Reading, reading, ReadCounts, readOutcome, readBuffer, writeOutcome, writeBuffer}
+use Rattle.circuit.specs.File.{Line, firstLine, linesOf, fieldsOf, Reading, reading, ReadCounts, readOutcome, readBuffer, writeOutcome, writeBuffer}
 
 -- a cascade that a file can hold
 pub record FileCascade (n : ℕ) (gs : List Gate) : Type 0 where

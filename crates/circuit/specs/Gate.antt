@@ -1,11 +1,12 @@
 -- A gate: its record, its effect on a state, and its limits, by document 01.
 use mathlib.Core.Bool.{Bool, true, false, not, cond, _&&_}
 use mathlib.Core.List.{List, [], _∷_, _++_}
-use Prim.Native.Nat.{ℕ, zero, suc, _+_, _%_, _^_}
+use Prim.Native.Nat.{ℕ, zero, suc, _+_, _%_, _^_, _<_}
 use lib.Dec.{eqb, ltb}
 use lib.Bits.{bitAnd, bitOr, bitXor}
 use lib.Count.{ones}
 use Rattle.bits.specs.Digits.{bit}
+use Rattle.bits.specs.Lists.{All}
 use Rattle.circuit.specs.declared.gate.Gate.{Gate}
 
 abbrev pub maxLines : ℕ
@@ -55,6 +56,10 @@ controlCount g = ones (g .positive) + ones (g .negative)
 pub record Control : Type 0 where
   pub line : ℕ
   pub positive : Bool
+
+-- every control is on a line below n
+abbrev pub Inside : ℕ → List Control → Type 0
+Inside n cs = All (λ (c : Control). c .line < n) cs
 
 -- the control on line k, where there is one
 abbrev pub controlAt : Gate → ℕ → List Control

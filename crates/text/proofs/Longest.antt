@@ -15,7 +15,7 @@ use Rattle.circuit.specs.Run.{run}
 use Rattle.circuit.proofs.Promises.{demand-met, run-below}
 use Rattle.checking.specs.Compare.{maxSweepLines, Difference, none, lowest, lowestFrom}
 use Rattle.checking.specs.Compare as sweep
-use Rattle.checking.specs.Clauses.{Clause, clausesOf, variablesOf}
+use Rattle.checking.specs.Clauses.{Clause, clausesOf, variablesOf, maxVariables}
 use Rattle.checking.specs.Stored.{stored}
 use Rattle.checking.proofs.Promises.{sweep-says, clause-laws}
 use Rattle.text.specs.Dimacs.{headerText, clausesText, dimacsOf}
@@ -24,7 +24,7 @@ use Rattle.text.specs.Tomiter.{refusalText}
 use Rattle.text.specs.Compare.{maxList, maxCompared, fileWords, miterWords, Files, cascades, faulty, filesOf, Comparison, gatesLeft, sweptAs, listAs, compared, comparedFiles, comparison, comparisonText, compareText, fitOutcome, Rooms, compareOutcome}
 use Rattle.text.specs.TwoFiles.{TwoFiles, WholeRefused, line, after, FilesRefused, first-long, second-long, first-file, second-file, lines-differ}
 use Rattle.text.proofs.Decimal.{decimal-few}
-use Rattle.text.proofs.Sizes.{fault-small}
+use Rattle.text.proofs.Sizes.{variable-few, fault-small}
 use Rattle.text.proofs.Rooms.{rooms-good}
 use Rattle.text.proofs.Verdicts.{Judged, judged, lines, kept, left-few}
 use Rattle.text.proofs.plain.Laws.{plain-few}
@@ -70,8 +70,8 @@ module _ (first second : List ℕ) (n : ℕ) (a b : List Gate) (t : TwoFiles fir
       let h = s .0 .state in
       omega (arith, differ-long x (run a x) (run b x), digits-few x (below x h), digits-few (run a x) (below _ (run-below n a (t .first-good .gates) x h)), digits-few (run b x) (below _ (run-below n b (t .second-good .gates) x h)))
 
-  header-few : (v m : ℕ) → v ≤ 4224 → m ≤ maxList → length (headerText v m) ≤ 18
-  header-few v m h l = omega (arith, header-long v m, decimal-few 3 v (omega arith), decimal-few 5 m (omega arith), decimal-few 0 0 (omega arith))
+  header-few : (v m : ℕ) → v ≤ maxVariables → m ≤ maxList → length (headerText v m) ≤ 18
+  header-few v m h l = omega (arith, header-long v m, variable-few v h, decimal-few 5 m (omega arith), decimal-few 0 0 (omega arith))
 
   list-few : length (comparisonText (listAs n gl)) ≤ maxCompared
   unfolding listAs

@@ -1,16 +1,16 @@
 -- The plain clauses of a list are satisfied exactly when the list is. Assumes nothing.
 use mathlib.Core.Path.{_≡_, refl, sym, ap, ap₂, _∙_}
 use mathlib.Core.Logic.{_↔_}
-use mathlib.Core.Bool.{Bool, true, false, not, _&&_, _||_, xor}
-use mathlib.Core.List.{List, [], _∷_, _++_, map}
-use Prim.Native.Nat.{ℕ, _≤_}
-use native.Mathlib.Omega.{arith}
+use mathlib.Core.Bool.{Bool, true, false, not, _&&_, _||_, xor, and-true, or-true, or-and-distrib-left}
+use mathlib.Core.List.{List, [], _∷_, map, map-append}
+use Prim.Native.Nat.{ℕ}
 use lib.IntN.{ℤ, negℤ}
 use Rattle.bits.specs.Lists.{All}
+use Rattle.bits.proofs.Bools.{none-xor, table₃}
 use Rattle.bits.proofs.Lists.{all-append, all-map}
 use Rattle.circuit.specs.declared.gate.Gate.{Gate}
 use Rattle.checking.specs.Clauses.{Clause, OR, XOR}
-use Rattle.checking.specs.Satisfaction.{value, holds, satisfies, variableOf, LiteralsWithin, clauseLiterals, ClausesWithin, Satisfying, Tells}
+use Rattle.checking.specs.Satisfaction.{value, holds, satisfies, LiteralsWithin, clauseLiterals, ClausesWithin, Satisfying, Tells}
 use Rattle.checking.proofs.Promises.{oddTrue, holds-or, holds-xor, value-neg, satisfies-append, neg-within, satisfies-none, satisfies-next}
 use Rattle.text.specs.Plain.{negations, plainClause, plainClauses, IsOr, AllOr}
 
@@ -20,38 +20,19 @@ use Rattle.text.specs.Plain.{negations, plainClause, plainClauses, IsOr,
 abbrev allHold : List Bool → List (List ℤ) → Bool
 allHold σ kss = satisfies σ (map OR kss)
 
-map-plus : {A B : Type 0} (f : A → B) (xs ys : List A) → map f (xs ++ ys) ≡ map f xs ++ map f ys
-map-plus f [] ys = refl
-map-plus f (x ∷ xs) ys = ap (λ (l : List _). f x ∷ l) (map-plus f xs ys)
-
-or-both : (v a b : Bool) → ((v || a) && (v || b)) ≡ (v || (a && b))
-or-both true a b = refl
-or-both false a b = refl
-
-or-true : (v : Bool) → true ≡ (v || true)
-or-true true = refl
-or-true false = refl
-
 -- a literal put before each of them
 joined : (σ : List Bool) (l : ℤ) (kss : List (List ℤ)) → allHold σ (map (λ (k : List ℤ). l ∷ k) kss) ≡ (value σ l || allHold σ kss)
-joined σ l [] = satisfies-none σ ∙ or-true (value σ l) ∙ ap (λ (b : Bool). value σ l || b) (sym (satisfies-none σ))
+joined σ l [] = satisfies-none σ ∙ sym (or-true (value σ l)) ∙ ap (λ (b : Bool). value σ l || b) (sym (satisfies-none σ))
 joined σ l (k ∷ kss) =
     satisfies-next σ (OR (l ∷ k)) (map OR (map (λ (k : List ℤ). l ∷ k) kss))
     ∙ ap₂ _&&_ (holds-or σ (l ∷ k) ∙ ap (λ (b : Bool). value σ l || b) (sym (holds-or σ k))) (joined σ l kss)
-    ∙ or-both (value σ l) (holds σ (OR k)) (allHold σ kss)
+    ∙ sym (or-and-distrib-left (value σ l) (holds σ (OR k)) (allHold σ kss))
     ∙ ap (λ (b : Bool). value σ l || b) (sym (satisfies-next σ (OR k) (map OR kss)))
 
 -- by the value of the first literal and by what holds of the others
 step : (v t odd : Bool) → ((v || xor odd t) && (not v || xor (not odd) t)) ≡ xor odd (xor v t)
 unfolding xor
-step true true true = refl
-step true true false = refl
-step true false true = refl
-step true false false = refl
-step false true true = refl
-step false true false = refl
-step false false true = refl
-step false false false = refl
+step = table₃ _ _ refl
 
 negated-hold : (σ : List Bool) (m : ℕ) (odd : Bool) (ls : List ℤ) → LiteralsWithin m ls → allHold σ (negations odd ls) ≡ xor odd (oddTrue σ ls)
 unfolding negations xor
@@ -60,25 +41,16 @@ negated-hold σ m false [] w = satisfies-next σ (OR []) [] ∙ ap (λ (b : Bool
 negated-hold σ m odd (l ∷ ls) w =
     let p : List (List ℤ) = negations odd ls in
     let q : List (List ℤ) = negations (not odd) ls in
-    ap (satisfies σ) (map-plus OR (map (λ (k : List ℤ). l ∷ k) p) (map (λ (k : List ℤ). negℤ l ∷ k) q))
+    ap (satisfies σ) (map-append OR (map (λ (k : List ℤ). l ∷ k) p) (map (λ (k : List ℤ). negℤ l ∷ k) q))
     ∙ satisfies-append σ (map OR (map (λ (k : List ℤ). l ∷ k) p)) (map OR (map (λ (k : List ℤ). negℤ l ∷ k) q))
     ∙ ap₂ _&&_
     (joined σ l p ∙ ap (λ (b : Bool). value σ l || b) (negated-hold σ m odd ls (w .1)))
     (joined σ (negℤ l) q ∙ ap₂ _||_ (value-neg σ l (w .0 .0)) (negated-hold σ m (not odd) ls (w .1)))
     ∙ step (value σ l) (oddTrue σ ls) odd
 
-xor-false : (b : Bool) → xor false b ≡ b
-unfolding xor
-xor-false true = refl
-xor-false false = refl
-
-and-true : (b : Bool) → (b && true) ≡ b
-and-true true = refl
-and-true false = refl
-
 clause-plain : (σ : List Bool) (m : ℕ) (c : Clause) → LiteralsWithin m (clauseLiterals c) → satisfies σ (plainClause c) ≡ holds σ c
 clause-plain σ m (OR ls) w = satisfies-next σ (OR ls) [] ∙ ap (λ (b : Bool). holds σ (OR ls) && b) (satisfies-none σ) ∙ and-true (holds σ (OR ls))
-clause-plain σ m (XOR ls) w = negated-hold σ m false ls w ∙ xor-false (oddTrue σ ls) ∙ sym (holds-xor σ ls)
+clause-plain σ m (XOR ls) w = negated-hold σ m false ls w ∙ none-xor (oddTrue σ ls) ∙ sym (holds-xor σ ls)
 
 -- an assignment satisfies the plain clauses exactly when it satisfies the list
 pub plain-satisfied : (σ : List Bool) (m : ℕ) (cs : List Clause) → ClausesWithin m cs → satisfies σ (plainClauses cs) ≡ satisfies σ cs

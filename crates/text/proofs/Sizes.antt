@@ -1,7 +1,7 @@
 -- No text is longer than `maxText`. Assumes nothing.
 use mathlib.Core.Path.{_≡_, refl, sym, ap, subst}
 use mathlib.Core.List.{List, [], _∷_, _++_}
-use Prim.Native.Nat.{ℕ, suc, _*_, _^_, _/_, _≤_, _<_}
+use Prim.Native.Nat.{ℕ, suc, _*_, _≤_, _<_}
 use native.Mathlib.Nat.{le-trans}
 use native.Mathlib.Omega.{arith}
 use lib.Dec.{eqb, leb}
@@ -17,7 +17,7 @@ use Rattle.circuit.specs.FileLaws.{FileCascade, HeaderOffence, no-lines, no-num
 use Rattle.circuit.specs.FileLaws as laws
 use Rattle.circuit.proofs.Promises.{reader}
 use Rattle.checking.specs.Miter.{miterGates}
-use Rattle.checking.specs.Clauses.{Clause, OR, XOR, clausesOf}
+use Rattle.checking.specs.Clauses.{Clause, OR, XOR, clausesOf, maxVariables}
 use Rattle.checking.specs.Satisfaction.{variableOf, LiteralsWithin, clauseLiterals, ClausesWithin}
 use Rattle.checking.specs.Stored.{storedClause, stored}
 use Rattle.checking.proofs.Promises.{clause-laws, stored-next}
@@ -29,21 +29,25 @@ use Rattle.text.proofs.program.Laws.{fits}
 
 -- ---- the text of a clause list
 
-pub literal-few : (v : ℕ) (l : ℤ) → v ≤ 4224 → variableOf l ≤ v → length (literalText l) ≤ 5
-literal-few v (pos i) h s = omega (arith, decimal-few 3 i (omega arith))
-literal-few v (negsuc i) h s = omega (arith, decimal-few 3 (suc i) (omega arith))
+-- the number of a variable has four digits at most
+pub variable-few : (v : ℕ) → v ≤ maxVariables → length (decimal v) ≤ 4
+variable-few v h = decimal-few 3 v (omega arith)
 
-pub literals-few : (v : ℕ) (ls : List ℤ) → v ≤ 4224 → LiteralsWithin v ls → length (literalsText ls) ≤ 6 * length ls
+pub literal-few : (v : ℕ) (l : ℤ) → v ≤ maxVariables → variableOf l ≤ v → length (literalText l) ≤ 5
+literal-few v (pos i) h s = omega (arith, variable-few i (omega arith))
+literal-few v (negsuc i) h s = omega (arith, variable-few (suc i) (omega arith))
+
+pub literals-few : (v : ℕ) (ls : List ℤ) → v ≤ maxVariables → LiteralsWithin v ls → length (literalsText ls) ≤ 6 * length ls
 unfolding literalsText
 literals-few v [] h w = omega arith
 literals-few v (l ∷ ls) h w =
     omega (arith, literal-few v l h (w .0 .1), literals-few v ls h (w .1), length-append (literalText l ++ (blank ∷ [])) (literalsText ls), length-append (literalText l) (blank ∷ []))
 
-clause-few : (v : ℕ) (c : Clause) → v ≤ 4224 → LiteralsWithin v (clauseLiterals c) → length (clauseText c) ≤ 6 * length (storedClause c)
+clause-few : (v : ℕ) (c : Clause) → v ≤ maxVariables → LiteralsWithin v (clauseLiterals c) → length (clauseText c) ≤ 6 * length (storedClause c)
 clause-few v (OR ls) h w = omega (arith, literals-few v ls h w, length-append (literalsText ls) closing)
 clause-few v (XOR ls) h w = omega (arith, literals-few v ls h w, length-append (literalsText ls) closing)
 
-clauses-few : (v : ℕ) (cs : List Clause) → v ≤ 4224 → ClausesWithin v cs → length (clausesText cs) ≤ 6 * length (stored cs)
+clauses-few : (v : ℕ) (cs : List Clause) → v ≤ maxVariables → ClausesWithin v cs → length (clausesText cs) ≤ 6 * length (stored cs)
 unfolding clausesText
 clauses-few v [] h w = omega arith
 clauses-few v (c ∷ cs) h w =
@@ -54,16 +58,16 @@ count-few [] = omega arith
 count-few (OR ls ∷ cs) = omega (arith, count-few cs, ap length (stored-next (OR ls) cs), length-append ls (stored cs))
 count-few (XOR ls ∷ cs) = omega (arith, count-few cs, ap length (stored-next (XOR ls) cs), length-append ls (stored cs))
 
-header-few : (v m : ℕ) → v ≤ 4224 → m ≤ maxWords → length (headerText v m) ≤ 17
+header-few : (v m : ℕ) → v ≤ maxVariables → m ≤ maxWords → length (headerText v m) ≤ 17
 unfolding headerText
 header-few v m h l =
-    omega (arith, decimal-few 3 v (omega arith), decimal-few 4 m (omega arith), length-append (decimal v) (blank ∷ (decimal m ++ (lineFeed ∷ []))), length-append (decimal m) (lineFeed ∷ []))
+    omega (arith, variable-few v h, decimal-few 4 m (omega arith), length-append (decimal v) (blank ∷ (decimal m ++ (lineFeed ∷ []))), length-append (decimal m) (lineFeed ∷ []))
 
 -- ---- what a verdict says
 
 -- so few variables and words, or so small numbers
 abbrev Small : Verdict → Type 0
-Small (listed v cs) = (v ≤ 4224) × (ClausesWithin v cs) × (length (stored cs) ≤ maxWords)
+Small (listed v cs) = (v ≤ maxVariables) × (ClausesWithin v cs) × (length (stored cs) ≤ maxWords)
 Small (refusedAt number file place) = (number < 100) × (file < 10) × (place < 10000)
 
 small-text : (v : Verdict) → Small v → length (verdictText v) ≤ maxText

@@ -2,7 +2,7 @@
 use mathlib.Core.Bool.{cond, _&&_}
 use mathlib.Core.List.{List, [], _∷_, _++_}
 use mathlib.Core.Option.{Option, none, some}
-use Prim.Native.Nat.{ℕ, zero, suc, _+_, _*_, _-_, _/_, _%_}
+use Prim.Native.Nat.{ℕ, zero, suc, _+_, _*_, _-_, _/_, _%_, _≤_}
 use lib.Dec.{eqb, leb}
 use lib.ListN.{length}
 use Rattle.circuit.specs.declared.gate.Gate.{Gate}
@@ -65,7 +65,11 @@ checkedText (refusedAt number file place) = refusalText number file place
 unfoldable pub checkText : List ℕ → List ℕ → List ℕ → List ℕ
 checkText first second state = checkedText (checked first second state)
 
--- the call on slices: 10 where a room for the words of a cascade is too short, or the buffer is shorter than the text
+-- a room has fewer words than a cascade may have
+abbrev pub InputRoomShort : ℕ → ℕ → Type 0
+InputRoomShort room-a room-b = fileWords ≤ room-a → fileWords ≤ room-b → ⊥
+
+-- the call on slices: 10 where a room is too short, or the buffer is shorter than the text
 unfoldable pub inputOutcome : List ℕ → List ℕ → List ℕ → ℕ → ℕ → ℕ → Outcome ℕ
 inputOutcome first second state room-a room-b room =
     demand (leb fileWords room-a) noRoom 0

@@ -1,7 +1,7 @@
 -- Two cascade files compared: from their bytes to the bytes that are written.
 use mathlib.Core.Bool.{cond}
 use mathlib.Core.List.{List, [], _∷_, _++_}
-use Prim.Native.Nat.{ℕ, _+_, _^_}
+use Prim.Native.Nat.{ℕ, _+_, _^_, _≤_}
 use lib.Dec.{eqb, leb}
 use lib.ListN.{length}
 use Rattle.circuit.specs.declared.gate.Gate.{Gate}
@@ -155,7 +155,11 @@ pub record Rooms : Type 0 where
 abbrev pub rooms : ℕ → ℕ → ℕ → ℕ → Rooms
 rooms first second miter clauses = record { first = first; second = second; miter = miter; clauses = clauses }
 
--- 10 where a room has fewer words than a cascade, a miter or a clause list may have, or the buffer is shorter than the text
+-- a room has fewer words than a cascade, a miter or a clause list may have
+abbrev pub RoomShort : Rooms → Type 0
+RoomShort lent = fileWords ≤ lent .first → fileWords ≤ lent .second → miterWords ≤ lent .miter → maxList ≤ lent .clauses → ⊥
+
+-- 10 where a room is too short, or the buffer is shorter than the text
 unfoldable pub compareOutcome : List ℕ → List ℕ → Rooms → ℕ → Outcome ℕ
 compareOutcome first second lent room =
     demand (leb fileWords (lent .first)) noRoom 0

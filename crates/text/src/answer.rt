@@ -2,6 +2,7 @@
 
 use crate::TextAnswer;
 use crate::comparison::ComparedAnswer;
+use checking::clauses::ClauseWord;
 use circuit::refusal::Refusal;
 ghost use mathlib.Core.Path.{_≡_};
 ghost use mathlib.Core.List.{_++_};
@@ -51,7 +52,7 @@ pub(crate) fn fit_refusal(out: &mut [u8], why: Refusal, file: u64) -> TextAnswer
 }
 
 // Writes the plain clauses that words store, over so many variables.
-fn fit_clauses(out: &mut [u8], variables: u64, words: &[i16]) -> TextAnswer
+fn fit_clauses(out: &mut [u8], variables: u64, words: &[ClauseWord]) -> TextAnswer
     requires { ⌜ StoresPlain (now words) ⌝ }
     ensures { λ r. ⌜ Yields (ofText r) (now (out .exit)) (fitOutcome (dimacsOf variables (plainClauses (storedIn (now (words .entry))))) (length (now (out .entry)))) (fitBuffer (dimacsOf variables (plainClauses (storedIn (now (words .entry))))) (now (out .entry))) ⌝ }
 {
@@ -65,7 +66,11 @@ fn fit_clauses(out: &mut [u8], variables: u64, words: &[i16]) -> TextAnswer
 }
 
 // Writes what a comparison answers.
-pub(crate) fn fit_answer(out: &mut [u8], answer: ComparedAnswer, clauses: &[i16]) -> TextAnswer
+pub(crate) fn fit_answer(
+    out: &mut [u8],
+    answer: ComparedAnswer,
+    clauses: &[ClauseWord],
+) -> TextAnswer
     requires { ⌜ ComparedReady answer (now clauses) ⌝ }
     ensures { λ r. ⌜ Yields (ofText r) (now (out .exit)) (fitOutcome (comparisonText (ofCompared answer (now (clauses .entry)))) (length (now (out .entry)))) (fitBuffer (comparisonText (ofCompared answer (now (clauses .entry)))) (now (out .entry))) ⌝ }
 {

@@ -1,7 +1,8 @@
 // Two cascades compared: by the reduction of their miter, by the sweep, or by clauses for a solver.
 
 use crate::pair::FilesAnswer;
-use checking::clauses::SizesAnswer;
+use checking::clauses::ClauseWord;
+use checking::clauses::EmitAnswer;
 use checking::clauses::Totals;
 use checking::compare::DifferenceAnswer;
 use checking::reduce::ReduceAnswer;
@@ -70,14 +71,14 @@ fn sweep(n: u64, a: &[u64], b: &[u64]) -> ComparedAnswer
 }
 
 // The clause list of gates, in the room; else 10.
-fn list_gates(n: u64, words: &[u64], clauses: &mut [i16]) -> ComparedAnswer
+fn list_gates(n: u64, words: &[u64], clauses: &mut [ClauseWord]) -> ComparedAnswer
     requires { ⌜ MiterCascade n (now words) ⌝ }
     requires { ⌜ maxList ≤ length (now clauses) ⌝ }
     ensures { λ r. ⌜ SaysCompared r (now (clauses .exit)) (listAs n (gatesOf (now (words .entry)))) ⌝ }
 {
     match checking::clauses::emit(n, words, clauses) {
-        SizesAnswer::Refused(why) => ComparedAnswer::Refused { why, file: 0 },
-        SizesAnswer::Sizes(totals) => {
+        EmitAnswer::Refused(why) => ComparedAnswer::Refused { why, file: 0 },
+        EmitAnswer::Totals(totals) => {
             if (crate::MAX_LIST as u64) < totals.words {
                 return ComparedAnswer::Refused {
                     why: Refusal::no_room(),
@@ -95,7 +96,7 @@ fn compare_pair(
     a: &[u64],
     b: &[u64],
     room: &mut [u64],
-    clauses: &mut [i16],
+    clauses: &mut [ClauseWord],
 ) -> ComparedAnswer
     requires { ⌜ FileWords n (now a) ⌝ }
     requires { ⌜ FileWords n (now b) ⌝ }
@@ -121,7 +122,7 @@ pub(crate) fn compare_files(
     a: &mut [u64],
     b: &mut [u64],
     room: &mut [u64],
-    clauses: &mut [i16],
+    clauses: &mut [ClauseWord],
 ) -> ComparedAnswer
     requires { ⌜ fileWords ≤ length (now a) ⌝ }
     requires { ⌜ fileWords ≤ length (now b) ⌝ }

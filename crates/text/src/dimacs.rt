@@ -1,5 +1,6 @@
 // Writing the text of a clause list at the start of a buffer. Each function tells how many bytes it wrote.
 
+use checking::clauses::ClauseWord;
 ghost use mathlib.Core.Path.{_≡_};
 ghost use mathlib.Core.List.{[], _∷_, _++_};
 ghost use Prim.Native.Nat.{_+_, _≤_};
@@ -10,7 +11,7 @@ ghost use Rattle.text.specs.Dimacs.{blank, literalText, literalsText, cl
 ghost use Rattle.text.specs.private.Words.{signText, kindText, recordText, wordsText, Stores};
 
 // The variable of a literal, and the number that a word holds.
-pub(crate) fn magnitude(word: i16) -> u64
+pub(crate) fn magnitude(word: ClauseWord) -> u64
     ensures { λ r. ⌜ r ≡ variableOf word ⌝ }
 {
     if word < 0 {
@@ -20,7 +21,7 @@ pub(crate) fn magnitude(word: i16) -> u64
 }
 
 // Writes the sign of a literal.
-fn put_sign(out: &mut [u8], literal: i16) -> usize
+fn put_sign(out: &mut [u8], literal: ClauseWord) -> usize
     requires { ⌜ length (signText literal) ≤ length (now out) ⌝ }
     ensures { λ r. ⌜ Put r (now (out .exit)) (signText literal) (now (out .entry)) ⌝ }
 {
@@ -31,7 +32,7 @@ fn put_sign(out: &mut [u8], literal: i16) -> usize
 }
 
 // Writes a literal.
-fn put_signed(out: &mut [u8], literal: i16) -> usize
+fn put_signed(out: &mut [u8], literal: ClauseWord) -> usize
     requires { ⌜ length (literalText literal) ≤ length (now out) ⌝ }
     ensures { λ r. ⌜ Put r (now (out .exit)) (literalText literal) (now (out .entry)) ⌝ }
 {
@@ -40,7 +41,7 @@ fn put_signed(out: &mut [u8], literal: i16) -> usize
 }
 
 // Writes a literal and a blank.
-fn put_literal(out: &mut [u8], literal: i16) -> usize
+fn put_literal(out: &mut [u8], literal: ClauseWord) -> usize
     requires { ⌜ length (literalText literal) + 1 ≤ length (now out) ⌝ }
     ensures { λ r. ⌜ Put r (now (out .exit)) (literalText literal ++ (blank ∷ [])) (now (out .entry)) ⌝ }
 {
@@ -49,7 +50,7 @@ fn put_literal(out: &mut [u8], literal: i16) -> usize
 }
 
 // Writes literals, each followed by a blank.
-fn put_literals(out: &mut [u8], literals: &[i16]) -> usize
+fn put_literals(out: &mut [u8], literals: &[ClauseWord]) -> usize
     requires { ⌜ length (literalsText (now literals)) ≤ length (now out) ⌝ }
     ensures { λ r. ⌜ Put r (now (out .exit)) (literalsText (now (literals .entry))) (now (out .entry)) ⌝ }
 {
@@ -63,7 +64,7 @@ fn put_literals(out: &mut [u8], literals: &[i16]) -> usize
 }
 
 // Writes the `x` of an XOR.
-fn put_kind(out: &mut [u8], kind: i16) -> usize
+fn put_kind(out: &mut [u8], kind: ClauseWord) -> usize
     requires { ⌜ length (kindText kind) ≤ length (now out) ⌝ }
     ensures { λ r. ⌜ Put r (now (out .exit)) (kindText kind) (now (out .entry)) ⌝ }
 {
@@ -74,7 +75,7 @@ fn put_kind(out: &mut [u8], kind: i16) -> usize
 }
 
 // Writes literals and what closes their clause.
-pub(crate) fn put_closed(out: &mut [u8], literals: &[i16]) -> usize
+pub(crate) fn put_closed(out: &mut [u8], literals: &[ClauseWord]) -> usize
     requires { ⌜ length (literalsText (now literals)) + 2 ≤ length (now out) ⌝ }
     ensures { λ r. ⌜ Put r (now (out .exit)) (literalsText (now (literals .entry)) ++ closing) (now (out .entry)) ⌝ }
 {
@@ -83,7 +84,7 @@ pub(crate) fn put_closed(out: &mut [u8], literals: &[i16]) -> usize
 }
 
 // Writes a clause by its kind and its literals.
-fn put_clause(out: &mut [u8], kind: i16, literals: &[i16]) -> usize
+fn put_clause(out: &mut [u8], kind: ClauseWord, literals: &[ClauseWord]) -> usize
     requires { ⌜ length (recordText kind (now literals)) ≤ length (now out) ⌝ }
     ensures { λ r. ⌜ Put r (now (out .exit)) (recordText kind (now (literals .entry))) (now (out .entry)) ⌝ }
 {
@@ -92,7 +93,7 @@ fn put_clause(out: &mut [u8], kind: i16, literals: &[i16]) -> usize
 }
 
 // Writes the clauses that words store.
-fn put_clauses(out: &mut [u8], words: &[i16]) -> usize
+fn put_clauses(out: &mut [u8], words: &[ClauseWord]) -> usize
     requires { ⌜ Stores (now words) ⌝ }
     requires { ⌜ length (wordsText (now words)) ≤ length (now out) ⌝ }
     ensures { λ r. ⌜ Put r (now (out .exit)) (wordsText (now (words .entry))) (now (out .entry)) ⌝ }
@@ -118,7 +119,7 @@ pub(crate) fn put_header(out: &mut [u8], variables: u64, clauses: u64) -> usize
 }
 
 // Writes the header and the clauses that words store.
-pub(crate) fn put_list(out: &mut [u8], variables: u64, clauses: u64, words: &[i16]) -> usize
+pub(crate) fn put_list(out: &mut [u8], variables: u64, clauses: u64, words: &[ClauseWord]) -> usize
     requires { ⌜ Stores (now words) ⌝ }
     requires { ⌜ length (headerText variables clauses ++ wordsText (now words)) ≤ length (now out) ⌝ }
     ensures { λ r. ⌜ Put r (now (out .exit)) (headerText variables clauses ++ wordsText (now (words .entry))) (now (out .entry)) ⌝ }

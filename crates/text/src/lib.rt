@@ -1,12 +1,13 @@
 // The text of a clause list, and the program's whole job on slices.
 
+use checking::clauses::ClauseWord;
 use circuit::refusal::Refusal;
 ghost use Rattle.text.specs.Tomiter.{WritesText};
+ghost use mathlib.Core.Path.{_≡_};
 ghost use lib.ListN.{length};
-ghost use Rattle.circuit.specs.Outcome.{Yields};
-ghost use Rattle.text.specs.Compare.{rooms, compareOutcome, compareBuffer};
-ghost use Rattle.text.specs.CheckInput.{inputOutcome, inputBuffer};
-ghost use Rattle.text.specs.Answers.{ofText};
+ghost use Rattle.text.specs.Compare.{rooms, RoomShort, compareOutcome, compareBuffer};
+ghost use Rattle.text.specs.CheckInput.{InputRoomShort, inputOutcome, inputBuffer};
+ghost use Rattle.text.specs.Answers.{ofText, Serves};
 ghost use Rattle.text.specs.Laws.{Laws};
 
 mod answer;
@@ -61,7 +62,7 @@ pub fn tomiter(input: &[u8], out: &mut [u8]) -> TextAnswer
 }
 
 // Compares the cascades of two files and writes the verdict, or clauses for a solver, at the start of `out`; else 10.
-// The words of the cascades, of their miter and of its clauses stand in the rooms that follow; what these hold afterwards is no answer.
+// The words of the cascades, of their miter and of its clauses stand in the rooms that follow; what these hold afterwards is no answer, and where one is too short they are as they were.
 pub fn compare(
     first: &[u8],
     second: &[u8],
@@ -69,9 +70,9 @@ pub fn compare(
     a: &mut [u64],
     b: &mut [u64],
     miter: &mut [u64],
-    clauses: &mut [i16],
+    clauses: &mut [ClauseWord],
 ) -> TextAnswer
-    ensures { λ r. ⌜ Yields (ofText r) (now (out .exit)) (compareOutcome (now (first .entry)) (now (second .entry)) (rooms (length (now (a .entry))) (length (now (b .entry))) (length (now (miter .entry))) (length (now (clauses .entry)))) (length (now (out .entry)))) (compareBuffer (now (first .entry)) (now (second .entry)) (rooms (length (now (a .entry))) (length (now (b .entry))) (length (now (miter .entry))) (length (now (clauses .entry)))) (now (out .entry))) ⌝ }
+    ensures { λ r. ⌜ Serves (ofText r) (now (out .exit)) (compareOutcome (now (first .entry)) (now (second .entry)) (rooms (length (now (a .entry))) (length (now (b .entry))) (length (now (miter .entry))) (length (now (clauses .entry)))) (length (now (out .entry)))) (compareBuffer (now (first .entry)) (now (second .entry)) (rooms (length (now (a .entry))) (length (now (b .entry))) (length (now (miter .entry))) (length (now (clauses .entry)))) (now (out .entry))) (RoomShort (rooms (length (now (a .entry))) (length (now (b .entry))) (length (now (miter .entry))) (length (now (clauses .entry))))) ((now (a .exit) ≡ now (a .entry)) × (now (b .exit) ≡ now (b .entry)) × (now (miter .exit) ≡ now (miter .entry)) × (now (clauses .exit) ≡ now (clauses .entry))) ⌝ }
 {
     if a.len() < FILE_WORDS {
         return TextAnswer::Refused(Refusal::no_room());
@@ -90,7 +91,7 @@ pub fn compare(
 }
 
 // Gives an input, a character 0 or 1 for each line, to the cascades of two files, and writes `differ` or `agree` and both outputs at the start of `out`; else 10.
-// The words of the cascades stand in the rooms that follow; what these hold afterwards is no answer.
+// The words of the cascades stand in the rooms that follow; what these hold afterwards is no answer, and where one is too short they are as they were.
 pub fn check_input(
     first: &[u8],
     second: &[u8],
@@ -99,7 +100,7 @@ pub fn check_input(
     a: &mut [u64],
     b: &mut [u64],
 ) -> TextAnswer
-    ensures { λ r. ⌜ Yields (ofText r) (now (out .exit)) (inputOutcome (now (first .entry)) (now (second .entry)) (now (state .entry)) (length (now (a .entry))) (length (now (b .entry))) (length (now (out .entry)))) (inputBuffer (now (first .entry)) (now (second .entry)) (now (state .entry)) (length (now (a .entry))) (length (now (b .entry))) (now (out .entry))) ⌝ }
+    ensures { λ r. ⌜ Serves (ofText r) (now (out .exit)) (inputOutcome (now (first .entry)) (now (second .entry)) (now (state .entry)) (length (now (a .entry))) (length (now (b .entry))) (length (now (out .entry)))) (inputBuffer (now (first .entry)) (now (second .entry)) (now (state .entry)) (length (now (a .entry))) (length (now (b .entry))) (now (out .entry))) (InputRoomShort (length (now (a .entry))) (length (now (b .entry)))) ((now (a .exit) ≡ now (a .entry)) × (now (b .exit) ≡ now (b .entry))) ⌝ }
 {
     if a.len() < FILE_WORDS {
         return TextAnswer::Refused(Refusal::no_room());

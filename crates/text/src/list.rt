@@ -1,6 +1,7 @@
 // From the bytes of two cascade files to the clause list of their miter.
 
-use checking::clauses::SizesAnswer;
+use checking::clauses::ClauseWord;
+use checking::clauses::EmitAnswer;
 use checking::clauses::Totals;
 use circuit::file::ReadAnswer;
 use circuit::gate::Gate;
@@ -19,7 +20,7 @@ pub enum ListAnswer {
 }
 
 // The clause list of two cascades; else 8 or 10.
-fn list_pair(na: u64, a: &[u64], nb: u64, b: &[u64], clauses: &mut [i16]) -> ListAnswer
+fn list_pair(na: u64, a: &[u64], nb: u64, b: &[u64], clauses: &mut [ClauseWord]) -> ListAnswer
     requires { ⌜ FileWords na (now a) ⌝ }
     requires { ⌜ FileWords nb (now b) ⌝ }
     requires { ⌜ length (now clauses) ≡ maxWords ⌝ }
@@ -31,15 +32,15 @@ fn list_pair(na: u64, a: &[u64], nb: u64, b: &[u64], clauses: &mut [i16]) -> Lis
         CountAnswer::Gates(gates) => {
             let end = Gate::WORDS * gates;
             match checking::clauses::emit(na, &room[..end], clauses) {
-                SizesAnswer::Refused(why) => ListAnswer::Refused { why, file: 0 },
-                SizesAnswer::Sizes(totals) => ListAnswer::Listed(totals),
+                EmitAnswer::Refused(why) => ListAnswer::Refused { why, file: 0 },
+                EmitAnswer::Totals(totals) => ListAnswer::Listed(totals),
             }
         }
     }
 }
 
 // The clause list of a cascade and of the one in the second file; else what is wrong with that file, 8 or 10.
-fn list_second(n: u64, a: &[u64], text: &[u8], clauses: &mut [i16]) -> ListAnswer
+fn list_second(n: u64, a: &[u64], text: &[u8], clauses: &mut [ClauseWord]) -> ListAnswer
     requires { ⌜ FileWords n (now a) ⌝ }
     requires { ⌜ length (now clauses) ≡ maxWords ⌝ }
     ensures { λ r. ⌜ Delivers r (now (clauses .exit)) (secondVerdict n (gatesOf (now (a .entry))) (now (text .entry))) ⌝ }
@@ -63,7 +64,7 @@ fn list_second(n: u64, a: &[u64], text: &[u8], clauses: &mut [i16]) -> ListAnswe
 }
 
 // The clause list of the two files of an input; else what is wrong with it.
-pub(crate) fn list(input: &[u8], clauses: &mut [i16]) -> ListAnswer
+pub(crate) fn list(input: &[u8], clauses: &mut [ClauseWord]) -> ListAnswer
     requires { ⌜ length (now clauses) ≡ maxWords ⌝ }
     ensures { λ r. ⌜ Delivers r (now (clauses .exit)) (verdict (now (input .entry))) ⌝ }
 {

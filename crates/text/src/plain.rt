@@ -1,18 +1,19 @@
 // A clause list as OR clauses alone: its sizes, and writing it at the start of a buffer. Each writing function tells how many bytes it wrote.
 
+use checking::clauses::ClauseWord;
 ghost use mathlib.Core.Path.{_≡_};
 ghost use mathlib.Core.List.{[], _∷_, _++_};
 ghost use Prim.Native.Nat.{_+_, _≤_, _<_};
 ghost use lib.IntN.{negℤ};
 ghost use lib.ListN.{length};
 ghost use Rattle.bits.specs.Lists.{Put};
-ghost use Rattle.checking.specs.Clauses.{OR, XOR};
+ghost use Rattle.checking.specs.Clauses.{OR, XOR, maxVariables};
 ghost use Rattle.checking.specs.Satisfaction.{variableOf, LiteralsWithin};
 ghost use Rattle.checking.specs.Stored.{wordLimit};
 ghost use Rattle.text.specs.Dimacs.{decimal, literalText, literalsText, closing, clausesText, headerText};
 ghost use Rattle.text.specs.Plain.{plainClause};
 ghost use Rattle.text.specs.Compare.{maxList};
-ghost use Rattle.text.specs.private.Words.{maxVariables, bothOrs, plainRecord, Plainable, StoresPlain, plainText, plainSizes};
+ghost use Rattle.text.specs.private.Words.{bothOrs, plainRecord, Plainable, StoresPlain, plainText, plainSizes};
 
 // The bytes of a text, and the clauses in it.
 pub struct PlainSizes {
@@ -21,7 +22,7 @@ pub struct PlainSizes {
 }
 
 // The opposite literal.
-fn negated(literal: i16) -> i16
+fn negated(literal: ClauseWord) -> ClauseWord
     requires { ⌜ variableOf literal < wordLimit ⌝ }
     ensures { λ r. ⌜ r ≡ negℤ literal ⌝ }
 {
@@ -42,7 +43,7 @@ pub(crate) fn digits(k: u64) -> usize
 }
 
 // The bytes of a literal.
-fn literal_size(literal: i16) -> usize
+fn literal_size(literal: ClauseWord) -> usize
     ensures { λ r. ⌜ r ≡ length (literalText literal) ⌝ }
 {
     let count = digits(crate::dimacs::magnitude(literal));
@@ -53,7 +54,7 @@ fn literal_size(literal: i16) -> usize
 }
 
 // The bytes of a literal and of the opposite one.
-fn both_size(literal: i16) -> usize
+fn both_size(literal: ClauseWord) -> usize
     requires { ⌜ variableOf literal < wordLimit ⌝ }
     ensures { λ r. ⌜ r ≡ length (literalText literal) + length (literalText (negℤ literal)) ⌝ }
 {
@@ -61,7 +62,7 @@ fn both_size(literal: i16) -> usize
 }
 
 // The bytes of an OR.
-fn closed_size(literals: &[i16]) -> usize
+fn closed_size(literals: &[ClauseWord]) -> usize
     requires { ⌜ length (now literals) ≤ maxList ⌝ }
     requires { ⌜ LiteralsWithin maxVariables (now literals) ⌝ }
     ensures { λ r. ⌜ r ≡ length (literalsText (now (literals .entry)) ++ closing) ⌝ }
@@ -76,7 +77,7 @@ fn closed_size(literals: &[i16]) -> usize
 }
 
 // The bytes of a clause's plain clauses.
-fn record_size(kind: i16, literals: &[i16]) -> usize
+fn record_size(kind: ClauseWord, literals: &[ClauseWord]) -> usize
     requires { ⌜ Plainable kind (now literals) ⌝ }
     ensures { λ r. ⌜ r ≡ length (clausesText (plainRecord kind (now (literals .entry)))) ⌝ }
 {
@@ -91,7 +92,7 @@ fn record_size(kind: i16, literals: &[i16]) -> usize
 }
 
 // The number of a clause's plain clauses.
-fn record_clauses(kind: i16, literals: &[i16]) -> u64
+fn record_clauses(kind: ClauseWord, literals: &[ClauseWord]) -> u64
     requires { ⌜ Plainable kind (now literals) ⌝ }
     ensures { λ r. ⌜ r ≡ length (plainRecord kind (now (literals .entry))) ⌝ }
 {
@@ -105,7 +106,7 @@ fn record_clauses(kind: i16, literals: &[i16]) -> u64
 }
 
 // The sizes of the plain clauses that words store.
-pub(crate) fn list_sizes(words: &[i16]) -> PlainSizes
+pub(crate) fn list_sizes(words: &[ClauseWord]) -> PlainSizes
     requires { ⌜ StoresPlain (now words) ⌝ }
     ensures { λ r. ⌜ r ≡ plainSizes (now (words .entry)) ⌝ }
 {
@@ -123,7 +124,7 @@ pub(crate) fn list_sizes(words: &[i16]) -> PlainSizes
 }
 
 // Writes two ORs.
-fn put_ors(out: &mut [u8], first: &[i16], second: &[i16]) -> usize
+fn put_ors(out: &mut [u8], first: &[ClauseWord], second: &[ClauseWord]) -> usize
     requires { ⌜ length (clausesText (OR (now first) ∷ OR (now second) ∷ [])) ≤ length (now out) ⌝ }
     ensures { λ r. ⌜ Put r (now (out .exit)) (clausesText (OR (now (first .entry)) ∷ OR (now (second .entry)) ∷ [])) (now (out .entry)) ⌝ }
 {
@@ -132,7 +133,7 @@ fn put_ors(out: &mut [u8], first: &[i16], second: &[i16]) -> usize
 }
 
 // Writes the plain clauses of an XOR of two literals.
-fn put_pair(out: &mut [u8], a: i16, b: i16) -> usize
+fn put_pair(out: &mut [u8], a: ClauseWord, b: ClauseWord) -> usize
     requires { ⌜ (variableOf a < wordLimit) × (variableOf b < wordLimit) ⌝ }
     requires { ⌜ length (clausesText (plainClause (XOR (a ∷ b ∷ [])))) ≤ length (now out) ⌝ }
     ensures { λ r. ⌜ Put r (now (out .exit)) (clausesText (plainClause (XOR (a ∷ b ∷ [])))) (now (out .entry)) ⌝ }
@@ -143,7 +144,7 @@ fn put_pair(out: &mut [u8], a: i16, b: i16) -> usize
 }
 
 // Writes the ORs of three literals, and of the first and the opposite of the others.
-fn put_both(out: &mut [u8], a: i16, b: i16, c: i16) -> usize
+fn put_both(out: &mut [u8], a: ClauseWord, b: ClauseWord, c: ClauseWord) -> usize
     requires { ⌜ (variableOf b < wordLimit) × (variableOf c < wordLimit) ⌝ }
     requires { ⌜ length (clausesText (bothOrs a b c)) ≤ length (now out) ⌝ }
     ensures { λ r. ⌜ Put r (now (out .exit)) (clausesText (bothOrs a b c)) (now (out .entry)) ⌝ }
@@ -154,7 +155,7 @@ fn put_both(out: &mut [u8], a: i16, b: i16, c: i16) -> usize
 }
 
 // Writes the plain clauses of an XOR of three literals.
-fn put_triple(out: &mut [u8], a: i16, b: i16, c: i16) -> usize
+fn put_triple(out: &mut [u8], a: ClauseWord, b: ClauseWord, c: ClauseWord) -> usize
     requires { ⌜ (variableOf a < wordLimit) × (variableOf b < wordLimit) × (variableOf c < wordLimit) ⌝ }
     requires { ⌜ length (clausesText (plainClause (XOR (a ∷ b ∷ c ∷ [])))) ≤ length (now out) ⌝ }
     ensures { λ r. ⌜ Put r (now (out .exit)) (clausesText (plainClause (XOR (a ∷ b ∷ c ∷ [])))) (now (out .entry)) ⌝ }
@@ -164,7 +165,7 @@ fn put_triple(out: &mut [u8], a: i16, b: i16, c: i16) -> usize
 }
 
 // Writes a clause's plain clauses.
-fn put_record(out: &mut [u8], kind: i16, literals: &[i16]) -> usize
+fn put_record(out: &mut [u8], kind: ClauseWord, literals: &[ClauseWord]) -> usize
     requires { ⌜ Plainable kind (now literals) ⌝ }
     requires { ⌜ length (clausesText (plainRecord kind (now literals))) ≤ length (now out) ⌝ }
     ensures { λ r. ⌜ Put r (now (out .exit)) (clausesText (plainRecord kind (now (literals .entry)))) (now (out .entry)) ⌝ }
@@ -179,7 +180,7 @@ fn put_record(out: &mut [u8], kind: i16, literals: &[i16]) -> usize
 }
 
 // Writes the plain clauses that words store.
-fn put_records(out: &mut [u8], words: &[i16]) -> usize
+fn put_records(out: &mut [u8], words: &[ClauseWord]) -> usize
     requires { ⌜ StoresPlain (now words) ⌝ }
     requires { ⌜ length (plainText (now words)) ≤ length (now out) ⌝ }
     ensures { λ r. ⌜ Put r (now (out .exit)) (plainText (now (words .entry))) (now (out .entry)) ⌝ }
@@ -196,7 +197,7 @@ fn put_records(out: &mut [u8], words: &[i16]) -> usize
 }
 
 // Writes the header and the plain clauses that words store.
-pub(crate) fn put_plain(out: &mut [u8], variables: u64, clauses: u64, words: &[i16]) -> usize
+pub(crate) fn put_plain(out: &mut [u8], variables: u64, clauses: u64, words: &[ClauseWord]) -> usize
     requires { ⌜ StoresPlain (now words) ⌝ }
     requires { ⌜ length (headerText variables clauses ++ plainText (now words)) ≤ length (now out) ⌝ }
     ensures { λ r. ⌜ Put r (now (out .exit)) (headerText variables clauses ++ plainText (now (words .entry))) (now (out .entry)) ⌝ }

@@ -5,10 +5,9 @@ use mathlib.Core.List.{List, [], _∷_, _++_}
 use Prim.Native.Nat.{ℕ, _<_}
 use lib.ListN.{drop}
 use Rattle.circuit.specs.declared.gate.Gate.{Gate}
-use Rattle.circuit.specs.Gate.{maxLines, valid, Control}
+use Rattle.circuit.specs.Gate.{maxLines, valid, Control, Inside}
 use Rattle.circuit.specs.Words.{allValid}
 use Rattle.circuit.specs.Text.{lineFeed, numberText, controlsText, gateLine, gateLines}
-use Rattle.circuit.specs.File.{Inside}
 
 -- these bytes, and then anything
 pub record StandsAt (text : List ℕ) (at : ℕ) (bytes : List ℕ) : Type 0 where

@@ -21,7 +21,7 @@ use Rattle.circuit.proofs.Promises.{never, demand-met, demand-failed, gates-len
 use Rattle.checking.specs.declared.clauses.Totals.{Totals}
 use Rattle.checking.specs.Reduce.{Reduced, reduceGates, numbered, reduceOutcome, reduceBuffer}
 use Rattle.checking.specs.Compare.{maxSweepLines, Difference, lowestFrom, differenceOutcome}
-use Rattle.checking.specs.Clauses.{Clause, inputOf, moved, usedBy, literalOf, implied, gateClauses, gatesClauses, usedAfter, currentAfter, targeted, upFrom, differenceClause, differenceClauses, clausesOf, variablesOf}
+use Rattle.checking.specs.Clauses.{Clause, inputOf, moved, usedBy, literalOf, implied, gateClauses, gatesClauses, usedAfter, currentAfter, targeted, upFrom, differenceClause, differenceClauses, clausesOf, variablesOf, maxVariables}
 use Rattle.checking.specs.Satisfaction.{LiteralWithin, clauseLiterals, ClausesWithin}
 use Rattle.checking.specs.Stored.{stored}
 use Rattle.checking.specs.Emit.{emitOutcome, emitBuffer}
@@ -30,7 +30,7 @@ use Rattle.text.specs.declared.comparison.ComparedAnswer.{ComparedAnswer
 use Rattle.text.specs.declared.comparison.ComparedAnswer.the-variants as answer
 use Rattle.text.specs.declared.pair.FilesAnswer.the-variants as files
 use Rattle.text.specs.private.Lists.{FileWords, ListStands}
-use Rattle.text.specs.private.Words.{ShortClause, AllShort, maxVariables}
+use Rattle.text.specs.private.Words.{ShortClause, AllShort}
 use Rattle.text.specs.Compare.{maxList, Comparison, reduced, unsolved, refusedAt, gatesLeft, sweptAs, listAs, compared, filesOf, comparedFiles, comparison}
 use Rattle.text.specs.private.Comparing.{InRoom, MiterWords, MiterCascade, LeftIn, SaysFiles, SaysCompared, SaysAny}
 use Rattle.text.proofs.list.Laws.{emit-stands}

@@ -8,21 +8,20 @@ use lib.IntN.{ℤ, pos, negsuc, negℤ, _-ℤ_, +ℤ-idl, negℤ-negℤ}
 use lib.ListN.{length, take, drop, getD, length-append, length-drop}
 use lib.Signed.{ltZ}
 use borrow.Author.Tests.{ltb-true}
-use mir.Syntax.{w16}
 use mir.Val.{SFits, toZ, ofZ}
 use mir.ValLaws.{toZ-ofZ}
 use borrow.Rule.Slice.PartMut.{putMid}
 use Rattle.bits.specs.Lists.{Put}
 use Rattle.circuit.proofs.Promises.{Written, written-none, written-more, written-put, put-as}
-use Rattle.checking.specs.Clauses.{Clause, OR, XOR}
+use Rattle.checking.specs.Clauses.{Clause, OR, XOR, maxVariables}
 use Rattle.checking.specs.Satisfaction.{variableOf, LiteralsWithin, clauseLiterals, ClausesWithin}
-use Rattle.checking.specs.Stored.{wordLimit, storedClause, stored, clausesIn}
+use Rattle.checking.specs.Stored.{wordWidth, wordLimit, storedClause, stored, clausesIn}
 use Rattle.checking.proofs.Promises.{neg-size, read-back, stored-next}
 use Rattle.text.specs.declared.plain.PlainSizes.{PlainSizes}
 use Rattle.text.specs.Dimacs.{blank, decimal, literalText, literalsText, closing, clauseText, clausesText}
 use Rattle.text.specs.Plain.{negations, plainClause, plainClauses}
 use Rattle.text.specs.Compare.{maxList}
-use Rattle.text.specs.private.Words.{readClauses, storedIn, bothOrs, plainRecord, TwoOrThree, ShortRecord, ShortClause, AllShort, maxVariables, Plainable, StoresPlain, plainText, plainSizes}
+use Rattle.text.specs.private.Words.{readClauses, storedIn, bothOrs, plainRecord, TwoOrThree, ShortRecord, ShortClause, AllShort, Plainable, StoresPlain, plainText, plainSizes}
 use Rattle.text.proofs.put.Laws.{two-put}
 use Rattle.text.proofs.Decimal.{decimal-few}
 use Rattle.text.proofs.Sizes.{literal-few, literals-few}
@@ -31,32 +30,32 @@ use Rattle.text.proofs.dimacs.Loops.{literals-next, literals-end, kindO
 
 -- ---- the opposite literal
 
-opposite-fits : (z : ℤ) → variableOf z < wordLimit → SFits w16 (negℤ z)
+opposite-fits : (z : ℤ) → variableOf z < wordLimit → SFits wordWidth (negℤ z)
 opposite-fits (pos zero) h = record { sfits = omega arith }
 opposite-fits (pos (suc v)) h = record { sfits = omega arith }
 opposite-fits (negsuc i) h = record { sfits = omega arith }
 
-module _ (z : ℤ) (f : SFits w16 z) (h : variableOf z < wordLimit) where
-  minus-is : pos 0 -ℤ toZ w16 (ofZ w16 z) ≡ negℤ z
-  minus-is = +ℤ-idl (negℤ (toZ w16 (ofZ w16 z))) ∙ ap negℤ (word-is z f)
+module _ (z : ℤ) (f : SFits wordWidth z) (h : variableOf z < wordLimit) where
+  minus-is : pos 0 -ℤ toZ wordWidth (ofZ wordWidth z) ≡ negℤ z
+  minus-is = +ℤ-idl (negℤ (toZ wordWidth (ofZ wordWidth z))) ∙ ap negℤ (word-is z f)
 
-  pub opposite-made : SFits w16 (pos 0 -ℤ toZ w16 (ofZ w16 z))
-  opposite-made = subst (SFits w16) (sym minus-is) (opposite-fits z h)
+  pub opposite-made : SFits wordWidth (pos 0 -ℤ toZ wordWidth (ofZ wordWidth z))
+  opposite-made = subst (SFits wordWidth) (sym minus-is) (opposite-fits z h)
 
-  pub opposite-is : toZ w16 (ofZ w16 (pos 0 -ℤ toZ w16 (ofZ w16 z))) ≡ negℤ z
-  opposite-is = toZ-ofZ w16 _ opposite-made ∙ minus-is
+  pub opposite-is : toZ wordWidth (ofZ wordWidth (pos 0 -ℤ toZ wordWidth (ofZ wordWidth z))) ≡ negℤ z
+  opposite-is = toZ-ofZ wordWidth _ opposite-made ∙ minus-is
 
 -- a literal of a word, and the opposite one, passed on
-pub passed-opposite : (z r : ℤ) → SFits w16 z → variableOf z < wordLimit → r ≡ negℤ (toZ w16 (ofZ w16 z)) → toZ w16 (ofZ w16 r) ≡ negℤ z
+pub passed-opposite : (z r : ℤ) → SFits wordWidth z → variableOf z < wordLimit → r ≡ negℤ (toZ wordWidth (ofZ wordWidth z)) → toZ wordWidth (ofZ wordWidth r) ≡ negℤ z
 passed-opposite z r f h e =
     let is : r ≡ negℤ z = e ∙ ap negℤ (word-is z f) in
-    toZ-ofZ w16 r (subst (SFits w16) (sym is) (opposite-fits z h)) ∙ is
+    toZ-ofZ wordWidth r (subst (SFits wordWidth) (sym is) (opposite-fits z h)) ∙ is
 
-size-fits : (z : ℤ) → SFits w16 z → variableOf z ≤ wordLimit
+size-fits : (z : ℤ) → SFits wordWidth z → variableOf z ≤ wordLimit
 size-fits (pos v) f = let h = f .sfits in omega arith
 size-fits (negsuc i) f = let h = f .sfits in omega arith
 
-pub literal-wide : (z : ℤ) → SFits w16 z → length (literalText z) ≤ 6
+pub literal-wide : (z : ℤ) → SFits wordWidth z → length (literalText z) ≤ 6
 literal-wide (pos v) f = omega (arith, decimal-few 4 v (omega (arith, size-fits (pos v) f)))
 literal-wide (negsuc i) f = omega (arith, decimal-few 4 (suc i) (omega (arith, size-fits (negsuc i) f)))
 
@@ -75,10 +74,10 @@ positive-long (negsuc i) h = absurd (true≢false h)
 -- ---- one record
 
 -- the code's test of a kind word
-pub xor-kind : (z : ℤ) → SFits w16 z → ofZ w16 z ≡ 1 → z ≡ pos 1
-xor-kind z f h = sym (word-is z f) ∙ ap (toZ w16) h
+pub xor-kind : (z : ℤ) → SFits wordWidth z → ofZ wordWidth z ≡ 1 → z ≡ pos 1
+xor-kind z f h = sym (word-is z f) ∙ ap (toZ wordWidth) h
 
-pub or-record : (z : ℤ) (ls : List ℤ) → (ofZ w16 z ≡ 1 → ⊥) → plainRecord z ls ≡ OR ls ∷ []
+pub or-record : (z : ℤ) (ls : List ℤ) → (ofZ wordWidth z ≡ 1 → ⊥) → plainRecord z ls ≡ OR ls ∷ []
 or-record (pos zero) ls h = refl
 or-record (pos (suc zero)) ls h = absurd (h refl)
 or-record (pos (suc (suc k))) ls h = refl
@@ -120,14 +119,14 @@ pub record Three (z : ℤ) (ls : List ℤ) : Type 0 where
   pub third : variableOf (at-place ls 2) ≤ maxVariables
 
 -- a literal of a clause list fits a word
-pub small-fits : (z : ℤ) → variableOf z ≤ maxVariables → SFits w16 z
+pub small-fits : (z : ℤ) → variableOf z ≤ maxVariables → SFits wordWidth z
 small-fits (pos v) h = record { sfits = omega arith }
 small-fits (negsuc i) h = record { sfits = omega arith }
 
-pub small-word : (z : ℤ) → variableOf z ≤ maxVariables → toZ w16 (ofZ w16 z) ≡ z
+pub small-word : (z : ℤ) → variableOf z ≤ maxVariables → toZ wordWidth (ofZ wordWidth z) ≡ z
 small-word z h = word-is z (small-fits z h)
 
-pub small-size : (z : ℤ) → variableOf z ≤ maxVariables → variableOf (toZ w16 (ofZ w16 z)) < wordLimit
+pub small-size : (z : ℤ) → variableOf z ≤ maxVariables → variableOf (toZ wordWidth (ofZ wordWidth z)) < wordLimit
 small-size z h = omega (arith, ap variableOf (small-word z h))
 
 module _ (z : ℤ) (ls : List ℤ) (p : Plainable z ls) (e : z ≡ pos 1) where
@@ -187,10 +186,10 @@ unfolding negations
 triple-parts a b c = ap (λ (k : ℤ). bothOrs a b c ++ (OR (negℤ a ∷ b ∷ negℤ c ∷ []) ∷ OR (negℤ a ∷ negℤ b ∷ k ∷ []) ∷ [])) (sym (negℤ-negℤ c))
 
 -- literals of words, passed on
-pub two-words : (a b : ℤ) → SFits w16 a → SFits w16 b → toZ w16 (ofZ w16 a) ∷ toZ w16 (ofZ w16 b) ∷ [] ≡ a ∷ b ∷ []
+pub two-words : (a b : ℤ) → SFits wordWidth a → SFits wordWidth b → toZ wordWidth (ofZ wordWidth a) ∷ toZ wordWidth (ofZ wordWidth b) ∷ [] ≡ a ∷ b ∷ []
 two-words a b f g = ap₂ (λ (x y : ℤ). x ∷ y ∷ []) (word-is a f) (word-is b g)
 
-pub three-words : (a b c : ℤ) → SFits w16 a → SFits w16 b → SFits w16 c → toZ w16 (ofZ w16 a) ∷ toZ w16 (ofZ w16 b) ∷ toZ w16 (ofZ w16 c) ∷ [] ≡ a ∷ b ∷ c ∷ []
+pub three-words : (a b c : ℤ) → SFits wordWidth a → SFits wordWidth b → SFits wordWidth c → toZ wordWidth (ofZ wordWidth a) ∷ toZ wordWidth (ofZ wordWidth b) ∷ toZ wordWidth (ofZ wordWidth c) ∷ [] ≡ a ∷ b ∷ c ∷ []
 three-words a b c f g h = ap₂ (λ (x : ℤ) (l : List ℤ). x ∷ l) (word-is a f) (two-words b c g h)
 
 -- two halves of clauses were written in a row
@@ -252,7 +251,7 @@ unfolding negations
 triple-count a b c = refl
 
 -- what a call tells of a literal that was passed on
-pub twice-is : (z : ℤ) (r : ℕ) → variableOf z ≤ maxVariables → r ≡ twice (toZ w16 (ofZ w16 z)) → r ≡ twice z
+pub twice-is : (z : ℤ) (r : ℕ) → variableOf z ≤ maxVariables → r ≡ twice (toZ wordWidth (ofZ wordWidth z)) → r ≡ twice z
 twice-is z r h e = e ∙ ap twice (small-word z h)
 
 pub twice-few : (l : ℤ) → variableOf l ≤ maxVariables → twice l ≤ 10

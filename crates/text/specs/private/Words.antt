@@ -5,7 +5,7 @@ use Prim.Native.Nat.{ℕ, zero, suc, _≤_}
 use lib.IntN.{ℤ, pos, negsuc, negℤ}
 use Rattle.bits.specs.Lists.{All}
 use Rattle.circuit.specs.Text.{minusSign}
-use Rattle.checking.specs.Clauses.{Clause, OR, XOR}
+use Rattle.checking.specs.Clauses.{Clause, OR, XOR, maxVariables}
 use Rattle.checking.specs.Stored.{stored, ReadBack, clausesRead, badRecord, clausesIn}
 use lib.ListN.{length}
 use Rattle.checking.specs.Satisfaction.{LiteralsWithin, ClausesWithin}
@@ -85,10 +85,6 @@ ShortClause (XOR ls) = TwoOrThree ls
 
 abbrev pub AllShort : List Clause → Type 0
 AllShort cs = All ShortClause cs
-
--- no clause list has more variables
-abbrev pub maxVariables : ℕ
-maxVariables = 4224
 
 -- a record whose plain clauses are written
 pub record Plainable (kind : ℤ) (ls : List ℤ) : Type 0 where

@@ -3,20 +3,21 @@ use mathlib.Core.Path.{_≡_, refl, sym, ap, _∙_}
 use borrow.Author.Needs.{needs}
 use Rattle.circuit.specs.Outcome.{served}
 use Rattle.circuit.proofs.Promises.{why}
-use Rattle.checking.specs.Sizes.{sizesOutcome, ofSizes}
+use Rattle.checking.specs.Sizes.{sizesOutcome}
+use Rattle.checking.specs.Emit.{ofEmit}
 use Rattle.checking.proofs.lemmas.clauses.Answers.{emit-refused, emit-short, emit-served, list-ready}
 use Rattle.checking.proofs.clauses.emit.Statement.{statement}
 use Rattle.checking.proofs.clauses.emit.Tie as tie
 
 -- where the function starts, and the sizes
-abbrev start : tie.After-sizes → tie.Start
+abbrev start : tie.After-cascade-totals → tie.Start
 start s = s .before .before
 
 sized : (c : tie.After-t) → sizesOutcome (start (c .before .before) .args .n) (start (c .before .before) .args .words .now) ≡ served (c .t .given .0 .0)
-sized c = sym (c .before .before .sizes .ensures) ∙ ap ofSizes (c .t .given .1)
+sized c = sym (c .before .before .cascade-totals .ensures) ∙ ap ofEmit (c .t .given .1)
 
-sizes-requires : tie.Need-sizes-requires
-sizes-requires c κs = search needs
+cascade-totals-requires : tie.Need-cascade-totals-requires
+cascade-totals-requires c κs = search needs
 
 enum-known-why : tie.Need-enum-known-why
 enum-known-why c = search needs
@@ -45,7 +46,7 @@ returns-2 c =
     let w = c .before in
     let z = w .before .before in
     let s = start z in
-    emit-refused (s .args .n) (s .args .words .now) (s .args .out .now) _ _ _ refl (sym (z .sizes .ensures) ∙ ap ofSizes (w .why .given .1))
+    emit-refused (s .args .n) (s .args .words .now) (s .args .out .now) _ _ _ refl (sym (z .cascade-totals .ensures) ∙ ap ofEmit (w .why .given .1))
 
 same-length : tie.Need-same-length
 same-length c = search needs
@@ -62,7 +63,7 @@ pub emit-spec : {M : Type 1} → statement M
 emit-spec =
     tie.close
     (tie.spec
-    sizes-requires
+    cascade-totals-requires
     enum-known-why
     enum-known-t
     no-room-requires

@@ -6,9 +6,9 @@ use native.Mathlib.Omega.{arith}
 use lib.IntN.{ℤ, pos}
 use lib.ListN.{length}
 use borrow.Author.Needs.{needs}
-use mir.Syntax.{w16}
 use mir.Val.{toZ, ofZ}
 use Rattle.bits.specs.Lists.{over}
+use Rattle.checking.specs.Stored.{wordWidth}
 use Rattle.checking.specs.Clauses.{plus, minus}
 use Rattle.checking.specs.private.Emission.{lineStored}
 use Rattle.checking.proofs.lemmas.emitter.Signed.{literal-kept}
@@ -17,7 +17,7 @@ use Rattle.checking.proofs.emission.put_difference.Tie as tie
 
 -- a word as the buffer keeps it
 abbrev kept : ℤ → ℤ
-kept z = toZ w16 (ofZ w16 z)
+kept z = toZ wordWidth (ofZ wordWidth z)
 
 literal-requires : tie.Need-literal-requires
 literal-requires c κs = search needs

@@ -5,8 +5,8 @@ use Prim.Native.Nat.{_+_, _-_}
 use native.Mathlib.Omega.{arith}
 use lib.IntN.{pos}
 use lib.ListN.{length-set}
-use mir.Syntax.{w16}
 use mir.Val.{toZ, ofZ}
+use Rattle.checking.specs.Stored.{wordWidth}
 use Rattle.checking.proofs.lemmas.emitter.Signed.{literal-kept}
 use Rattle.checking.proofs.lemmas.emission.Lines.{Ended, headed-long, ended-none, ended-next, ended-all}
 use Rattle.checking.proofs.emission.put_last.Statement.{statement}
@@ -28,7 +28,7 @@ slice-set-from-out : tie.Need-slice-set-from-out Inv-loop μ-loop
 slice-set-from-out c = simp length-set (omega (arith, c .before .pre .1 .1))
 
 -- the word count is kept
-count : (c : tie.After-number Inv-loop μ-loop) → toZ w16 (ofZ w16 (c .number .result)) ≡ pos (c .before .args .n)
+count : (c : tie.After-number Inv-loop μ-loop) → toZ wordWidth (ofZ wordWidth (c .number .result)) ≡ pos (c .before .args .n)
 count c = literal-kept (c .number .result) true (c .before .args .n) (omega (arith, c .before .pre .0)) (c .number .ensures)
 
 loop-holds : tie.Need-loop-holds Inv-loop μ-loop

@@ -2,8 +2,8 @@
 use mathlib.Core.Path.{sym, ap, _∙_}
 use mathlib.Core.Bool.{Bool}
 use borrow.Author.Needs.{needs}
-use mir.Syntax.{w16}
 use mir.ValLaws.{toZ-pos}
+use Rattle.checking.specs.Stored.{wordWidth}
 use Rattle.checking.specs.private.Emitter.{literalWord}
 use Rattle.checking.proofs.lemmas.emitter.Signed.{minus-fits, minus-stored}
 use Rattle.checking.proofs.emitter.literal.Statement.{statement}
@@ -15,7 +15,7 @@ cast-v c = search needs
 returns : tie.Need-returns
 returns c =
     let a = c .before .args in
-    toZ-pos w16 (a .variable) (c .before .pre) ∙ sym (ap (λ (b : Bool). literalWord b (a .variable)) (c .if1 .taken))
+    toZ-pos wordWidth (a .variable) (c .before .pre) ∙ sym (ap (λ (b : Bool). literalWord b (a .variable)) (c .if1 .taken))
 
 sub-result : tie.Need-sub-result
 sub-result c = minus-fits (c .before .args .variable) (c .before .pre)

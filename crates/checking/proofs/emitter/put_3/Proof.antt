@@ -6,8 +6,8 @@ use lib.IntN.{ℤ}
 use lib.ListN.{length-set, set}
 use lib.Seq.{sets-eq}
 use borrow.Author.Needs.{needs}
-use mir.Syntax.{w16}
 use mir.ValLaws.{toZ-ofZ}
+use Rattle.checking.specs.Stored.{wordWidth}
 use Rattle.checking.proofs.emitter.put_3.Statement.{statement}
 use Rattle.checking.proofs.emitter.put_3.Tie as tie
 
@@ -26,8 +26,8 @@ same-length c = search needs
 returns : tie.Need-returns
 returns c =
     let o = c .args .out .now in
-    ap₂ (λ (x y : ℤ). set (set (set o 0 x) 1 y) 2 (mir.Val.toZ w16 (mir.Val.ofZ w16 (c .args .c)))) (toZ-ofZ w16 (c .args .a) (c .fits .a)) (toZ-ofZ w16 (c .args .b) (c .fits .b))
-    ∙ ap (λ (x : ℤ). set (set (set o 0 (c .args .a)) 1 (c .args .b)) 2 x) (toZ-ofZ w16 (c .args .c) (c .fits .c))
+    ap₂ (λ (x y : ℤ). set (set (set o 0 x) 1 y) 2 (mir.Val.toZ wordWidth (mir.Val.ofZ wordWidth (c .args .c)))) (toZ-ofZ wordWidth (c .args .a) (c .fits .a)) (toZ-ofZ wordWidth (c .args .b) (c .fits .b))
+    ∙ ap (λ (x : ℤ). set (set (set o 0 (c .args .a)) 1 (c .args .b)) 2 x) (toZ-ofZ wordWidth (c .args .c) (c .fits .c))
     ∙ sets-eq (c .args .a ∷ (c .args .b ∷ (c .args .c ∷ []))) o 0 (omega arith)
 
 pub put-3-spec : {M : Type 1} → statement M

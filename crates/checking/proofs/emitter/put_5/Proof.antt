@@ -6,8 +6,8 @@ use lib.IntN.{ℤ}
 use lib.ListN.{length-set, set}
 use lib.Seq.{sets-eq}
 use borrow.Author.Needs.{needs}
-use mir.Syntax.{w16}
 use mir.ValLaws.{toZ-ofZ}
+use Rattle.checking.specs.Stored.{wordWidth}
 use Rattle.checking.proofs.emitter.put_5.Statement.{statement}
 use Rattle.checking.proofs.emitter.put_5.Tie as tie
 
@@ -32,9 +32,9 @@ same-length c = search needs
 returns : tie.Need-returns
 returns c =
     let o = c .args .out .now in
-    ap₂ (λ (x y : ℤ). set (set (set (set (set o 0 x) 1 y) 2 (mir.Val.toZ w16 (mir.Val.ofZ w16 (c .args .c)))) 3 (mir.Val.toZ w16 (mir.Val.ofZ w16 (c .args .d)))) 4 (mir.Val.toZ w16 (mir.Val.ofZ w16 (c .args .e)))) (toZ-ofZ w16 (c .args .a) (c .fits .a)) (toZ-ofZ w16 (c .args .b) (c .fits .b))
-    ∙ ap₂ (λ (x y : ℤ). set (set (set (set (set o 0 (c .args .a)) 1 (c .args .b)) 2 x) 3 y) 4 (mir.Val.toZ w16 (mir.Val.ofZ w16 (c .args .e)))) (toZ-ofZ w16 (c .args .c) (c .fits .c)) (toZ-ofZ w16 (c .args .d) (c .fits .d))
-    ∙ ap (λ (x : ℤ). set (set (set (set (set o 0 (c .args .a)) 1 (c .args .b)) 2 (c .args .c)) 3 (c .args .d)) 4 x) (toZ-ofZ w16 (c .args .e) (c .fits .e))
+    ap₂ (λ (x y : ℤ). set (set (set (set (set o 0 x) 1 y) 2 (mir.Val.toZ wordWidth (mir.Val.ofZ wordWidth (c .args .c)))) 3 (mir.Val.toZ wordWidth (mir.Val.ofZ wordWidth (c .args .d)))) 4 (mir.Val.toZ wordWidth (mir.Val.ofZ wordWidth (c .args .e)))) (toZ-ofZ wordWidth (c .args .a) (c .fits .a)) (toZ-ofZ wordWidth (c .args .b) (c .fits .b))
+    ∙ ap₂ (λ (x y : ℤ). set (set (set (set (set o 0 (c .args .a)) 1 (c .args .b)) 2 x) 3 y) 4 (mir.Val.toZ wordWidth (mir.Val.ofZ wordWidth (c .args .e)))) (toZ-ofZ wordWidth (c .args .c) (c .fits .c)) (toZ-ofZ wordWidth (c .args .d) (c .fits .d))
+    ∙ ap (λ (x : ℤ). set (set (set (set (set o 0 (c .args .a)) 1 (c .args .b)) 2 (c .args .c)) 3 (c .args .d)) 4 x) (toZ-ofZ wordWidth (c .args .e) (c .fits .e))
     ∙ sets-eq (c .args .a ∷ (c .args .b ∷ (c .args .c ∷ (c .args .d ∷ (c .args .e ∷ []))))) o 0 (omega arith)
 
 pub put-5-spec : {M : Type 1} → statement M

@@ -10,11 +10,10 @@ use lib.IntN.{ℤ}
 use lib.ListN.{length, set, length-set}
 use borrow.Author.Needs.{needs}
 use borrow.Rule.Slice.PartMut.{same-len-mid}
-use mir.Syntax.{w16}
 use mir.Val.{toZ, ofZ}
 use Rattle.bits.specs.Digits.{bit}
 use Rattle.circuit.specs.Gate.{maxLines}
-use Rattle.checking.specs.Stored.{wordLimit}
+use Rattle.checking.specs.Stored.{wordWidth, wordLimit}
 use Rattle.checking.specs.private.Emitter.{literalWord, byLine}
 use Rattle.checking.proofs.lemmas.emitter.Signed.{literal-kept}
 use Rattle.checking.proofs.lemmas.emitter.Parts.{Walk, lent-long, walk-start, walk-done, line-below, inside, walk-on}
@@ -23,7 +22,7 @@ use Rattle.checking.proofs.emitter.put_controls.Tie as tie
 
 -- a word as the buffer keeps it
 abbrev kept : ℤ → ℤ
-kept z = toZ w16 (ofZ w16 z)
+kept z = toZ wordWidth (ofZ wordWidth z)
 
 abbrev Inv-loop : tie.InvT-loop
 Inv-loop positive lines k n current p out₀ not-p left₀ i₀ out left i = Walk current positive lines k n p out₀ out left i

@@ -7,13 +7,12 @@ use native.Mathlib.Omega.{arith}
 use lib.IntN.{ℤ, pos}
 use lib.ListN.{length}
 use borrow.Author.Needs.{needs}
-use mir.Syntax.{w16}
 use mir.Val.{toZ, ofZ}
 use Rattle.bits.specs.Digits.{bit}
 use Rattle.circuit.specs.Gate.{maxLines}
 use Rattle.bits.specs.Lists.{over}
 use Rattle.checking.specs.Clauses.{plus, minus}
-use Rattle.checking.specs.Stored.{wordLimit}
+use Rattle.checking.specs.Stored.{wordWidth, wordLimit}
 use Rattle.checking.specs.private.Emitter.{literalWord, byLine}
 use Rattle.checking.proofs.lemmas.emitter.Signed.{literal-kept}
 use Rattle.checking.proofs.lemmas.emitter.Whole.{target-below, target-small, room-none, written-none, room-one, line-below, written-one, many-ready, written-many, words-many}
@@ -22,7 +21,7 @@ use Rattle.checking.proofs.emitter.put_gate.Tie as tie
 
 -- a word as the buffer keeps it
 abbrev kept : ℤ → ℤ
-kept z = toZ w16 (ofZ w16 z)
+kept z = toZ wordWidth (ofZ wordWidth z)
 
 -- where the function starts
 abbrev start : tie.After-control-count → tie.Start

@@ -5,8 +5,8 @@ use Prim.Native.Nat.{_+_}
 use native.Mathlib.Omega.{arith}
 use lib.IntN.{ℤ}
 use borrow.Author.Needs.{needs}
-use mir.Syntax.{w16}
 use mir.Val.{toZ, ofZ}
+use Rattle.checking.specs.Stored.{wordWidth}
 use Rattle.checking.proofs.lemmas.emitter.Signed.{literal-kept}
 use Rattle.checking.proofs.lemmas.emitter.Parts.{lent-long, lines-few, many-filled}
 use Rattle.checking.proofs.emitter.put_many.Statement.{statement}
@@ -85,7 +85,7 @@ same-length c = search needs
 
 -- a word as the buffer keeps it
 abbrev kept : ℤ → ℤ
-kept z = toZ w16 (ofZ w16 z)
+kept z = toZ wordWidth (ofZ wordWidth z)
 
 returns : tie.Need-returns
 returns c =

@@ -1,4 +1,4 @@
--- Every literal is one of a variable from 1 to V, and every stored word fits 16 bits. Assumes nothing.
+-- Every literal is one of a variable from 1 to V, and every stored number fits a word. Assumes nothing.
 use mathlib.Core.Path.{_≡_, refl, sym, subst}
 use mathlib.Core.Bool.{Bool, true, false, cond}
 use mathlib.Core.List.{List, [], _∷_, _++_, map}
@@ -12,14 +12,14 @@ use Rattle.bits.specs.Lists.{All}
 use Rattle.bits.proofs.Bools.{either, cond-true, cond-false}
 use Rattle.bits.proofs.Lists.{all-append, all-map}
 use Rattle.circuit.specs.declared.gate.Gate.{Gate}
-use Rattle.circuit.specs.Gate.{maxLines, maxMiterGates, Control, controlsOf}
+use Rattle.circuit.specs.Gate.{maxLines, maxMiterGates, Control, Inside, controlsOf}
 use Rattle.circuit.specs.Words.{allValid}
-use Rattle.circuit.proofs.Promises.{valid-facts, few-controls, valid-parts}
-use Rattle.checking.specs.Clauses.{Clause, OR, XOR, plus, minus, inputOf, literalOf, implied, manyClauses, gateClauses, newVariable, usedBy, moved, clausesOfGate, gatesClauses, usedAfter, currentAfter, targeted, upFrom, differenceClause, differenceClauses, clausesOf, variablesOf, countP}
+use Rattle.circuit.proofs.Promises.{valid-facts, few-controls, valid-parts, controls-inside}
+use Rattle.checking.specs.Clauses.{Clause, OR, XOR, plus, minus, inputOf, literalOf, implied, manyClauses, gateClauses, newVariable, usedBy, moved, clausesOfGate, gatesClauses, usedAfter, currentAfter, targeted, upFrom, differenceClause, differenceClauses, clausesOf, variablesOf, maxVariables, countP}
 use Rattle.checking.specs.Satisfaction.{variableOf, LiteralWithin, LiteralsWithin, clauseLiterals, ClausesWithin}
 use Rattle.checking.specs.Stored.{stored, FitsWord, AllFit, wordLimit}
-use Rattle.checking.proofs.lemmas.clauses.Gates.{Within, controls-within, new-named}
-use Rattle.checking.proofs.lemmas.clauses.Forced.{Inside, inside-upFrom, used-more, length-upFrom}
+use Rattle.checking.proofs.lemmas.clauses.Gates.{new-named}
+use Rattle.checking.proofs.lemmas.clauses.Forced.{Below, below-upFrom, used-more, length-upFrom}
 
 minus-size : (v : ℕ) → variableOf (minus v) ≡ v
 minus-size zero = refl
@@ -47,7 +47,7 @@ module _ (n m : ℕ) (current : ℕ → ℕ) (named : Named n m current) where
       by true v = refl
       by false v = minus-size v
 
-  literals-within : (cs : List Control) → Within n cs → LiteralsWithin m (map (literalOf current) cs)
+  literals-within : (cs : List Control) → Inside n cs → LiteralsWithin m (map (literalOf current) cs)
   literals-within =
       all-map _ (LiteralWithin m) (literalOf current)
       (λ c h. (omega (arith, literal-size c, named .low (c .line) h), omega (arith, literal-size c, named .high (c .line) h)))
@@ -64,7 +64,7 @@ module _ (n m : ℕ) (current : ℕ → ℕ) (named : Named n m current) where
         (((omega arith, h), ((named .low t ht, named .high t ht), ((omega arith, omega arith), tt))), tt),
   )
 
-  gate-within : (used t : ℕ) (cs : List Control) → newVariable used (length cs) ≤ m → t < n → Within n cs
+  gate-within : (used t : ℕ) (cs : List Control) → newVariable used (length cs) ≤ m → t < n → Inside n cs
       → ClausesWithin m (gateClauses used (current t) (map (literalOf current) cs))
   gate-within used t [] h ht w = (((omega arith, h), ((named .low t ht, named .high t ht), tt)), tt)
   gate-within used t (c ∷ []) h ht w =
@@ -93,7 +93,7 @@ gates-within n m used current (g ∷ gs) few v h named =
     let (a, b) = valid-parts n g gs v in
     let w : usedBy used g ≤ m = omega (arith, used-more (usedBy used g) gs) in
     all-append _ (clausesOfGate used current g) _
-    (gate-within n m current named used (g .target) (controlsOf g) w (valid-facts n g a .target-below) (controls-within n g few a))
+    (gate-within n m current named used (g .target) (controlsOf g) w (valid-facts n g a .target-below) (controls-inside n g a maxLines))
     (gates-within n m (usedBy used g) (moved used current g) gs few b h (moved-named n m used current g w named))
 
 pub after-named : (n m used : ℕ) (current : ℕ → ℕ) (gs : List Gate) → usedAfter used gs ≤ m → Named n m current → Named n m (currentAfter used current gs)
@@ -108,7 +108,7 @@ difference-within m d a b true h a₁ a₂ b₁ b₂ = ((omega arith, h), ((a₁
 difference-within m d a b false h a₁ a₂ b₁ b₂ = ((omega arith, h), tt)
 
 differences-within : (n m : ℕ) (hit : ℕ → Bool) (left right : ℕ → ℕ) → Named n m left → Named n m right
-    → (used : ℕ) (ks : List ℕ) → used + length ks ≤ m → Inside n ks → ClausesWithin m (differenceClauses hit left right used ks)
+    → (used : ℕ) (ks : List ℕ) → used + length ks ≤ m → Below n ks → ClausesWithin m (differenceClauses hit left right used ks)
 unfolding differenceClauses
 differences-within n m hit left right a b used [] h w = tt
 differences-within n m hit left right a b used (k ∷ ks) h w = (
@@ -134,7 +134,7 @@ clauses-within n gs few v =
     all-append _ (gatesClauses n inputOf gs) _ (gates-within n m n inputOf gs few v (omega arith) start)
     (all-append _ (differenceClauses (targeted gs) inputOf (currentAfter n inputOf gs) (usedAfter n gs) (upFrom 0 n)) _
     (differences-within n m (targeted gs) inputOf (currentAfter n inputOf gs) start (after-named n m n inputOf gs (omega arith) start)
-    (usedAfter n gs) (upFrom 0 n) (omega (arith, length-upFrom 0 n)) (inside-upFrom n 0 n (omega arith)))
+    (usedAfter n gs) (upFrom 0 n) (omega (arith, length-upFrom 0 n)) (below-upFrom n 0 n (omega arith)))
     (last-within m (suc (usedAfter n gs)) n (omega arith) (omega arith), tt))
 
 -- ---- words
@@ -154,7 +154,7 @@ pub variables-bound : (n : ℕ) (gs : List Gate) → variablesOf n gs ≤ 2 * n 
 unfolding variablesOf
 variables-bound n gs = omega (arith, used-bound n gs)
 
-pub variables-few : (n : ℕ) (gs : List Gate) → n ≤ maxLines → length gs ≤ maxMiterGates → variablesOf n gs ≤ 4224
+pub variables-few : (n : ℕ) (gs : List Gate) → n ≤ maxLines → length gs ≤ maxMiterGates → variablesOf n gs ≤ maxVariables
 variables-few n gs few short = omega (arith, variables-bound n gs)
 
 -- a w for each gate, and a p for each with two controls or more
@@ -230,7 +230,7 @@ stored-fits m k [] h l a b = tt
 stored-fits m k (OR ls ∷ cs) h l a b = (omega arith, (omega (arith, b .0), literals-fit m ls (stored cs) h (a .0) (stored-fits m k cs h l (a .1) (b .1))))
 stored-fits m k (XOR ls ∷ cs) h l a b = (omega arith, (omega (arith, b .0), literals-fit m ls (stored cs) h (a .0) (stored-fits m k cs h l (a .1) (b .1))))
 
--- every word of a list fits 16 bits
+-- every number of a list fits a word
 pub words-fit : (n : ℕ) (gs : List Gate) → n ≤ maxLines → length gs ≤ maxMiterGates → allValid n gs ≡ true → AllFit (stored (clausesOf n gs))
 words-fit n gs few short v =
     stored-fits (variablesOf n gs) (maxLines + 3) (clausesOf n gs) (omega (arith, variables-bound n gs)) (omega arith) (clauses-within n gs few v) (counts-small n gs few)

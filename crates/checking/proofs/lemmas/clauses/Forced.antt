@@ -9,7 +9,7 @@ use lib.ListN.{length, take, length-append, length-map}
 use borrow.Author.Tests.{lt-ltb}
 use Rattle.bits.specs.Digits.{bit}
 use Rattle.bits.specs.Lists.{All}
-use Rattle.bits.proofs.Bools.{and-parts, both, either, cond-true, cond-false, or-none, xor-false}
+use Rattle.bits.proofs.Bools.{and-parts, both, either, cond-true, cond-false, or-none, xor-false, xor-self, and-cong, table₁}
 use Rattle.bits.proofs.Digits.{bits-below}
 use Rattle.circuit.specs.declared.gate.Gate.{Gate}
 use Rattle.circuit.specs.Gate.{maxLines, apply, Control, controlsOf}
@@ -21,7 +21,7 @@ use Rattle.checking.specs.Satisfaction.{variable, holds, satisfies, spel
 use Rattle.checking.specs.Faults.{maskWhere}
 use Rattle.checking.specs.Forced.{gateValues, gatesValues, differences, traced, forced}
 use Rattle.checking.proofs.lemmas.faults.Masks.{mask-below, mask-bit}
-use Rattle.checking.proofs.lemmas.clauses.Tests.{same, same-self, and-cong, xor-self, shape-d, someTrue, holds-or, holds-xor, satisfies-append}
+use Rattle.checking.proofs.lemmas.clauses.Tests.{same, same-self, shape-d, someTrue, holds-or, holds-xor, satisfies-append}
 use Rattle.checking.proofs.lemmas.clauses.Gates.{agree, agree-head, agree-tail, agree-gate, Reads, gates-law, after-reads, untouched}
 
 -- ---- the state that the first variables spell
@@ -44,13 +44,13 @@ reads-inputs n σ = record { named = λ k h. omega arith; read = λ k h. sym (sp
 -- ---- the variables d
 
 -- lines below n
-abbrev pub Inside : ℕ → List ℕ → Type 0
-Inside n ks = All (λ (k : ℕ). k < n) ks
+abbrev pub Below : ℕ → List ℕ → Type 0
+Below n ks = All (λ (k : ℕ). k < n) ks
 
-pub inside-upFrom : (n i m : ℕ) → i + m ≤ n → Inside n (upFrom i m)
+pub below-upFrom : (n i m : ℕ) → i + m ≤ n → Below n (upFrom i m)
 unfolding upFrom
-inside-upFrom n i zero h = tt
-inside-upFrom n i (suc m) h = (omega arith, inside-upFrom n (suc i) m (omega arith))
+below-upFrom n i zero h = tt
+below-upFrom n i (suc m) h = (omega arith, below-upFrom n (suc i) m (omega arith))
 
 -- where the states differ only on the lines that are hit, the clauses hold exactly when each d tells whether they do
 module _ (n : ℕ) (σ : List Bool) (hit : ℕ → Bool) (left right : ℕ → ℕ) (s r : ℕ) (before : Reads n σ left s) (after : Reads n σ right r)
@@ -70,10 +70,9 @@ module _ (n : ℕ) (σ : List Bool) (hit : ℕ → Bool) (left right : ℕ → �
       ∙ ap (same (variable σ (suc d))) (sym (ap (xor (bit s k)) (unhit k h e) ∙ xor-self (bit s k))))
     where
       off : (a : Bool) → (not a || false) ≡ same a false
-      off true = refl
-      off false = refl
+      off = table₁ _ _ refl
 
-  pub differences-law : (used : ℕ) (ks : List ℕ) → Inside n ks → satisfies σ (differenceClauses hit left right used ks) ≡ agree σ used (differences s r ks)
+  pub differences-law : (used : ℕ) (ks : List ℕ) → Below n ks → satisfies σ (differenceClauses hit left right used ks) ≡ agree σ used (differences s r ks)
   unfolding differenceClauses satisfies
   differences-law used [] h = refl
   differences-law used (k ∷ ks) h = ap₂ _&&_ (difference-law used k (h .0)) (differences-law (suc used) ks (h .1))
@@ -241,7 +240,7 @@ module _ (n : ℕ) (gs : List Gate) (few : n ≤ maxLines) (v : allValid n gs �
       differences-law n σ (targeted gs) inputOf (currentAfter n inputOf gs) state (run gs state) (reads-inputs n σ)
       (after-reads n σ n inputOf state gs few v (reads-inputs n σ) h)
       (λ k l e. untouched n gs state k few v e)
-      (usedAfter n gs) (upFrom 0 n) (inside-upFrom n 0 n (omega arith))
+      (usedAfter n gs) (upFrom 0 n) (below-upFrom n 0 n (omega arith))
 
   last-part : agree σ (usedAfter n gs) changes ≡ true → satisfies σ (OR (map plus (upFrom (suc (usedAfter n gs)) n)) ∷ []) ≡ someOf changes
   unfolding satisfies

@@ -1,6 +1,6 @@
 -- The clauses of gates hold exactly when their new variables have the values that the state forces. Assumes nothing.
 use mathlib.Core.Path.{_≡_, refl, sym, ap, ap₂, _∙_, subst}
-use mathlib.Core.Bool.{Bool, true, false, not, _&&_, _||_, xor, cond, and-assoc, and-true, and-false, or-false, or-true}
+use mathlib.Core.Bool.{Bool, true, false, not, _&&_, _||_, xor, cond, and-assoc, and-true, and-false, or-false, or-true, or-and-distrib-left}
 use mathlib.Core.List.{List, [], _∷_, _++_, map}
 use Prim.Native.Nat.{ℕ, zero, suc, _<_, _≤_}
 use native.Mathlib.Omega.{arith}
@@ -9,38 +9,16 @@ use lib.IntN.{pos, negℤ}
 use lib.ListN.{length}
 use borrow.Author.Tests.{eqb-true}
 use Rattle.bits.specs.Digits.{bit}
-use Rattle.bits.specs.Lists.{All}
-use Rattle.bits.proofs.Bools.{and-parts, either, cond-true, cond-false, or-none}
-use Rattle.bits.proofs.Lists.{all-append}
+use Rattle.bits.proofs.Bools.{and-parts, either, cond-true, cond-false, or-none, and-cong, not-and, xor-none}
 use Rattle.circuit.specs.declared.gate.Gate.{Gate}
-use Rattle.circuit.specs.Gate.{maxLines, valid, fires, apply, Control, controlAt, controlsBelow, controlsOf, met, allMet}
+use Rattle.circuit.specs.Gate.{maxLines, valid, fires, apply, Control, Inside, controlsOf, met, allMet}
 use Rattle.circuit.specs.Words.{allValid}
 use Rattle.circuit.specs.Run.{run}
-use Rattle.circuit.proofs.Promises.{valid-facts, valid-more, apply-bit, controls-fire, controls-below, met-none, met-one, met-next, controls-none, controls-next, valid-parts, run-none, run-next}
+use Rattle.circuit.proofs.Promises.{valid-facts, valid-more, apply-bit, controls-fire, controls-inside, met-none, met-one, met-next, valid-parts, run-none, run-next}
 use Rattle.checking.specs.Clauses.{XOR, plus, minus, literalOf, implied, manyClauses, gateClauses, newVariable, usedBy, moved, clausesOfGate, gatesClauses, currentAfter, targeted}
 use Rattle.checking.specs.Satisfaction.{variable, value, satisfies, variableOf}
 use Rattle.checking.specs.Forced.{gateValues, gatesValues}
-use Rattle.checking.proofs.lemmas.clauses.Tests.{same, same-true, and-cong, xor-none, not-and, or-and, shape-0, shape-1, shape-2, someTrue, holds-or, holds-xor, value-neg, satisfies-append}
-
--- ---- controls on lines below n
-
-abbrev pub Within : ℕ → List Control → Type 0
-Within n cs = All (λ (c : Control). c .line < n) cs
-
-within-line : (n k : ℕ) (p q : Bool) → k < n
-    → Within n (cond p (record { line = k; positive = true } ∷ []) (cond q (record { line = k; positive = false } ∷ []) []))
-within-line n k true q h = (h, tt)
-within-line n k false true h = (h, tt)
-within-line n k false false h = tt
-
-within-below : (n m : ℕ) (g : Gate) → m ≤ n → Within n (controlsBelow m g)
-within-below n zero g h = subst (Within n) (sym (controls-none g)) tt
-within-below n (suc m) g h =
-    subst (Within n) (sym (controls-next m g))
-    (all-append _ (controlsBelow m g) (controlAt g m) (within-below n m g (omega arith)) (within-line n m (bit (g .positive) m) (bit (g .negative) m) h))
-
-pub controls-within : (n : ℕ) (g : Gate) → n ≤ maxLines → valid n g ≡ true → Within n (controlsOf g)
-controls-within n g l v = subst (Within n) (sym (controls-below n g l v)) (within-below n n g (omega arith))
+use Rattle.checking.proofs.lemmas.clauses.Tests.{same, same-true, shape-0, shape-1, shape-2, someTrue, holds-or, holds-xor, value-neg, satisfies-append}
 
 -- ---- values of variables from i + 1 on
 
@@ -78,11 +56,11 @@ module _ (n : ℕ) (σ : List Bool) (current : ℕ → ℕ) (s : ℕ) (reads : R
       value-neg σ (literalOf current c) (literal-size (c .positive) (current (c .line)) (reads .named (c .line) h)) ∙ ap not (control-value c h)
 
   -- some −c is true: not every control is met
-  negated-law : (cs : List Control) → Within n cs → someTrue σ (map negℤ (map (literalOf current) cs)) ≡ not (allMet s cs)
+  negated-law : (cs : List Control) → Inside n cs → someTrue σ (map negℤ (map (literalOf current) cs)) ≡ not (allMet s cs)
   negated-law [] h = ap not (sym (met-none s))
   negated-law (c ∷ cs) h = ap₂ _||_ (negated-value c (h .0)) (negated-law cs (h .1)) ∙ sym (ap not (met-next s c cs) ∙ not-and (met s c) (allMet s cs))
 
-  implied-law : (p : ℕ) → 1 ≤ p → (cs : List Control) → Within n cs
+  implied-law : (p : ℕ) → 1 ≤ p → (cs : List Control) → Inside n cs
       → satisfies σ (implied p (map (literalOf current) cs)) ≡ (not (variable σ p) || allMet s cs)
   unfolding satisfies
   implied-law p one [] h = sym (ap (λ (b : Bool). not (variable σ p) || b) (met-none s) ∙ or-true (not (variable σ p)))
@@ -91,11 +69,11 @@ module _ (n : ℕ) (σ : List Bool) (current : ℕ → ℕ) (s : ℕ) (reads : R
       (holds-or σ (minus p ∷ literalOf current c ∷ [])
       ∙ ap₂ (λ (a b : Bool). a || b) (value-neg σ (pos p) one) (or-false (value σ (literalOf current c)) ∙ control-value c (h .0)))
       (implied-law p one cs (h .1))
-      ∙ or-and (variable σ p) (met s c) (allMet s cs)
+      ∙ sym (or-and-distrib-left (not (variable σ p)) (met s c) (allMet s cs))
       ∙ ap (λ (b : Bool). not (variable σ p) || b) (sym (met-next s c cs))
 
   -- the clauses with a p, for any number of controls
-  many-law : (used t : ℕ) (cs : List Control) → t < n → Within n cs
+  many-law : (used t : ℕ) (cs : List Control) → t < n → Inside n cs
       → satisfies σ (manyClauses (suc used) (suc (suc used)) (current t) (map (literalOf current) cs))
       ≡ (same (variable σ (suc used)) (allMet s cs) && (same (variable σ (suc (suc used))) (xor (bit s t) (allMet s cs)) && true))
   unfolding satisfies
@@ -111,7 +89,7 @@ module _ (n : ℕ) (σ : List Bool) (current : ℕ → ℕ) (s : ℕ) (reads : R
       ∙ shape-2 p w (bit s t) (allMet s cs)
 
   -- the clauses of a gate hold exactly when its new variables have the forced values
-  gate-law : (used t : ℕ) (cs : List Control) → t < n → Within n cs
+  gate-law : (used t : ℕ) (cs : List Control) → t < n → Inside n cs
       → satisfies σ (gateClauses used (current t) (map (literalOf current) cs)) ≡ agree σ used (gateValues s t cs)
   unfolding satisfies
   gate-law used t [] ht h =
@@ -189,7 +167,7 @@ gates-law n σ used current s (g ∷ gs) l v r =
     let (a, b) = valid-parts n g gs v in
     satisfies-append σ (clausesOfGate used current g) (gatesClauses (usedBy used g) (moved used current g) gs)
     ∙ and-cong _ (agree σ used (gateValues s (g .target) (controlsOf g))) _ _
-    (gate-law n σ current s r used (g .target) (controlsOf g) (valid-facts n g a .target-below) (controls-within n g l a))
+    (gate-law n σ current s r used (g .target) (controlsOf g) (valid-facts n g a .target-below) (controls-inside n g a maxLines))
     (λ h. gates-law n σ (usedBy used g) (moved used current g) (apply g s) gs l b (moved-reads n σ used current s g l a r h))
     ∙ sym (agree-gate σ used s (g .target) (controlsOf g) (gatesValues (apply g s) gs))
 

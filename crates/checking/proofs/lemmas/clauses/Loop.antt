@@ -1,6 +1,6 @@
 -- What a turn over the gates adds to the totals, and the totals at the end. Assumes nothing.
 use mathlib.Core.Path.{_≡_, refl, sym, ap, ap₂, _∙_}
-use mathlib.Core.Bool.{Bool, true, false, _||_, cond, or-false}
+use mathlib.Core.Bool.{Bool, true, false, _||_, cond, or-false, or-assoc}
 use mathlib.Core.List.{List, [], _∷_, _++_}
 use Prim.Native.Nat.{ℕ, zero, suc, _+_, _*_, _/_, _^_, _≤_, _<_}
 use native.Mathlib.Nat.{zero-add}
@@ -159,10 +159,6 @@ module _ (n : ℕ) (ws : List ℕ) (v c d hit i : ℕ) (g : Gate) (few : n ≤ m
       ∙ ap (λ (h : Gate). bit hit k || (eqb k (h .target) || targeted (gatesOf (drop (3 * (i + 1)) ws)) k)) is
       ∙ ap (λ (gs : List Gate). bit hit k || targeted gs k) (sym (gates-next ws i inside))
       ∙ s .lines-left k
-    where
-      or-assoc : (a b d : Bool) → ((a || b) || d) ≡ (a || (b || d))
-      or-assoc true b d = refl
-      or-assoc false b d = refl
 
   pub summed-next : (k x y : ℕ) → k ≡ controlCount g → x + 1 ≡ gateSizes k .variables → y + gateSizes k .variables ≡ gateSizes k .clauses
       → Summed n ws (v + x) (c + y) (d + k) (bitOr hit (2 ^ g .target)) (i + 1)

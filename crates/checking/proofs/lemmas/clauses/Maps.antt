@@ -2,16 +2,15 @@
 use mathlib.Core.Path.{_≡_, refl, sym, ap, ap₂, _∙_}
 use mathlib.Core.Bool.{Bool, true, cond}
 use mathlib.Core.List.{List, [], _∷_, _++_, map, append-assoc}
-use Prim.Native.Nat.{ℕ, suc, _≤_, _<_}
+use Prim.Native.Nat.{ℕ, suc, _<_}
 use lib.Dec.{eqb}
 use lib.IntN.{ℤ}
 use Rattle.circuit.specs.declared.gate.Gate.{Gate}
-use Rattle.circuit.specs.Gate.{maxLines, valid, Control, controlsOf}
+use Rattle.circuit.specs.Gate.{maxLines, valid, Control, Inside, controlsOf}
 use Rattle.circuit.specs.Words.{allValid}
-use Rattle.circuit.proofs.Promises.{valid-facts, valid-parts}
+use Rattle.circuit.proofs.Promises.{valid-facts, valid-parts, controls-inside}
 use Rattle.checking.specs.Clauses.{Clause, OR, plus, minus, inputOf, literalOf, gateClauses, usedBy, moved, clausesOfGate, gatesClauses, usedAfter, currentAfter, targeted, upFrom, differenceClause, differenceClauses, clausesOf}
-use Rattle.checking.proofs.lemmas.clauses.Gates.{Within, controls-within}
-use Rattle.checking.proofs.lemmas.clauses.Forced.{Inside}
+use Rattle.checking.proofs.lemmas.clauses.Forced.{Below}
 
 -- ---- what the list is made of
 
@@ -47,33 +46,35 @@ list-parts n gs = refl
 abbrev pub Agree : ℕ → (ℕ → ℕ) → (ℕ → ℕ) → Type 0
 Agree n a b = (k : ℕ) → k < n → a k ≡ b k
 
-literals-local : (n : ℕ) (a b : ℕ → ℕ) → Agree n a b → (cs : List Control) → Within n cs → map (literalOf a) cs ≡ map (literalOf b) cs
+literals-local : (n : ℕ) (a b : ℕ → ℕ) → Agree n a b → (cs : List Control) → Inside n cs → map (literalOf a) cs ≡ map (literalOf b) cs
 literals-local n a b h [] w = refl
 literals-local n a b h (c ∷ cs) w =
     ap₂ (λ (x : ℤ) (xs : List ℤ). x ∷ xs) (ap (λ (v : ℕ). cond (c .positive) (plus v) (minus v)) (h (c .line) (w .0))) (literals-local n a b h cs (w .1))
 
-pub gate-local : (n used : ℕ) (a b : ℕ → ℕ) (g : Gate) → n ≤ maxLines → valid n g ≡ true → Agree n a b → clausesOfGate used a g ≡ clausesOfGate used b g
-gate-local n used a b g few v h =
-    ap₂ (gateClauses used) (h (g .target) (valid-facts n g v .target-below)) (literals-local n a b h (controlsOf g) (controls-within n g few v))
+pub gate-local : (n used : ℕ) (a b : ℕ → ℕ) (g : Gate) → valid n g ≡ true → Agree n a b → clausesOfGate used a g ≡ clausesOfGate used b g
+gate-local n used a b g v h =
+    ap₂ (gateClauses used) (h (g .target) (valid-facts n g v .target-below)) (literals-local n a b h (controlsOf g) (controls-inside n g v maxLines))
 
 pub moved-local : (n used : ℕ) (a b : ℕ → ℕ) (g : Gate) → Agree n a b → Agree n (moved used a g) (moved used b g)
 unfolding moved
 moved-local n used a b g h k l = ap (cond (eqb k (g .target)) (usedBy used g)) (h k l)
 
-pub gates-local : (n used : ℕ) (a b : ℕ → ℕ) (gs : List Gate) → n ≤ maxLines → allValid n gs ≡ true → Agree n a b → gatesClauses used a gs ≡ gatesClauses used b gs
+pub gates-local : (n used : ℕ) (a b : ℕ → ℕ) (gs : List Gate) → allValid n gs ≡ true → Agree n a b → gatesClauses used a gs ≡ gatesClauses used b gs
 unfolding gatesClauses
-gates-local n used a b [] few v h = refl
-gates-local n used a b (g ∷ gs) few v h =
+gates-local n used a b [] v h = refl
+gates-local n used a b (g ∷ gs) v h =
     let (x, y) = valid-parts n g gs v in
-    ap₂ (λ (p q : List Clause). p ++ q) (gate-local n used a b g few x h)
-    (gates-local n (usedBy used g) (moved used a g) (moved used b g) gs few y (moved-local n used a b g h))
+    ap₂ (λ (p q : List Clause). p ++ q) (gate-local n used a b g x h)
+    (gates-local n (usedBy used g) (moved used a g) (moved used b g) gs y (moved-local n used a b g h))
 
-pub differences-local : (n : ℕ) (hit : ℕ → Bool) (left a b : ℕ → ℕ) (used : ℕ) (ks : List ℕ) → Inside n ks → Agree n a b
-    → differenceClauses hit left a used ks ≡ differenceClauses hit left b used ks
+pub differences-local : (n : ℕ) (hit hit′ : ℕ → Bool) (left a b : ℕ → ℕ) → ((k : ℕ) → k < n → hit k ≡ hit′ k) → Agree n a b → (used : ℕ) (ks : List ℕ) → Below n ks
+    → differenceClauses hit left a used ks ≡ differenceClauses hit′ left b used ks
 unfolding differenceClauses
-differences-local n hit left a b used [] w h = refl
-differences-local n hit left a b used (k ∷ ks) w h =
-    ap₂ (λ (c : Clause) (cs : List Clause). c ∷ cs) (ap (differenceClause (hit k) (suc used) (left k)) (h k (w .0))) (differences-local n hit left a b (suc used) ks (w .1) h)
+differences-local n hit hit′ left a b h r used [] w = refl
+differences-local n hit hit′ left a b h r used (k ∷ ks) w =
+    ap₂ (λ (c : Clause) (cs : List Clause). c ∷ cs)
+    (ap₂ (λ (x : Bool) (y : ℕ). differenceClause x (suc used) (left k) y) (h k (w .0)) (r k (w .0)))
+    (differences-local n hit hit′ left a b h r (suc used) ks (w .1))
 
 -- gates in a row
 pub used-append : (used : ℕ) (xs ys : List Gate) → usedAfter used (xs ++ ys) ≡ usedAfter (usedAfter used xs) ys

@@ -1,12 +1,13 @@
 -- Truth tables, and the two kinds of clauses as folds over their literals. Assumes nothing.
 use mathlib.Core.Path.{_≡_, refl, sym, ap, _∙_}
-use mathlib.Core.Bool.{Bool, true, false, not, _&&_, _||_, xor, cond, true≢false, false≢true, and-assoc, Bool·not-not}
+use mathlib.Core.Bool.{Bool, true, false, not, _&&_, _||_, xor, cond, and-assoc, Bool·not-not}
 use mathlib.Core.List.{List, [], _∷_, _++_}
 use Prim.Native.Nat.{ℕ, zero, suc, _+_, _%_, _<_, _≤_}
 use native.Mathlib.Omega.{arith}
 use lib.Dec.{eqb, leb}
 use lib.IntN.{ℤ, pos, negsuc, negℤ}
 use borrow.Author.Tests.{le-leb}
+use Rattle.bits.proofs.Bools.{none-xor, table₁, table₂, table₃, table₄}
 use Rattle.checking.specs.Clauses.{Clause, OR, XOR}
 use Rattle.checking.specs.Satisfaction.{variable, value, trueCount, holds, satisfies, variableOf}
 
@@ -20,83 +21,25 @@ same-true false true h = h
 same-true false false h = refl
 
 pub same-self : (a : Bool) → same a a ≡ true
-same-self true = refl
-same-self false = refl
-
--- the second part is needed only where the first holds
-pub and-cong : (a a′ b b′ : Bool) → a ≡ a′ → (a′ ≡ true → b ≡ b′) → (a && b) ≡ (a′ && b′)
-and-cong true true b b′ e f = f refl
-and-cong true false b b′ e f = absurd (true≢false e)
-and-cong false true b b′ e f = absurd (false≢true e)
-and-cong false false b b′ e f = refl
-
-pub not-and : (a b : Bool) → not (a && b) ≡ (not a || not b)
-not-and true b = refl
-not-and false b = refl
-
-pub or-and : (p a b : Bool) → ((not p || a) && (not p || b)) ≡ (not p || (a && b))
-or-and true a b = refl
-or-and false a b = refl
-
-pub xor-self : (a : Bool) → xor a a ≡ false
-unfolding xor
-xor-self true = refl
-xor-self false = refl
-
-pub xor-none : (a : Bool) → xor a false ≡ a
-unfolding xor
-xor-none true = refl
-xor-none false = refl
+same-self = table₁ _ _ refl
 
 -- ---- the shapes of a gate's clauses, and of a line's
 
 pub shape-0 : (w v : Bool) → (xor w (xor v false) && true) ≡ (same w (xor v true) && true)
 unfolding xor
-shape-0 true true = refl
-shape-0 true false = refl
-shape-0 false true = refl
-shape-0 false false = refl
+shape-0 = table₂ _ _ refl
 
 pub shape-1 : (w v f : Bool) → (xor (not w) (xor v (xor f false)) && true) ≡ (same w (xor v f) && true)
 unfolding xor
-shape-1 true true true = refl
-shape-1 true true false = refl
-shape-1 true false true = refl
-shape-1 true false false = refl
-shape-1 false true true = refl
-shape-1 false true false = refl
-shape-1 false false true = refl
-shape-1 false false false = refl
+shape-1 = table₃ _ _ refl
 
 pub shape-2 : (p w v f : Bool) → ((p || not f) && ((not p || f) && (xor (not w) (xor v (xor p false)) && true))) ≡ (same p f && (same w (xor v f) && true))
 unfolding xor
-shape-2 true true true true = refl
-shape-2 true true true false = refl
-shape-2 true true false true = refl
-shape-2 true true false false = refl
-shape-2 true false true true = refl
-shape-2 true false true false = refl
-shape-2 true false false true = refl
-shape-2 true false false false = refl
-shape-2 false true true true = refl
-shape-2 false true true false = refl
-shape-2 false true false true = refl
-shape-2 false true false false = refl
-shape-2 false false true true = refl
-shape-2 false false true false = refl
-shape-2 false false false true = refl
-shape-2 false false false false = refl
+shape-2 = table₄ _ _ refl
 
 pub shape-d : (d a b : Bool) → xor (not d) (xor a (xor b false)) ≡ same d (xor a b)
 unfolding xor
-shape-d true true true = refl
-shape-d true true false = refl
-shape-d true false true = refl
-shape-d true false false = refl
-shape-d false true true = refl
-shape-d false true false = refl
-shape-d false false true = refl
-shape-d false false false = refl
+shape-d = table₃ _ _ refl
 
 -- ---- an OR is the or of its literals, an XOR their xor
 
@@ -120,11 +63,7 @@ odd-step true c = let e : (1 + c) % 2 ≡ (1 + c % 2) % 2 = omega arith in ap (�
     flip zero h = refl
     flip (suc zero) h = refl
     flip (suc (suc r)) h = absurd (omega arith)
-odd-step false c = let e : 0 + c ≡ c = omega arith in ap (λ (k : ℕ). eqb (k % 2) 1) e ∙ keep (eqb (c % 2) 1)
-  where
-    keep : (b : Bool) → b ≡ xor false b
-    keep true = refl
-    keep false = refl
+odd-step false c = let e : 0 + c ≡ c = omega arith in ap (λ (k : ℕ). eqb (k % 2) 1) e ∙ sym (none-xor (eqb (c % 2) 1))
 
 pub holds-or : (σ : List Bool) (ls : List ℤ) → holds σ (OR ls) ≡ someTrue σ ls
 unfolding holds

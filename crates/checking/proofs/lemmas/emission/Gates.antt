@@ -1,5 +1,5 @@
 -- What the emission's loop over the gates writes, gate by gate. Assumes nothing.
-use mathlib.Core.Path.{_≡_, refl, sym, ap, ap₂, _∙_, subst}
+use mathlib.Core.Path.{_≡_, refl, sym, ap, _∙_, subst}
 use mathlib.Core.Bool.{Bool, true, false, cond}
 use mathlib.Core.List.{List, [], _∷_, _++_, map, append-assoc, append-nil}
 use Prim.Native.Nat.{ℕ, _+_, _*_, _-_, _/_, _≤_, _<_}
@@ -14,32 +14,23 @@ use Rattle.bits.specs.Lists.{over}
 use Rattle.bits.proofs.Bools.{either, cond-true, cond-false}
 use Rattle.bits.proofs.Lists.{over-length, lent-over}
 use Rattle.circuit.specs.declared.gate.Gate.{Gate}
-use Rattle.circuit.specs.Gate.{maxLines, valid, controlCount, Control, controlsOf}
+use Rattle.circuit.specs.Gate.{maxLines, valid, controlCount, controlsOf}
 use Rattle.circuit.specs.Words.{gatesOf, gateAt, allValid}
 use Rattle.circuit.proofs.Promises.{valid-facts, valid-more, controls-count, gates-next, gates-end, valid-next, valid-later}
 use Rattle.checking.specs.declared.clauses.Totals.{Totals}
-use Rattle.checking.specs.Clauses.{Clause, plus, minus, inputOf, literalOf, gateClauses, newVariable, usedBy, moved, clausesOfGate, gatesClauses, usedAfter, currentAfter}
+use Rattle.checking.specs.Clauses.{Clause, inputOf, literalOf, newVariable, usedBy, moved, clausesOfGate, gatesClauses, usedAfter, currentAfter}
 use Rattle.checking.specs.Stored.{stored}
 use Rattle.checking.specs.Sizes.{gateSizes}
 use Rattle.checking.specs.private.Emitter.{byLine, gateStored, Ready}
 use Rattle.checking.specs.private.Emission.{Holds, GatesReady, GatesPut}
-use Rattle.checking.proofs.lemmas.clauses.Gates.{Within, controls-within, new-named}
+use Rattle.checking.proofs.lemmas.clauses.Gates.{new-named}
 use Rattle.checking.proofs.lemmas.clauses.Reading.{stored-append}
 use Rattle.checking.proofs.lemmas.clauses.Sums.{gate-sizes}
 use Rattle.checking.proofs.lemmas.emitter.Parts.{lent-long}
 use Rattle.checking.proofs.lemmas.clauses.Bounds.{new-bound}
+use Rattle.checking.proofs.lemmas.clauses.Maps.{gate-local}
 
 -- ---- one gate
-
--- a gate's clauses depend on the current variables of lines below n alone
-literals-same : (n : ℕ) (a b : ℕ → ℕ) → ((k : ℕ) → k < n → a k ≡ b k) → (cs : List Control) → Within n cs → map (literalOf a) cs ≡ map (literalOf b) cs
-literals-same n a b h [] w = refl
-literals-same n a b h (c ∷ cs) w =
-    ap₂ {B = List ℤ} (λ (x : ℕ) (r : List ℤ). cond (c .positive) (plus x) (minus x) ∷ r) (h (c .line) (w .0)) (literals-same n a b h cs (w .1))
-
-gate-same : (n used : ℕ) (a b : ℕ → ℕ) (g : Gate) → n ≤ maxLines → valid n g ≡ true → ((k : ℕ) → k < n → a k ≡ b k) → clausesOfGate used a g ≡ clausesOfGate used b g
-gate-same n used a b g few v h =
-    ap₂ (gateClauses used) (h (g .target) (valid-facts n g v .target-below)) (literals-same n a b h (controlsOf g) (controls-within n g few v))
 
 gate-words : (n used : ℕ) (current : ℕ → ℕ) (g : Gate) → n ≤ maxLines → valid n g ≡ true
     → length (stored (clausesOfGate used current g)) ≡ gateSizes (controlCount g) .words
@@ -124,7 +115,7 @@ module _ (n : ℕ) (ws start : List ℕ) (first : List ℤ) (current : List ℕ)
       ∙ ap (λ (gs : List Gate). e .front ++ stored (gatesClauses used (e .variables) gs)) next
       ∙ ap (λ (r : List ℤ). e .front ++ r)
       (stored-append (clausesOfGate used (e .variables) g) (gatesClauses (usedBy used g) (moved used (e .variables) g) later)
-      ∙ ap (λ (cs : List Clause). stored cs ++ after) (sym (gate-same n used (byLine current) (e .variables) g (ready .lines) gate-good (e .holds))))
+      ∙ ap (λ (cs : List Clause). stored cs ++ after) (sym (gate-local n used (byLine current) (e .variables) g gate-good (e .holds))))
       ∙ sym (append-assoc (e .front) new after)
 
   pub room : at + length new ≤ length out

@@ -16,13 +16,14 @@ use Rattle.circuit.specs.Gate.{controlsOf}
 use Rattle.circuit.specs.Words.{gatesOf}
 use Rattle.circuit.proofs.Promises.{gates-length}
 use Rattle.checking.specs.declared.clauses.Totals.{Totals}
-use Rattle.checking.specs.Clauses.{Clause, OR, plus, inputOf, usedBy, moved, gatesClauses, usedAfter, currentAfter, targeted, upFrom, differenceClause, differenceClauses, clausesOf}
+use Rattle.checking.specs.Clauses.{OR, plus, inputOf, usedBy, moved, gatesClauses, usedAfter, currentAfter, targeted, upFrom, differenceClauses, clausesOf}
 use Rattle.checking.specs.Stored.{stored, wordLimit}
 use Rattle.checking.specs.private.Emitter.{byLine}
 use Rattle.checking.specs.private.Emission.{Holds, linesStored, lastStored, LinesReady, GatesReady, GatesPut, ListReady}
 use Rattle.checking.proofs.lemmas.clauses.Gates.{new-named}
 use Rattle.checking.proofs.lemmas.clauses.Bounds.{after-named, inputs-named, used-bound}
-use Rattle.checking.proofs.lemmas.clauses.Forced.{Inside, inside-upFrom, used-more}
+use Rattle.checking.proofs.lemmas.clauses.Forced.{below-upFrom, used-more}
+use Rattle.checking.proofs.lemmas.clauses.Maps.{differences-local}
 use Rattle.checking.proofs.lemmas.clauses.Reading.{stored-append}
 use Rattle.checking.proofs.lemmas.clauses.Sums.{last-sizes}
 use Rattle.checking.proofs.lemmas.emitter.Parts.{lent-long}
@@ -44,16 +45,7 @@ hit-after n used current (g ∷ gs) k h =
 hit-line : (n : ℕ) (gs : List Gate) (k : ℕ) → k < n → ltb n (currentAfter n inputOf gs k) ≡ targeted gs k
 hit-line n gs k h = hit-after n n inputOf gs k (omega arith) ∙ ap (λ (b : Bool). b || targeted gs k) (le-ltb n (suc k) (omega arith))
 
--- ---- the clauses of the d depend on lines below n alone
-
-lines-same : (n : ℕ) (hit hit′ : ℕ → Bool) (left right right′ : ℕ → ℕ) → ((k : ℕ) → k < n → hit k ≡ hit′ k) → ((k : ℕ) → k < n → right k ≡ right′ k)
-    → (used : ℕ) (ks : List ℕ) → Inside n ks → differenceClauses hit left right used ks ≡ differenceClauses hit′ left right′ used ks
-unfolding differenceClauses
-lines-same n hit hit′ left right right′ h r used [] w = refl
-lines-same n hit hit′ left right right′ h r used (k ∷ ks) w =
-    ap₂ (λ (c : Clause) (cs : List Clause). c ∷ cs)
-    (ap₂ (λ (b : Bool) (y : ℕ). differenceClause b (suc used) (left k) y) (h k (w .0)) (r k (w .0)))
-    (lines-same n hit hit′ left right right′ h r (suc used) ks (w .1))
+-- ---- the words
 
 module _ (n : ℕ) (gs : List Gate) where
   abbrev gatesPart : List ℤ
@@ -69,8 +61,8 @@ module _ (n : ℕ) (gs : List Gate) where
   lines-stored current used h e =
       ap (linesStored n current) e
       ∙ ap stored
-      (lines-same n (λ k. ltb n (byLine current k)) (targeted gs) inputOf (byLine current) (currentAfter n inputOf gs)
-      (λ k l. ap (ltb n) (h k l) ∙ hit-line n gs k l) h (usedAfter n gs) (upFrom 0 n) (inside-upFrom n 0 n (omega arith)))
+      (differences-local n (λ k. ltb n (byLine current k)) (targeted gs) inputOf (byLine current) (currentAfter n inputOf gs)
+      (λ k l. ap (ltb n) (h k l) ∙ hit-line n gs k l) h (usedAfter n gs) (upFrom 0 n) (below-upFrom n 0 n (omega arith)))
 
   parts : stored (clausesOf n gs) ≡ (gatesPart ++ linesPart) ++ lastPart
   unfolding clausesOf

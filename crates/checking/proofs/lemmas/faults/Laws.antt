@@ -1,7 +1,7 @@
 -- The laws of faults: candidates bit by bit, repairs, excluded lines, and the stand-ins. Assumes nothing.
 use mathlib.Core.Path.{_≡_, refl, sym, ap, ap₂, _∙_}
 use mathlib.Core.Logic.{_↔_}
-use mathlib.Core.Bool.{Bool, true, false, not, xor, _&&_, _||_, true≢false, false≢true}
+use mathlib.Core.Bool.{Bool, true, false, not, xor, _&&_, _||_, true≢false}
 use mathlib.Core.List.{List, [], _∷_, _++_, append-nil, append-assoc}
 use Prim.Native.Nat.{ℕ, zero, suc, _+_, _*_, _^_, _<_, _≤_}
 use native.Mathlib.Numerals.{add-one}
@@ -13,7 +13,7 @@ use lib.Seq.{split-at, drop-at}
 use borrow.Author.Tests.{eqb-true, eqb-false, eq-eqb, ne-eqb, ltb-true, lt-ltb, not-true}
 use Rattle.bits.specs.Digits.{bit}
 use Rattle.bits.specs.Lists.{over}
-use Rattle.bits.proofs.Bools.{and-parts, both, either, same-test, not-held}
+use Rattle.bits.proofs.Bools.{and-parts, both, either, same-test, not-held, xor-twice, xor-all, none-xor, or-left, or-right, or-second, table₁}
 use Rattle.bits.proofs.Digits.{bit-or, bit-pow}
 use Rattle.bits.proofs.Lists.{over-length}
 use Rattle.circuit.specs.declared.gate.Gate.{Gate}
@@ -22,7 +22,7 @@ use Rattle.circuit.specs.Outcome.{served, Untouched}
 use Rattle.circuit.specs.Words.{gatesOf, allValid, gateIn}
 use Rattle.circuit.specs.Run.{run, Differs}
 use Rattle.circuit.proofs.Promises.{written-served, written-refused, cascade-count, fires-lines, lines-fires, valid-by-lines, lines-valid, valid-more, apply-gate, inverted-fired, inverted-idle, run-append, gate-valid, run-next}
-use Rattle.checking.specs.Faults.{isFree, missing, everywhere, stands, maskWhere, masksFrom, faultMasks, faultOutcome, faultBuffer}
+use Rattle.checking.specs.Faults.{isFree, missing, missingControl, gateMasks, everywhere, stands, maskWhere, masksFrom, faultMasks, faultOutcome, faultBuffer}
 use Rattle.checking.specs.RefusalLaws.{Every, StatesGood}
 use Rattle.checking.specs.FaultLaws.{stateAt, Candidate, Masking, maskPlace, MasksStand, repairedAt, Repairs, withControl}
 use Rattle.checking.proofs.lemmas.faults.Masks.{mask-bit}
@@ -34,22 +34,20 @@ use Rattle.checking.proofs.lemmas.faults.Refusals.{masks-made}
 at-start : (before : List Gate) (g : Gate) (gs : List Gate) (i : ℕ) → (before ++ (g ∷ [])) ++ take i gs ≡ before ++ take (suc i) (g ∷ gs)
 at-start before g gs i = append-assoc before (g ∷ []) (take i gs)
 
-first-mask : (n : ℕ) (before gs : List Gate) (xs : List ℕ) (i : ℕ) → i < length gs
-    → (getD (masksFrom n before gs xs) (2 * i) 0 ≡ maskWhere n (stands true (before ++ take i gs) (gateIn gs i) xs))
-    × (getD (masksFrom n before gs xs) (2 * i + 1) 0 ≡ maskWhere n (stands false (before ++ take i gs) (gateIn gs i) xs))
+mask-at : (n : ℕ) (before gs : List Gate) (xs : List ℕ) (i : ℕ) (positive : Bool) → i < length gs
+    → getD (masksFrom n before gs xs) (maskPlace positive i) 0 ≡ maskWhere n (stands (missingControl positive) (before ++ take i gs) (gateIn gs i) xs)
 unfolding masksFrom
-first-mask n before [] xs i h = absurd (omega arith)
-first-mask n before (g ∷ gs) xs zero h =
-    let e : before ≡ before ++ [] = sym (append-nil before) in
-    (ap (λ (l : List Gate). maskWhere n (stands true l g xs)) e, ap (λ (l : List Gate). maskWhere n (stands false l g xs)) e)
-first-mask n before (g ∷ gs) xs (suc i) h =
-    let (a, b) = first-mask n (before ++ (g ∷ [])) gs xs i (omega arith) in
-    let p : 2 * suc i ≡ suc (suc (2 * i)) = omega arith in
-    let q : 2 * suc i + 1 ≡ suc (suc (2 * i + 1)) = omega arith in
-    let e = at-start before g gs i in (
-      ap (λ (k : ℕ). getD (masksFrom n before (g ∷ gs) xs) k 0) p ∙ a ∙ ap (λ (l : List Gate). maskWhere n (stands true l (gateIn gs i) xs)) e,
-      ap (λ (k : ℕ). getD (masksFrom n before (g ∷ gs) xs) k 0) q ∙ b ∙ ap (λ (l : List Gate). maskWhere n (stands false l (gateIn gs i) xs)) e,
-    )
+mask-at n before [] xs i positive h = absurd (omega arith)
+mask-at n before (g ∷ gs) xs zero true h = ap (λ (l : List Gate). maskWhere n (stands (missingControl true) l g xs)) (sym (append-nil before))
+mask-at n before (g ∷ gs) xs zero false h = ap (λ (l : List Gate). maskWhere n (stands (missingControl false) l g xs)) (sym (append-nil before))
+mask-at n before (g ∷ gs) xs (suc i) positive h =
+    ap (λ (k : ℕ). getD (masksFrom n before (g ∷ gs) xs) k 0) (later positive)
+    ∙ mask-at n (before ++ (g ∷ [])) gs xs i positive (omega arith)
+    ∙ ap (λ (l : List Gate). maskWhere n (stands (missingControl positive) l (gateIn gs i) xs)) (at-start before g gs i)
+  where
+    later : (positive : Bool) → maskPlace positive (suc i) ≡ suc (suc (maskPlace positive i))
+    later true = omega arith
+    later false = omega arith
 
 -- ---- every state
 
@@ -85,18 +83,10 @@ parts-free : (g : Gate) (k : ℕ) → (k ≡ g .target → ⊥) → bit (g .posi
 parts-free g k t p q = both (ap not (ne-eqb k (g .target) t)) (both (ap not p) (ap not q))
 
 xor-sign : (positive b : Bool) → xor positive b ≡ true → b ≡ not positive
-unfolding xor
-xor-sign true true e = sym e
-xor-sign true false e = refl
-xor-sign false true e = refl
-xor-sign false false e = e
+xor-sign positive b e = sym (xor-twice positive b) ∙ ap (xor positive) e ∙ xor-all positive
 
 sign-xor : (positive b : Bool) → b ≡ not positive → xor positive b ≡ true
-unfolding xor
-sign-xor true true e = sym e
-sign-xor true false e = refl
-sign-xor false true e = refl
-sign-xor false false e = e
+sign-xor positive b e = ap (xor positive) (e ∙ sym (xor-all positive)) ∙ xor-twice positive true
 
 module _ (n : ℕ) (gs : List Gate) (xs : List ℕ) (i : ℕ) (positive : Bool) (k : ℕ) where
   abbrev g : Gate
@@ -105,7 +95,7 @@ module _ (n : ℕ) (gs : List Gate) (xs : List ℕ) (i : ℕ) (positive : Bool) 
   abbrev before : List Gate
   before = take i gs
 
-  pub stands-candidate : k < n → stands positive before g xs k ≡ true → Candidate n gs xs i positive k
+  pub stands-candidate : k < n → stands (missingControl positive) before g xs k ≡ true → Candidate n gs xs i positive k
   stands-candidate below e =
       let (f, v) = and-parts (isFree g k) (everywhere (missing positive k g) before xs) e in
       let (t, p, q) = free-parts g k f in
@@ -119,16 +109,16 @@ module _ (n : ℕ) (gs : List Gate) (xs : List ℕ) (i : ℕ) (positive : Bool) 
         line = λ j h. xor-sign positive _ (and-parts (fires g (stateAt gs i xs j)) (xor positive (bit (stateAt gs i xs j) k)) (m j h) .1);
       }
 
-  pub candidate-stands : Candidate n gs xs i positive k → stands positive before g xs k ≡ true
+  pub candidate-stands : Candidate n gs xs i positive k → stands (missingControl positive) before g xs k ≡ true
   candidate-stands c =
       both (parts-free g k (c .not-target) (c .not-positive) (c .not-negative))
       (at-every (missing positive k g) before xs (λ j h. both (c .fired j h) (sign-xor positive _ (c .line j h))))
 
   -- bit by bit
-  pub mask-candidate : (m : ℕ) → m ≡ maskWhere n (stands positive before g xs) → (bit m k ≡ true) ↔ Candidate n gs xs i positive k
+  pub mask-candidate : (m : ℕ) → m ≡ maskWhere n (stands (missingControl positive) before g xs) → (bit m k ≡ true) ↔ Candidate n gs xs i positive k
   mask-candidate m e =
-      let d : bit m k ≡ (ltb k n && stands positive before g xs k) = ap (λ (x : ℕ). bit x k) e ∙ mask-bit n (stands positive before g xs) k in (
-        (λ t. let (l, s) = and-parts (ltb k n) (stands positive before g xs k) (sym d ∙ t) in stands-candidate (ltb-true k n l) s),
+      let d : bit m k ≡ (ltb k n && stands (missingControl positive) before g xs k) = ap (λ (x : ℕ). bit x k) e ∙ mask-bit n (stands (missingControl positive) before g xs) k in (
+        (λ t. let (l, s) = and-parts (ltb k n) (stands (missingControl positive) before g xs k) (sym d ∙ t) in stands-candidate (ltb-true k n l) s),
         (λ c. d ∙ both (lt-ltb k n (c .below)) (candidate-stands c)),
       )
 
@@ -136,8 +126,7 @@ pub masks-masking : Masking faultMasks
 masks-masking =
     record {
       size = λ n gs xs. masks-length n [] gs xs;
-      first = λ n gs xs i k h. mask-candidate n gs xs i true k _ (first-mask n [] gs xs i h .0);
-      second = λ n gs xs i k h. mask-candidate n gs xs i false k _ (first-mask n [] gs xs i h .1);
+      lines = λ n gs xs i line positive h. mask-candidate n gs xs i positive line _ (mask-at n [] gs xs i positive h);
     }
 
 -- ---- repairs
@@ -156,53 +145,25 @@ repair-leaves pattern repair gs i h r x e =
 
 -- ---- one control more
 
-or-set : (a b : Bool) → (a || b) ≡ true → (a ≡ false → b ≡ true)
-or-set true b e f = absurd (true≢false f)
-or-set false b e f = e
-
-or-left : (a b : Bool) → a ≡ true → (a || b) ≡ true
-or-left true b e = refl
-or-left false b e = absurd (false≢true e)
-
-or-right : (a b : Bool) → b ≡ true → (a || b) ≡ true
-or-right true b e = refl
-or-right false b e = e
-
 -- the digits of a mask with line k added
 more-bit : (m k j : ℕ) → bit (bitOr m (2 ^ k)) j ≡ (bit m j || eqb j k)
 more-bit m k j = bit-or m (2 ^ k) j ∙ ap (λ (b : Bool). bit m j || b) (bit-pow k j)
 
 more-cases : {P : Type 0} (m k j : ℕ) → bit (bitOr m (2 ^ k)) j ≡ true → (bit m j ≡ true → P) → (j ≡ k → P) → P
-more-cases m k j e f g = either (bit m j) f (λ t. g (eqb-true j k (or-set (bit m j) (eqb j k) (sym (more-bit m k j) ∙ e) t)))
+more-cases m k j e f g = either (bit m j) f (λ t. g (eqb-true j k (or-second (bit m j) (eqb j k) (sym (more-bit m k j) ∙ e) t)))
 
 more-old : (m k j : ℕ) → bit m j ≡ true → bit (bitOr m (2 ^ k)) j ≡ true
-more-old m k j e = more-bit m k j ∙ or-left (bit m j) (eqb j k) e
+more-old m k j e = more-bit m k j ∙ or-left (eqb j k) e
 
 more-new : (m k : ℕ) → bit (bitOr m (2 ^ k)) k ≡ true
-more-new m k = more-bit m k k ∙ or-right (bit m k) (eqb k k) (eq-eqb k k refl)
+more-new m k = more-bit m k k ∙ or-right (bit m k) (eq-eqb k k refl)
 
 more-none : (m k j : ℕ) → bit m j ≡ false → (j ≡ k → ⊥) → bit (bitOr m (2 ^ k)) j ≡ false
 more-none m k j e h = more-bit m k j ∙ ap₂ _||_ e (ne-eqb j k h)
 
-on-value : (b : Bool) → b ≡ true → not (xor true b) ≡ true
+on-value : (b : Bool) → not (xor true b) ≡ b
 unfolding xor
-on-value true e = refl
-on-value false e = e
-
-value-on : (b : Bool) → not (xor true b) ≡ true → b ≡ true
-unfolding xor
-value-on true e = refl
-value-on false e = e
-
-off-value : (b : Bool) → b ≡ false → not (xor false b) ≡ true
-unfolding xor
-off-value true e = sym e
-off-value false e = refl
-
-value-off : (b : Bool) → not (xor false b) ≡ true → b ≡ false
-unfolding xor
-value-off true e = sym e
-value-off false e = refl
+on-value = table₁ _ _ refl
 
 -- the gate fires where it did and the line has the right value
 pub control-fires : (positive : Bool) (k : ℕ) (g : Gate) (s : ℕ) → fires (withControl positive k g) s ≡ (fires g s && not (xor positive (bit s k)))
@@ -210,22 +171,22 @@ control-fires true k g s =
     same-test (fires (withControl true k g) s) (fires g s && not (xor true (bit s k)))
     (λ e.
     let f = fires-lines (withControl true k g) s e in
-    both (lines-fires g s (record { on = λ j t. f .on j (more-old (g .positive) k j t); off = f .off })) (on-value (bit s k) (f .on k (more-new (g .positive) k))))
+    both (lines-fires g s (record { on = λ j t. f .on j (more-old (g .positive) k j t); off = f .off })) (on-value (bit s k) ∙ f .on k (more-new (g .positive) k)))
     (λ e.
     let (a, b) = and-parts (fires g s) (not (xor true (bit s k))) e in
     let f = fires-lines g s a in
     lines-fires (withControl true k g) s
-    (record { on = λ j t. more-cases (g .positive) k j t (f .on j) (λ i. ap (bit s) i ∙ value-on (bit s k) b); off = f .off }))
+    (record { on = λ j t. more-cases (g .positive) k j t (f .on j) (λ i. ap (bit s) i ∙ sym (on-value (bit s k)) ∙ b); off = f .off }))
 control-fires false k g s =
     same-test (fires (withControl false k g) s) (fires g s && not (xor false (bit s k)))
     (λ e.
     let f = fires-lines (withControl false k g) s e in
-    both (lines-fires g s (record { on = f .on; off = λ j t. f .off j (more-old (g .negative) k j t) })) (off-value (bit s k) (f .off k (more-new (g .negative) k))))
+    both (lines-fires g s (record { on = f .on; off = λ j t. f .off j (more-old (g .negative) k j t) })) (ap not (none-xor (bit s k) ∙ f .off k (more-new (g .negative) k))))
     (λ e.
     let (a, b) = and-parts (fires g s) (not (xor false (bit s k))) e in
     let f = fires-lines g s a in
     lines-fires (withControl false k g) s
-    (record { on = f .on; off = λ j t. more-cases (g .negative) k j t (f .off j) (λ i. ap (bit s) i ∙ value-off (bit s k) b) }))
+    (record { on = f .on; off = λ j t. more-cases (g .negative) k j t (f .off j) (λ i. ap (bit s) i ∙ not-true (bit s k) (ap not (sym (none-xor (bit s k))) ∙ b)) }))
 
 pub control-valid : (n : ℕ) (positive : Bool) (k : ℕ) (g : Gate) → valid n g ≡ true → k < n → isFree g k ≡ true → valid n (withControl positive k g) ≡ true
 control-valid n true k g v h f =
@@ -312,25 +273,27 @@ module _ (na : ℕ) (a : List ℕ) (nb : ℕ) (b states out : List ℕ) (k : ℕ
   unfolding faultBuffer
   left = written-served masks out (faultOutcome na a nb b states (length out)) k made
 
-  two-each : length masks ≡ 2 * k
-  two-each = masks-length na [] (gatesOf a) states ∙ ap (λ (n : ℕ). 2 * n) suspect-count
+  all-masks : length masks ≡ gateMasks * k
+  all-masks = masks-length na [] (gatesOf a) states ∙ ap (λ (n : ℕ). gateMasks * n) suspect-count
 
   -- a place among the masks
-  masked : (place : ℕ) → place < 2 * k → getD last place 0 ≡ getD masks place 0
-  masked place h = ap (λ (l : List ℕ). getD l place 0) left ∙ List·getD-append masks (drop (length masks) out) 0 place (omega (arith, two-each))
+  masked : (place : ℕ) → place < gateMasks * k → getD last place 0 ≡ getD masks place 0
+  masked place h = ap (λ (l : List ℕ). getD l place 0) left ∙ List·getD-append masks (drop (length masks) out) 0 place (omega (arith, all-masks))
 
   lines : (i line : ℕ) (positive : Bool) → i < k → (bit (getD last (maskPlace positive i) 0) line ≡ true) ↔ Candidate na (gatesOf a) states i positive line
-  lines i line true h =
-      rw (masked (2 * i) (omega arith)) (masks-masking .first na (gatesOf a) states i line (omega (arith, suspect-count)))
-  lines i line false h =
-      rw (masked (2 * i + 1) (omega arith)) (masks-masking .second na (gatesOf a) states i line (omega (arith, suspect-count)))
+  lines i line positive h =
+      rw (masked (maskPlace positive i) (inside positive)) (masks-masking .lines na (gatesOf a) states i line positive (omega (arith, suspect-count)))
+    where
+      inside : (positive : Bool) → maskPlace positive i < gateMasks * k
+      inside true = omega arith
+      inside false = omega arith
 
   pub masks-stand : MasksStand na (gatesOf a) states k out last
   masks-stand =
       record {
-        long = ap length left ∙ over-length masks out (omega (arith, two-each, masks-made na a nb b states (length out) k made .1));
+        long = ap length left ∙ over-length masks out (omega (arith, all-masks, masks-made na a nb b states (length out) k made .1));
         lines = lines;
-        rest = ap (drop (2 * k)) left ∙ drop-at masks (drop (length masks) out) (2 * k) two-each ∙ ap (λ (n : ℕ). drop n out) two-each;
+        rest = ap (drop (gateMasks * k)) left ∙ drop-at masks (drop (length masks) out) (gateMasks * k) all-masks ∙ ap (λ (n : ℕ). drop n out) all-masks;
       }
 
   pub guilty-stands : (i line : ℕ) (positive : Bool) → i < k → line < na → isFree (gateIn (gatesOf a) i) line ≡ true

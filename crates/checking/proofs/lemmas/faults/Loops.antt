@@ -18,7 +18,7 @@ use Rattle.circuit.specs.Refusal.{badState, agreeingState, noRoom}
 use Rattle.circuit.specs.Words.{gatesOf, gateAt, Counts, pairOutcome, Cascade}
 use Rattle.circuit.proofs.Promises.{demand-met, demand-failed, then-served, then-refused, then-both, told, gates-next, gates-end, pair-served}
 use Rattle.checking.specs.Compare.{outputsDiffer}
-use Rattle.checking.specs.Faults.{isFree, stands, maskWhere, masksFrom, faultMasks, eachFrom, faultCheck, faultOutcome, faultBuffer, everywhere}
+use Rattle.checking.specs.Faults.{isFree, missingControl, gateMasks, stands, maskWhere, masksFrom, faultMasks, eachFrom, faultCheck, faultOutcome, faultBuffer, everywhere}
 use Rattle.checking.specs.private.Narrowing.{kept, narrowed, narrowedBy}
 use Rattle.checking.proofs.lemmas.faults.Masks.{same-mask, narrowed-by}
 
@@ -68,8 +68,8 @@ free-masks n before (g ∷ gs) =
     ap₂ (λ (x y : ℕ). x ∷ y ∷ masksFrom n (before ++ (g ∷ [])) gs []) (alone true) (alone false)
     ∙ ap (λ (ms : List ℕ). maskWhere n (isFree g) ∷ maskWhere n (isFree g) ∷ ms) (free-masks n (before ++ (g ∷ [])) gs)
   where
-    alone : (positive : Bool) → maskWhere n (stands positive before g []) ≡ maskWhere n (isFree g)
-    alone positive = same-mask n (stands positive before g []) (isFree g) (λ k h. and-true (isFree g k))
+    alone : (positive : Bool) → maskWhere n (stands (missingControl positive) before g []) ≡ maskWhere n (isFree g)
+    alone positive = same-mask n (stands (missingControl positive) before g []) (isFree g) (λ k h. and-true (isFree g k))
 
 -- the gates from i on, and the words of the buffer behind those that are done
 abbrev pub freeLeft : ℕ → List ℕ → List ℕ → ℕ → List ℕ
@@ -199,15 +199,15 @@ module _ (na : ℕ) (a : List ℕ) (nb : ℕ) (b xs : List ℕ) where
     fault-refused number place e = then-refused _ _ number place e
 
     module _ (gates : ℕ) (good : faultCheck na a nb b xs ≡ served gates) where
-      pub fault-short : room < 2 * gates → faultOutcome na a nb b xs room ≡ refused noRoom 0
+      pub fault-short : room < gateMasks * gates → faultOutcome na a nb b xs room ≡ refused noRoom 0
       unfolding faultOutcome
       fault-short h = then-served _ _ gates good ∙ demand-failed _ _ _ _ (lt-leb _ _ h)
 
-      pub fault-made : 2 * gates ≤ room → faultOutcome na a nb b xs room ≡ served gates
+      pub fault-made : gateMasks * gates ≤ room → faultOutcome na a nb b xs room ≡ served gates
       unfolding faultOutcome
       fault-made h = then-served _ _ gates good ∙ demand-met _ _ _ _ (le-leb _ _ h)
 
-pub masks-length : (n : ℕ) (before gs : List Gate) (xs : List ℕ) → length (masksFrom n before gs xs) ≡ 2 * length gs
+pub masks-length : (n : ℕ) (before gs : List Gate) (xs : List ℕ) → length (masksFrom n before gs xs) ≡ gateMasks * length gs
 unfolding masksFrom
 masks-length n before [] xs = refl
 masks-length n before (g ∷ gs) xs = let h = masks-length n (before ++ (g ∷ [])) gs xs in omega arith

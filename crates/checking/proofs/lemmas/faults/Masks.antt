@@ -10,13 +10,13 @@ use lib.Bits.{bitAnd, bitOr, bitXor}
 use lib.Pow.{pow-pos}
 use borrow.Author.Tests.{eqb-true, eqb-false, ltb-true, ltb-false, lt-ltb, le-ltb}
 use Rattle.bits.specs.Digits.{bit}
-use Rattle.bits.proofs.Bools.{either, cond-true, cond-false}
+use Rattle.bits.proofs.Bools.{either, cond-true, cond-false, xor-all, table₂, table₃}
 use Rattle.bits.proofs.Digits.{bit-and, bit-or, bit-xor, bit-pow, bit-sum, bit-none, bits-equal, bit-above, line-clear}
 use Rattle.circuit.specs.declared.gate.Gate.{Gate}
 use Rattle.circuit.specs.Gate.{maxLines, fires, apply}
 use Rattle.circuit.specs.Run.{run}
 use Rattle.circuit.proofs.Promises.{run-append, run-none, run-one}
-use Rattle.checking.specs.Faults.{isFree, missing, everywhere, stands, maskWhere, masksFrom}
+use Rattle.checking.specs.Faults.{isFree, missing, missingControl, everywhere, stands, maskWhere, masksFrom}
 use Rattle.checking.specs.private.Narrowing.{kept, narrowed, narrowedBy}
 
 -- ---- digits
@@ -101,18 +101,8 @@ all-bit n k = ap (λ (x : ℕ). bit x k) (all-lines n) ∙ mask-bit n (λ k. tru
 
 -- ---- the free lines of a gate
 
-xor-all : (a : Bool) → xor a true ≡ not a
-unfolding xor
-xor-all true = refl
-xor-all false = refl
-
 free-digit : (p q t : Bool) → not ((p || q) || t) ≡ (not t && (not p && not q))
-free-digit true q true = refl
-free-digit true q false = refl
-free-digit false true true = refl
-free-digit false true false = refl
-free-digit false false true = refl
-free-digit false false false = refl
+free-digit = table₃ _ _ refl
 
 pub free-mask : (n : ℕ) (g : Gate) → n ≤ maxLines
     → bitAnd (2 ^ n - 1) (bitXor (bitOr (bitOr (g .positive) (g .negative)) (2 ^ g .target)) (2 ^ maxLines - 1)) ≡ maskWhere n (isFree g)
@@ -138,10 +128,7 @@ free-mask n g l =
 
 kept-sign : (positive b : Bool) → cond positive (not b) b ≡ xor positive b
 unfolding xor
-kept-sign true true = refl
-kept-sign true false = refl
-kept-sign false true = refl
-kept-sign false false = refl
+kept-sign = table₂ _ _ refl
 
 -- a state leaves a line exactly when the pattern matches
 pub kept-bit : (positive : Bool) (g : Gate) (s k : ℕ) → k < maxLines → bit (kept positive g s) k ≡ missing positive k g s
@@ -172,15 +159,15 @@ every-more pattern before (y ∷ xs) x =
     ∙ sym (and-assoc (pattern (run before y)) (everywhere pattern before xs) (pattern (run before x)))
 
 stands-more : (positive : Bool) (before : List Gate) (g : Gate) (xs : List ℕ) (x k : ℕ)
-    → (stands positive before g xs k && missing positive k g (run before x)) ≡ stands positive before g (xs ++ (x ∷ [])) k
+    → (stands (missingControl positive) before g xs k && missing positive k g (run before x)) ≡ stands (missingControl positive) before g (xs ++ (x ∷ [])) k
 stands-more positive before g xs x k =
     and-assoc (isFree g k) (everywhere (missing positive k g) before xs) (missing positive k g (run before x))
     ∙ ap (λ (b : Bool). isFree g k && b) (sym (every-more (missing positive k g) before xs x))
 
 mask-more : (n : ℕ) (positive : Bool) (before : List Gate) (g : Gate) (xs : List ℕ) (x : ℕ) → n ≤ maxLines
-    → bitAnd (maskWhere n (stands positive before g xs)) (kept positive g (run before x)) ≡ maskWhere n (stands positive before g (xs ++ (x ∷ [])))
+    → bitAnd (maskWhere n (stands (missingControl positive) before g xs)) (kept positive g (run before x)) ≡ maskWhere n (stands (missingControl positive) before g (xs ++ (x ∷ [])))
 mask-more n positive before g xs x l =
-    kept-mask n positive g (run before x) (stands positive before g xs) l
+    kept-mask n positive g (run before x) (stands (missingControl positive) before g xs) l
     ∙ same-mask n _ _ (λ k h. stands-more positive before g xs x k)
 
 -- the masks of all gates after one state more
@@ -191,7 +178,7 @@ narrowed-masks n before [] xs x rest l = refl
 narrowed-masks n before (g ∷ gs) xs x rest l =
     ap₂ (λ (a b : ℕ). a ∷ b ∷ narrowed gs (apply g (run before x)) (masksFrom n (before ++ (g ∷ [])) gs xs ++ rest))
     (mask-more n true before g xs x l) (mask-more n false before g xs x l)
-    ∙ ap (λ (ms : List ℕ). maskWhere n (stands true before g (xs ++ (x ∷ []))) ∷ maskWhere n (stands false before g (xs ++ (x ∷ []))) ∷ ms)
+    ∙ ap (λ (ms : List ℕ). maskWhere n (stands (missingControl true) before g (xs ++ (x ∷ []))) ∷ maskWhere n (stands (missingControl false) before g (xs ++ (x ∷ []))) ∷ ms)
     (ap (λ (s : ℕ). narrowed gs s (masksFrom n (before ++ (g ∷ [])) gs xs ++ rest)) (sym (run-append before (g ∷ []) x ∙ run-one g (run before x)))
     ∙ narrowed-masks n (before ++ (g ∷ [])) gs xs x rest l)
 

@@ -34,7 +34,7 @@ from-one-fails s = never-agree (s 1 one [] .1 0 (omega arith))
 pub nothing-struck-fails : Masking strikesNothing → ⊥
 unfolding maskWhere bit fold apply valid fires inverted
 nothing-struck-fails m =
-    let c : Candidate 2 one (0 ∷ []) 0 false 1 = m .second 2 one (0 ∷ []) 0 1 (omega arith) .0 refl in
+    let c : Candidate 2 one (0 ∷ []) 0 false 1 = m .lines 2 one (0 ∷ []) 0 1 false (omega arith) .0 refl in
     false≢true (c .line 0 (omega arith))
 
 -- line 1 may be a missing positive control
@@ -60,7 +60,7 @@ standing =
 
 pub all-struck-fails : Masking strikesAll → ⊥
 unfolding bit
-all-struck-fails m = false≢true (m .first 2 one (0 ∷ []) 0 1 (omega arith) .1 standing)
+all-struck-fails m = false≢true (m .lines 2 one (0 ∷ []) 0 1 true (omega arith) .1 standing)
 
 pub fault-laws : FaultLaws
 fault-laws =

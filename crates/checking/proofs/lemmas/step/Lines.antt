@@ -1,6 +1,6 @@
 -- The laws of two gates by lines: gates that may pass commute, and a match keeps the function and validity. Assumes nothing.
 use mathlib.Core.Path.{_≡_, refl, sym, ap, ap₂, _∙_, subst}
-use mathlib.Core.Bool.{Bool, true, false, not, _&&_, _||_, xor, false≢true, true≢false, and-false}
+use mathlib.Core.Bool.{Bool, true, false, not, _&&_, xor, false≢true, true≢false}
 use mathlib.Core.List.{[]}
 use Prim.Native.Nat.{ℕ, _^_, _<_, _≤_}
 use native.Mathlib.Omega.{arith}
@@ -8,8 +8,8 @@ use lib.Dec.{eqb, ltb}
 use lib.Bits.{bitAnd, bitOr, or-add-and, and-le-l, and-le-r, or-self}
 use borrow.Author.Tests.{eqb-true, eqb-false, eq-eqb, ne-eqb, ltb-true, ltb-false}
 use Rattle.bits.specs.Digits.{bit}
-use Rattle.bits.proofs.Bools.{and-parts, both, either, same-test, refuted}
-use Rattle.bits.proofs.Digits.{bit-and, bit-or, bit-pow, bit-none, bits-equal}
+use Rattle.bits.proofs.Bools.{and-parts, both, either, same-test, refuted, or-none, none-or, table₂, table₃, table₄}
+use Rattle.bits.proofs.Digits.{bit-or, bits-equal, line-clear, clear-line}
 use Rattle.circuit.specs.declared.gate.Gate.{Gate}
 use Rattle.circuit.specs.Gate.{maxLines, fires, valid, apply}
 use Rattle.circuit.specs.Words.{allValid}
@@ -29,9 +29,7 @@ meets true x = x
 meets false x = not x
 
 meets-not : (b x : Bool) → meets (not b) x ≡ not (meets b x)
-meets-not true x = refl
-meets-not false true = refl
-meets-not false false = refl
+meets-not = table₂ _ _ refl
 
 met-true : (b x : Bool) → (b ≡ true → x ≡ true) → (not b ≡ true → x ≡ false) → meets b x ≡ true
 met-true true x f g = f refl
@@ -123,10 +121,7 @@ more-valid r less k b o n v below aside =
 
 xor-off : (x f : Bool) → xor x (f && false) ≡ x
 unfolding xor
-xor-off true true = refl
-xor-off true false = refl
-xor-off false true = refl
-xor-off false false = refl
+xor-off = table₂ _ _ refl
 
 module _ (g h : Gate) (vg : valid maxLines g ≡ true) (clear : Uncontrolled h (g .target)) (s : ℕ) where
   elsewhere : (l : ℕ) → (l ≡ g .target → ⊥) → bit (apply g s) l ≡ bit s l
@@ -152,8 +147,8 @@ module _ (g h : Gate) (vg : valid maxLines g ≡ true) (clear : Uncontrolled h (
 -- ---- gates that may pass commute
 
 -- two masks are 0 exactly where both together are
-or-none : (a b : ℕ) → eqb (bitOr a b) 0 ≡ (eqb a 0 && eqb b 0)
-or-none a b =
+or-zero : (a b : ℕ) → eqb (bitOr a b) 0 ≡ (eqb a 0 && eqb b 0)
+or-zero a b =
     same-test (eqb (bitOr a b) 0) (eqb a 0 && eqb b 0)
     (λ e.
     let z : bitOr a b ≡ 0 = eqb-true _ _ e in
@@ -167,50 +162,32 @@ pub pass-test : (g h : Gate) (x y : ℕ) → x ≡ 2 ^ g .target → y ≡ 2 ^ h
     → eqb (bitOr (bitAnd (bitOr (h .positive) (h .negative)) x) (bitAnd (bitOr (g .positive) (g .negative)) y)) 0 ≡ mayPass g h
 unfolding mayPass controlLines
 pass-test g h x y e f =
-    or-none (bitAnd (bitOr (h .positive) (h .negative)) x) (bitAnd (bitOr (g .positive) (g .negative)) y)
+    or-zero (bitAnd (bitOr (h .positive) (h .negative)) x) (bitAnd (bitOr (g .positive) (g .negative)) y)
     ∙ ap₂ (λ (u v : ℕ). eqb (bitAnd (bitOr (h .positive) (h .negative)) u) 0 && eqb (bitAnd (bitOr (g .positive) (g .negative)) v) 0) e f
 
-clear-line : (p q t : ℕ) → bitAnd (bitOr p q) (2 ^ t) ≡ 0 → (bit p t ≡ false) × (bit q t ≡ false)
-clear-line p q t e =
-    none (bit p t) (bit q t)
-    (sym (bit-and (bitOr p q) (2 ^ t) t ∙ ap₂ _&&_ (bit-or p q t) (bit-pow t t ∙ eq-eqb t t refl)) ∙ ap (λ (x : ℕ). bit x t) e ∙ bit-none t)
-  where
-    none : (a b : Bool) → ((a || b) && true) ≡ false → (a ≡ false) × (b ≡ false)
-    none true b h = absurd (true≢false h)
-    none false true h = absurd (true≢false h)
-    none false false h = (refl, refl)
+clear-lines : (p q t : ℕ) → bitAnd (bitOr p q) (2 ^ t) ≡ 0 → (bit p t ≡ false) × (bit q t ≡ false)
+clear-lines p q t e = or-none (bit p t) (bit q t) (sym (bit-or p q t) ∙ clear-line (bitOr p q) t e)
 
 pub pass-clear : (g h : Gate) → mayPass g h ≡ true → (Uncontrolled h (g .target)) × (Uncontrolled g (h .target))
 unfolding mayPass controlLines
 pass-clear g h e =
     let (a, b) = and-parts (eqb (bitAnd (bitOr (h .positive) (h .negative)) (2 ^ g .target)) 0) (eqb (bitAnd (bitOr (g .positive) (g .negative)) (2 ^ h .target)) 0) e in
-    let (p, q) = clear-line (h .positive) (h .negative) (g .target) (eqb-true _ _ a) in
-    let (u, v) = clear-line (g .positive) (g .negative) (h .target) (eqb-true _ _ b) in
+    let (p, q) = clear-lines (h .positive) (h .negative) (g .target) (eqb-true _ _ a) in
+    let (u, v) = clear-lines (g .positive) (g .negative) (h .target) (eqb-true _ _ b) in
     (record { not-positive = p; not-negative = q }, record { not-positive = u; not-negative = v })
 
-line-clear : (p q t : ℕ) → bit p t ≡ false → bit q t ≡ false → bitAnd (bitOr p q) (2 ^ t) ≡ 0
-line-clear p q t a b =
-    bits-equal _ _
-    (at-line (λ (l : ℕ). bit (bitAnd (bitOr p q) (2 ^ t)) l ≡ bit 0 l) t
-    (bit-and _ _ t ∙ ap (λ (x : Bool). x && bit (2 ^ t) t) (bit-or p q t ∙ ap₂ _||_ a b) ∙ sym (bit-none t))
-    (λ l d. bit-and _ _ l ∙ ap (λ (x : Bool). bit (bitOr p q) l && x) (bit-pow t l ∙ ne-eqb l t d) ∙ and-false (bit (bitOr p q) l) ∙ sym (bit-none l)))
+lines-clear : (p q t : ℕ) → bit p t ≡ false → bit q t ≡ false → bitAnd (bitOr p q) (2 ^ t) ≡ 0
+lines-clear p q t a b = line-clear (bitOr p q) t (bit-or p q t ∙ none-or a b)
 
 pub clear-pass : (g h : Gate) → Uncontrolled h (g .target) → Uncontrolled g (h .target) → mayPass g h ≡ true
 unfolding mayPass controlLines
 clear-pass g h c d =
-    both (eq-eqb _ _ (line-clear (h .positive) (h .negative) (g .target) (c .not-positive) (c .not-negative)))
-    (eq-eqb _ _ (line-clear (g .positive) (g .negative) (h .target) (d .not-positive) (d .not-negative)))
+    both (eq-eqb _ _ (lines-clear (h .positive) (h .negative) (g .target) (c .not-positive) (c .not-negative)))
+    (eq-eqb _ _ (lines-clear (g .positive) (g .negative) (h .target) (d .not-positive) (d .not-negative)))
 
 xor-swap : (a b c : Bool) → xor (xor a b) c ≡ xor (xor a c) b
 unfolding xor
-xor-swap true true true = refl
-xor-swap true true false = refl
-xor-swap true false true = refl
-xor-swap true false false = refl
-xor-swap false true true = refl
-xor-swap false true false = refl
-xor-swap false false true = refl
-xor-swap false false false = refl
+xor-swap = table₃ _ _ refl
 
 pub clear-commute : (g h : Gate) → valid maxLines g ≡ true → valid maxLines h ≡ true → Uncontrolled h (g .target) → Uncontrolled g (h .target)
     → (s : ℕ) → apply h (apply g s) ≡ apply g (apply h s)
@@ -227,22 +204,7 @@ own-clear g v = let w = valid-by-lines maxLines g v in record { not-positive = w
 
 both-lines : (x f e t : Bool) → xor (xor x (f && t)) (e && t) ≡ xor x (xor f e && t)
 unfolding xor
-both-lines true true true true = refl
-both-lines true true true false = refl
-both-lines true true false true = refl
-both-lines true true false false = refl
-both-lines true false true true = refl
-both-lines true false true false = refl
-both-lines true false false true = refl
-both-lines true false false false = refl
-both-lines false true true true = refl
-both-lines false true true false = refl
-both-lines false true false true = refl
-both-lines false true false false = refl
-both-lines false false true true = refl
-both-lines false false true false = refl
-both-lines false false false true = refl
-both-lines false false false false = refl
+both-lines = table₄ _ _ refl
 
 -- two gates with one target do what a third with that target does, where it fires as exactly one of them does
 merged : (g h r : Gate) → valid maxLines g ≡ true → valid maxLines h ≡ true → valid maxLines r ≡ true → g .target ≡ h .target → r .target ≡ h .target
@@ -257,24 +219,15 @@ merged g h r vg vh vr same here s f =
 
 dropped : (f m : Bool) → xor (f && m) (f && not m) ≡ f
 unfolding xor
-dropped true true = refl
-dropped true false = refl
-dropped false true = refl
-dropped false false = refl
+dropped = table₂ _ _ refl
 
 turned : (f m : Bool) → xor (f && m) f ≡ (f && not m)
 unfolding xor
-turned true true = refl
-turned true false = refl
-turned false true = refl
-turned false false = refl
+turned = table₂ _ _ refl
 
 turned-back : (f m : Bool) → xor f (f && m) ≡ (f && not m)
 unfolding xor
-turned-back true true = refl
-turned-back true false = refl
-turned-back false true = refl
-turned-back false false = refl
+turned-back = table₂ _ _ refl
 
 -- the gates that remain are valid on every n on which the two are
 pub match-valid : (n : ℕ) (g h : Gate) (m : Match) → Matches g h m → valid n g ≡ true → valid n h ≡ true → allValid n (remaining m) ≡ true

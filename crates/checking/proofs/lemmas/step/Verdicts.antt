@@ -1,6 +1,6 @@
 -- The match by masks is the match by lines: of every two gates one way, of valid ones the other way. Assumes nothing.
 use mathlib.Core.Path.{_≡_, refl, sym, ap, ap₂, _∙_, subst}
-use mathlib.Core.Bool.{Bool, true, false, not, cond, _&&_, _||_, xor, false≢true, true≢false}
+use mathlib.Core.Bool.{Bool, true, false, not, cond, _&&_, _||_, xor, false≢true, true≢false, and-self, and-not-self}
 use Prim.Native.Nat.{ℕ, _^_}
 use native.Mathlib.Omega.{arith}
 use lib.Dec.{eqb}
@@ -10,7 +10,7 @@ use borrow.Author.Tests.{eqb-true, eqb-false, eq-eqb, ne-eqb}
 use Rattle.bits.specs.Digits.{bit}
 use Rattle.bits.proofs.Digits.{bit-and, bit-or, bit-xor, bit-pow, bit-none, bits-equal}
 use Rattle.bits.proofs.Single.{ones-zero, single-pow, pow-single}
-use Rattle.bits.proofs.Bools.{or-none, xor-false}
+use Rattle.bits.proofs.Bools.{or-none, xor-false, xor-same, table₁}
 use Rattle.circuit.specs.declared.gate.Gate.{Gate}
 use Rattle.circuit.specs.Gate.{maxLines, valid}
 use Rattle.circuit.proofs.Promises.{valid-by-lines}
@@ -18,13 +18,6 @@ use Rattle.checking.specs.Match.{controlRemoved, controlInverted, differ
 use Rattle.checking.specs.StepLaws.{OneMore, Matches, pair, drop, turn-first, turn-second}
 use Rattle.checking.proofs.lemmas.step.Matching.{match-equal, match-opposite, match-longer}
 use Rattle.checking.proofs.lemmas.step.Lines.{at-line}
-
-xor-same : (a b : Bool) → a ≡ b → xor a b ≡ false
-unfolding xor
-xor-same true true e = refl
-xor-same true false e = absurd (true≢false e)
-xor-same false true e = absurd (false≢true e)
-xor-same false false e = refl
 
 gate-equal : (g h : Gate) → g .positive ≡ h .positive → g .negative ≡ h .negative → g .target ≡ h .target → g ≡ h
 gate-equal g h p q t =
@@ -73,11 +66,7 @@ module _ (k : ℕ) (g h : Gate) (a : AlikeBut k g h) where
 
   -- the lines of the gate that remains
   both-and : (p q : ℕ) → (l : ℕ) → bit p l ≡ bit q l → bit (bitAnd p q) l ≡ bit q l
-  both-and p q l e = bit-and p q l ∙ ap (λ (x : Bool). x && bit q l) e ∙ self (bit q l)
-    where
-      self : (x : Bool) → (x && x) ≡ x
-      self true = refl
-      self false = refl
+  both-and p q l e = bit-and p q l ∙ ap (λ (x : Bool). x && bit q l) e ∙ and-self (bit q l)
 
   removed-lines : (r : Gate) → AlikeBut k r h → r .target ≡ h .target
       → (bit (g .positive) k && bit (h .positive) k) ≡ bit (r .positive) k → (bit (g .negative) k && bit (h .negative) k) ≡ bit (r .negative) k
@@ -123,22 +112,15 @@ alike-both k g h r a b = record { positive = λ l d. a .positive l d ∙ b .posi
 -- on line k: opposite polarities, and one control more
 opposite : (b : Bool) → (xor b (not b) || xor (not b) (not (not b))) ≡ true
 unfolding xor
-opposite true = refl
-opposite false = refl
+opposite = table₁ _ _ refl
 
 opposite-same : (b : Bool) → xor b (not b) ≡ xor (not b) (not (not b))
 unfolding xor
-opposite-same true = refl
-opposite-same false = refl
-
-never-both : (b : Bool) → (b && not b) ≡ false
-never-both true = refl
-never-both false = refl
+opposite-same = table₁ _ _ refl
 
 extra : (b : Bool) → (xor b false || xor (not b) false) ≡ true
 unfolding xor
-extra true = refl
-extra false = refl
+extra = table₁ _ _ refl
 
 extra-apart : (b : Bool) → xor b false ≡ xor (not b) false → ⊥
 unfolding xor
@@ -147,18 +129,15 @@ extra-apart false e = false≢true e
 
 extra-on : (b : Bool) → ((b && false) || xor (not b) false) ≡ not b
 unfolding xor
-extra-on true = refl
-extra-on false = refl
+extra-on = table₁ _ _ refl
 
 extra-off : (b : Bool) → ((not b && false) || xor b false) ≡ not (not b)
 unfolding xor
-extra-off true = refl
-extra-off false = refl
+extra-off = table₁ _ _ refl
 
 extra′ : (b : Bool) → (xor false b || xor false (not b)) ≡ true
 unfolding xor
-extra′ true = refl
-extra′ false = refl
+extra′ = table₁ _ _ refl
 
 extra-apart′ : (b : Bool) → xor false b ≡ xor false (not b) → ⊥
 unfolding xor
@@ -167,13 +146,11 @@ extra-apart′ false e = false≢true e
 
 extra-on′ : (b : Bool) → ((false && b) || xor false (not b)) ≡ not b
 unfolding xor
-extra-on′ true = refl
-extra-on′ false = refl
+extra-on′ = table₁ _ _ refl
 
 extra-off′ : (b : Bool) → ((false && not b) || xor false b) ≡ not (not b)
 unfolding xor
-extra-off′ true = refl
-extra-off′ false = refl
+extra-off′ = table₁ _ _ refl
 
 -- the four bits of line k, put into a test of them
 four : (f : Bool → Bool → Bool → Bool → Bool) {a b c d a′ b′ c′ d′ : Bool} → a ≡ a′ → b ≡ b′ → c ≡ c′ → d ≡ d′ → f a b c d ≡ f a′ b′ c′ d′
@@ -191,8 +168,8 @@ match-found g h _ (drop r k b o u) =
     (masks-same k g h a (ap₂ xor (o .on) (u .on) ∙ opposite-same b ∙ sym (ap₂ xor (o .off) (u .off))))
     ∙ ap (λ (x : Gate). matched (Match.drop x))
     (removed-lines k g h a r (alike-back k h r (more-alike h r k (not b) u)) (sym (u .target))
-    (ap₂ _&&_ (o .on) (u .on) ∙ never-both b ∙ sym (o .none-positive))
-    (ap₂ _&&_ (o .off) (u .off) ∙ never-both (not b) ∙ sym (o .none-negative)))
+    (ap₂ _&&_ (o .on) (u .on) ∙ and-not-self b ∙ sym (o .none-positive))
+    (ap₂ _&&_ (o .off) (u .off) ∙ and-not-self (not b) ∙ sym (o .none-negative)))
 match-found g h _ (turn-first r k b o u) =
     let a : AlikeBut k g h = more-alike g h k b o in
     let e : (dp k g h a || dn k g h a) ≡ true = four (λ x y z w. xor x y || xor z w) (o .on) (o .none-positive) (o .off) (o .none-negative) ∙ extra b in
@@ -325,8 +302,8 @@ module _ (g h : Gate) (vg : valid maxLines g ≡ true) (vh : valid maxLines h �
       go : Opposite (bit (g .positive) k) (bit (g .negative) k) (bit (h .positive) k) (bit (h .negative) k) → Matches g h (Match.drop (controlRemoved g h))
       go (opposed b p q u v) =
           let r = controlRemoved g h in
-          let x : bit (r .positive) k ≡ false = bit-and _ _ k ∙ ap₂ _&&_ p u ∙ never-both b in
-          let y : bit (r .negative) k ≡ false = bit-and _ _ k ∙ ap₂ _&&_ q v ∙ never-both (not b) in
+          let x : bit (r .positive) k ≡ false = bit-and _ _ k ∙ ap₂ _&&_ p u ∙ and-not-self b in
+          let y : bit (r .negative) k ≡ false = bit-and _ _ k ∙ ap₂ _&&_ q v ∙ and-not-self (not b) in
           let ah : AlikeBut k h r = alike-back k r h removed-alike in
           drop r k b (one-more g r b (alike-both k g h r a ah) t p q x y) (one-more h r (not b) ah refl u v x y)
 

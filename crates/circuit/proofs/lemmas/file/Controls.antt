@@ -1,5 +1,5 @@
 -- The laws of a gate's controls: a gate is the masks of its list of controls, and rising controls are those of their gate. Assumes nothing.
-use mathlib.Core.Path.{_≡_, refl, sym, ap, ap₂, _∙_}
+use mathlib.Core.Path.{_≡_, refl, sym, ap, ap₂, _∙_, subst}
 use mathlib.Core.Bool.{Bool, true, false, cond, _&&_, _||_, Bool·beq, false≢true, true≢false, or-false, or-assoc, and-true, and-false, and-assoc}
 use mathlib.Core.List.{List, [], _∷_, _++_, append-nil, append-assoc}
 use Prim.Native.Nat.{ℕ, zero, suc, _+_, _^_, _≤_, _<_}
@@ -9,17 +9,13 @@ use lib.Dec.{eqb, leb, ltb}
 use lib.Bits.{bitOr}
 use borrow.Author.Tests.{eqb-true, eqb-false, eq-eqb, ne-eqb, le-leb, leb-true, ltb-true, ltb-false, lt-ltb, le-ltb}
 use Rattle.bits.specs.Digits.{bit}
-use Rattle.bits.proofs.Bools.{either, and-parts, both, or-none}
+use Rattle.bits.proofs.Bools.{either, and-parts, both, or-none, none-or, table₄}
+use Rattle.bits.proofs.Lists.{all-append, all-implies}
 use Rattle.bits.proofs.Digits.{bit-or, bit-pow, bit-none, bits-equal, bit-above}
 use Rattle.circuit.specs.declared.gate.Gate.{Gate}
-use Rattle.circuit.specs.Gate.{maxLines, valid, Control, controlAt, controlsBelow, controlsOf}
+use Rattle.circuit.specs.Gate.{maxLines, valid, Control, Inside, controlAt, controlsBelow, controlsOf}
 use Rattle.circuit.specs.File.{among, risingFrom, maskOf, gateOf}
 use Rattle.circuit.proofs.lemmas.gate.Laws.{Valid, valid-facts, valid-apart, valid-by-lines, lines-valid}
-
--- ---- tests
-
-none-or : {a b : Bool} → a ≡ false → b ≡ false → (a || b) ≡ false
-none-or p q = ap₂ _||_ p q
 
 -- ---- the masks of a list of controls, line by line
 
@@ -71,11 +67,7 @@ among-masks t (c ∷ cs) =
     swap a b = either (eqb a b) (λ e. e ∙ sym (eq-eqb b a (sym (eqb-true a b e)))) (λ e. e ∙ sym (ne-eqb b a (λ q. eqb-false a b e (sym q))))
 
     merge : (p e x y : Bool) → (e || (x || y)) ≡ (((Bool·beq p true && e) || x) || ((Bool·beq p false && e) || y))
-    merge true true x y = refl
-    merge true false x y = refl
-    merge false true true y = refl
-    merge false true false y = refl
-    merge false false x y = refl
+    merge = table₄ _ _ refl
 
 pub among-push : (t : ℕ) (cs : List Control) (c : Control) → among t (cs ++ (c ∷ [])) ≡ (among t cs || eqb (c .line) t)
 unfolding among
@@ -112,27 +104,15 @@ next-push cs c = next-append 0 cs (c ∷ [])
 
 -- ---- below a limit
 
-unfoldable pub within : ℕ → List Control → Bool
-within n [] = true
-within n (c ∷ cs) = ltb (c .line) n && within n cs
-
-pub within-append : (n : ℕ) (xs ys : List Control) → within n xs ≡ true → within n ys ≡ true → within n (xs ++ ys) ≡ true
-unfolding within
-within-append n [] ys p q = q
-within-append n (c ∷ xs) ys p q = let (a, b) = and-parts (ltb (c .line) n) (within n xs) p in both a (within-append n xs ys b q)
-
 -- no line below the first one, and none at the limit or above, stands in a mask
 one-not : (s : Bool) (k l : ℕ) → (k ≡ l → ⊥) → (s && eqb k l) ≡ false
 one-not true k l h = ne-eqb k l h
 one-not false k l h = refl
 
-pub mask-within : (s : Bool) (n : ℕ) (cs : List Control) → within n cs ≡ true → (k : ℕ) → n ≤ k → bit (maskOf s cs) k ≡ false
-unfolding within
-mask-within s n [] w k h = mask-none s k
-mask-within s n (c ∷ cs) w k h =
-    let (a, b) = and-parts (ltb (c .line) n) (within n cs) w in
-    let l : c .line < n = ltb-true (c .line) n a in
-    mask-bit s c cs k ∙ none-or (one-not (Bool·beq (c .positive) s) k (c .line) (λ e. omega arith)) (mask-within s n cs b k h)
+pub mask-inside : (s : Bool) (n : ℕ) (cs : List Control) → Inside n cs → (k : ℕ) → n ≤ k → bit (maskOf s cs) k ≡ false
+mask-inside s n [] w k h = mask-none s k
+mask-inside s n (c ∷ cs) w k h =
+    mask-bit s c cs k ∙ none-or (one-not (Bool·beq (c .positive) s) k (c .line) (λ e. omega (arith, w .0))) (mask-inside s n cs (w .1) k h)
 
 pub mask-low : (s : Bool) (low : ℕ) (cs : List Control) → risingFrom low cs ≡ true → (k : ℕ) → k < low → bit (maskOf s cs) k ≡ false
 unfolding risingFrom
@@ -165,14 +145,14 @@ masks-apart low (c ∷ cs) w k e =
     here false e x y f g h = absurd (false≢true (sym f ∙ h))
 
 -- controls that rise, are lines of the cascade and leave the target out make a gate
-pub controls-valid : (n t : ℕ) (cs : List Control) → t < n → within n cs ≡ true → among t cs ≡ false → risingFrom 0 cs ≡ true → valid n (gateOf t cs) ≡ true
+pub controls-valid : (n t : ℕ) (cs : List Control) → t < n → Inside n cs → among t cs ≡ false → risingFrom 0 cs ≡ true → valid n (gateOf t cs) ≡ true
 controls-valid n t cs h w a r =
     let (p, q) = or-none (bit (maskOf true cs) t) (bit (maskOf false cs) t) (sym (among-masks t cs) ∙ a) in
     lines-valid n (gateOf t cs)
     (record {
       target-below = h;
-      positive-below = mask-within true n cs w;
-      negative-below = mask-within false n cs w;
+      positive-below = mask-inside true n cs w;
+      negative-below = mask-inside false n cs w;
       apart = masks-apart 0 cs r;
       target-not-positive = p;
       target-not-negative = q;
@@ -278,20 +258,20 @@ pub controls-rising : (g : Gate) → risingFrom 0 (controlsOf g) ≡ true
 controls-rising g = below-rising g maxLines .0
 
 -- they are lines of the cascade
-pub controls-within : (n : ℕ) (g : Gate) → valid n g ≡ true → (m : ℕ) → within n (controlsBelow m g) ≡ true
-unfolding controlsBelow within
-controls-within n g e zero = refl
-controls-within n g e (suc m) =
+pub controls-inside : (n : ℕ) (g : Gate) → valid n g ≡ true → (m : ℕ) → Inside n (controlsBelow m g)
+unfolding controlsBelow
+controls-inside n g e zero = tt
+controls-inside n g e (suc m) =
     let v = valid-by-lines n g e in
-    within-append n (controlsBelow m g) (controlAt g m) (controls-within n g e m)
+    all-append _ (controlsBelow m g) (controlAt g m) (controls-inside n g e m)
     (either (ltb m n)
-    (λ t. inside (bit (g .positive) m) (bit (g .negative) m) t)
-    (λ t. ap (within n) (ap₂ (onLine m) (v .positive-below m (ltb-false m n t)) (v .negative-below m (ltb-false m n t)))))
+    (λ t. inside (bit (g .positive) m) (bit (g .negative) m) (ltb-true m n t))
+    (λ t. subst (Inside n) (sym (ap₂ (onLine m) (v .positive-below m (ltb-false m n t)) (v .negative-below m (ltb-false m n t)))) tt))
   where
-    inside : (p q : Bool) → ltb m n ≡ true → within n (onLine m p q) ≡ true
-    inside true q t = both t refl
-    inside false true t = both t refl
-    inside false false t = refl
+    inside : (p q : Bool) → m < n → Inside n (onLine m p q)
+    inside true q t = (t, tt)
+    inside false true t = (t, tt)
+    inside false false t = tt
 
 -- ---- rising controls are those of their gate
 
@@ -343,18 +323,16 @@ has-tail g j c cs h e = record { on = λ k l. h .on k (omega arith) ∙ skip tru
     skip : (s : Bool) (k : ℕ) → suc j ≤ k → bit (maskOf s (c ∷ cs)) k ≡ bit (maskOf s cs) k
     skip s k l = mask-bit s c cs k ∙ ap (λ (x : Bool). x || bit (maskOf s cs) k) (one-not (Bool·beq (c .positive) s) k (c .line) (λ q. omega arith))
 
-stretch-is : (k j : ℕ) (g : Gate) (cs : List Control) → risingFrom j cs ≡ true → within (j + k) cs ≡ true → Has g j cs → stretch j k g ≡ cs
-unfolding stretch risingFrom within
+stretch-is : (k j : ℕ) (g : Gate) (cs : List Control) → risingFrom j cs ≡ true → Inside (j + k) cs → Has g j cs → stretch j k g ≡ cs
+unfolding stretch risingFrom
 stretch-is zero j g [] r w h = refl
 stretch-is zero j g (c ∷ cs) r w h =
     let (a, b) = and-parts (leb j (c .line)) (risingFrom (c .line + 1) cs) r in
-    let (x, y) = and-parts (ltb (c .line) (j + zero)) (within (j + zero) cs) w in
-    absurd (omega (arith, leb-true j (c .line) a, ltb-true (c .line) (j + zero) x))
+    absurd (omega (arith, leb-true j (c .line) a, w .0))
 stretch-is (suc k) j g [] r w h =
-    ap₂ _++_ (none-at g j [] h (mask-none true j) (mask-none false j)) (stretch-is k (suc j) g [] refl refl (has-later g j [] h))
+    ap₂ _++_ (none-at g j [] h (mask-none true j) (mask-none false j)) (stretch-is k (suc j) g [] refl tt (has-later g j [] h))
 stretch-is (suc k) j g (c ∷ cs) r w h =
     let (a, b) = and-parts (leb j (c .line)) (risingFrom (c .line + 1) cs) r in
-    let (x, y) = and-parts (ltb (c .line) (j + suc k)) (within (j + suc k) cs) w in
     let e : j + suc k ≡ suc j + k = omega arith in
     let l : j ≤ c .line = leb-true j (c .line) a in
     either (eqb (c .line) j)
@@ -362,25 +340,21 @@ stretch-is (suc k) j g (c ∷ cs) r w h =
     let f : c .line ≡ j = eqb-true (c .line) j t in
     let u : c .line + 1 ≡ suc j = omega arith in
     ap₂ _++_ (one-at g j c cs h f b)
-    (stretch-is k (suc j) g cs (ap (λ (m : ℕ). risingFrom m cs) (sym u) ∙ b) (ap (λ (m : ℕ). within m cs) (sym e) ∙ y) (has-tail g j c cs h f)))
+    (stretch-is k (suc j) g cs (ap (λ (m : ℕ). risingFrom m cs) (sym u) ∙ b) (subst (λ (m : ℕ). Inside m cs) e (w .1)) (has-tail g j c cs h f)))
     (λ t.
     let ne : c .line ≡ j → ⊥ = eqb-false (c .line) j t in
     let up : risingFrom (suc j) (c ∷ cs) ≡ true = both (le-leb (suc j) (c .line) (above j (c .line) l ne)) b in
     ap₂ _++_ (none-at g j (c ∷ cs) h (mask-low true (suc j) (c ∷ cs) up j (omega arith)) (mask-low false (suc j) (c ∷ cs) up j (omega arith)))
-    (stretch-is k (suc j) g (c ∷ cs) up (ap (λ (m : ℕ). within m (c ∷ cs)) (sym e) ∙ w) (has-later g j (c ∷ cs) h)))
+    (stretch-is k (suc j) g (c ∷ cs) up (subst (λ (m : ℕ). Inside m (c ∷ cs)) e w) (has-later g j (c ∷ cs) h)))
   where
     above : (j l : ℕ) → j ≤ l → (l ≡ j → ⊥) → suc j ≤ l
     above j l h ne = omega arith
 
-pub controls-gate : (t : ℕ) (cs : List Control) → risingFrom 0 cs ≡ true → within maxLines cs ≡ true → controlsOf (gateOf t cs) ≡ cs
+pub controls-gate : (t : ℕ) (cs : List Control) → risingFrom 0 cs ≡ true → Inside maxLines cs → controlsOf (gateOf t cs) ≡ cs
 unfolding controlsBelow
 controls-gate t cs r w =
     below-stretch (gateOf t cs) maxLines 0
     ∙ stretch-is maxLines 0 (gateOf t cs) cs r w (record { on = λ k l. refl; off = λ k l. refl })
 
-pub within-more : (m n : ℕ) (cs : List Control) → m ≤ n → within m cs ≡ true → within n cs ≡ true
-unfolding within
-within-more m n [] h w = refl
-within-more m n (c ∷ cs) h w =
-    let (x, y) = and-parts (ltb (c .line) m) (within m cs) w in
-    both (lt-ltb (c .line) n (omega (arith, ltb-true (c .line) m x))) (within-more m n cs h y)
+pub inside-more : (m n : ℕ) (cs : List Control) → m ≤ n → Inside m cs → Inside n cs
+inside-more m n cs h = all-implies _ _ (λ c l. omega arith) cs

@@ -7,9 +7,9 @@ use native.Mathlib.Omega.{arith}
 use lib.Dec.{eqb, leb, ltb}
 use lib.ListN.{length, drop, length-append}
 use borrow.Author.Tests.{le-leb, lt-leb, lt-ltb, le-ltb, ltb-true, ltb-false, leb-false, eqb-true}
-use Rattle.bits.proofs.Bools.{either, and-parts, both, not-held, refuted, cond-true, cond-false, and-second}
+use Rattle.bits.proofs.Bools.{either, and-parts, both, not-held, refuted, cond-true, cond-false, and-second, or-right}
 use Rattle.circuit.specs.declared.gate.Gate.{Gate}
-use Rattle.circuit.specs.Gate.{maxLines, maxGates, valid, Control}
+use Rattle.circuit.specs.Gate.{maxLines, maxGates, valid, Control, Inside}
 use Rattle.circuit.specs.Outcome.{Outcome, served, refused, demand, andThen}
 use Rattle.circuit.specs.Refusal.{wrongForm, badLineCount, lineOutside}
 use Rattle.circuit.specs.Words.{allValid, lineCountGood}
@@ -17,12 +17,11 @@ use Rattle.circuit.specs.Text.{tab, lineFeed, plusSign, minusSign, lines
 use Rattle.circuit.specs.File.{Line, noLine, firstLine, laterLines, linesOf, lineSize, fieldsOf, same, numberOf, lineOf, controlOf, controlsFrom, among, risingFrom, gateOf, closedGate, gateFields, gateOn, headerFields, headerOn, isEnd, Reading, readFrom}
 use Rattle.circuit.specs.FileLaws as laws
 use Rattle.circuit.specs.FileLaws.{NumberField, ControlField, HeaderOffence, ControlsOffence, Among, NotRising, GoodFields, LineOffence}
-use Rattle.circuit.specs.File.{Inside}
 use Rattle.circuit.proofs.lemmas.Outcome.{never, demand-met, demand-failed, then-served, then-refused}
 use Rattle.circuit.proofs.lemmas.words.Laws.{lines-good, good-lines}
 use Rattle.circuit.proofs.lemmas.file.Lines.{tabbed, whole, fields-back, same-true, same-self, true-same, Cut, cut-first}
 use Rattle.circuit.proofs.lemmas.file.Numbers.{number-text, text-number, number-wrong}
-use Rattle.circuit.proofs.lemmas.file.Controls.{within, within-more, controls-gate, controls-valid}
+use Rattle.circuit.proofs.lemmas.file.Controls.{inside-more, controls-gate, controls-valid}
 use Rattle.circuit.proofs.lemmas.file.Texts.{line-text, control-text, controls-text, controls-tabbed, headerText}
 
 -- ---- number fields
@@ -124,18 +123,18 @@ control-high n i f o (wrong x) c h m = absurd (x c h)
 -- ---- all control fields
 
 pub data ControlsFound (n i : ℕ) (cs : List Control) (fs : List (List ℕ)) : Outcome (List Control) → Type 0 where
-  good : (ds : List Control) → fs ≡ map controlText ds → within n ds ≡ true → ControlsFound n i cs fs (served (cs ++ ds))
+  good : (ds : List Control) → fs ≡ map controlText ds → Inside n ds → ControlsFound n i cs fs (served (cs ++ ds))
   bad : (number : ℕ) → ControlsOffence n fs number → ControlsFound n i cs fs (refused number i)
 
 pub controls-found : (n i : ℕ) (fs : List (List ℕ)) (cs : List Control) → ControlsFound n i cs fs (controlsFrom n i cs fs)
-unfolding controlsFrom within
-controls-found n i [] cs = subst (λ (l : List Control). ControlsFound n i cs [] (served l)) (append-nil cs) (good [] refl refl)
+unfolding controlsFrom
+controls-found n i [] cs = subst (λ (l : List Control). ControlsFound n i cs [] (served l)) (append-nil cs) (good [] refl tt)
 controls-found n i (f ∷ fs) cs = go (controlOf n i f) (control-found n i f) (λ c. controls-found n i fs (cs ++ (c ∷ [])))
   where
     step : (c : Control) → ControlField f c → c .line < n → (o : Outcome (List Control)) → ControlsFound n i (cs ++ (c ∷ [])) fs o → ControlsFound n i cs (f ∷ fs) o
     step c h l o (good ds e w) =
         subst (λ (x : List Control). ControlsFound n i cs (f ∷ fs) (served x)) (sym (append-assoc cs (c ∷ []) ds))
-        (good (c ∷ ds) (ap₂ (λ (x : List ℕ) (y : List (List ℕ)). x ∷ y) (h .text) e) (both (lt-ltb (c .line) n l) w))
+        (good (c ∷ ds) (ap₂ (λ (x : List ℕ) (y : List (List ℕ)). x ∷ y) (h .text) e) (l, w))
     step c h l o (bad number x) = bad number (laws.later f fs c h l number x)
 
     go : (o : Outcome Control) → ControlFound n i f o → ((c : Control) → ControlsFound n i (cs ++ (c ∷ [])) fs (controlsFrom n i (cs ++ (c ∷ [])) fs))
@@ -153,16 +152,6 @@ offence-controls n i fs number cs m (laws.later f gs c h l k x) =
 
 -- ---- the tests on a list of controls, as relations
 
-pub inside-within : (n : ℕ) (cs : List Control) → Inside n cs → within n cs ≡ true
-unfolding within
-inside-within n cs Inside.none = refl
-inside-within n cs (Inside.more c ds l x) = both (lt-ltb (c .line) n l) (inside-within n ds x)
-
-pub within-inside : (n : ℕ) (cs : List Control) → within n cs ≡ true → Inside n cs
-unfolding within
-within-inside n [] w = Inside.none
-within-inside n (c ∷ cs) w = let (a, b) = and-parts (ltb (c .line) n) (within n cs) w in Inside.more c cs (ltb-true (c .line) n a) (within-inside n cs b)
-
 pub among-true : (t : ℕ) (cs : List Control) → among t cs ≡ true → Among t cs
 unfolding among
 among-true t [] e = absurd (false≢true e)
@@ -175,10 +164,6 @@ pub true-among : (t : ℕ) (cs : List Control) → Among t cs → among t cs ≡
 unfolding among
 true-among t cs (Among.here c ds e) = ap (λ (b : Bool). b || among t ds) (borrow.Author.Tests.eq-eqb (c .line) t e)
 true-among t cs (Among.there c ds x) = or-right (eqb (c .line) t) (true-among t ds x)
-  where
-    or-right : (a : Bool) {b : Bool} → b ≡ true → (a || b) ≡ true
-    or-right true e = refl
-    or-right false e = e
 
 falls-after : (c : Control) (cs : List Control) → risingFrom (c .line + 1) cs ≡ false → NotRising (c ∷ cs)
 unfolding risingFrom
@@ -220,7 +205,7 @@ pub data GateFound (n i count : ℕ) (l : Line) : Outcome Gate → Type 0 where
   bad : (number : ℕ) → LineOffence n i count l number → GateFound n i count l (refused number i)
 
 -- the bytes of a gate line by its fields
-gate-bytes : (l : Line) (k : ℕ) (cs : List Control) → fieldsOf (l .bytes) ≡ gateWord ∷ numberText k ∷ map controlText cs → risingFrom 0 cs ≡ true → within maxLines cs ≡ true
+gate-bytes : (l : Line) (k : ℕ) (cs : List Control) → fieldsOf (l .bytes) ≡ gateWord ∷ numberText k ∷ map controlText cs → risingFrom 0 cs ≡ true → Inside maxLines cs
     → l .bytes ≡ gateText (gateOf k cs)
 unfolding tabbed
 gate-bytes l k cs e r w =
@@ -233,7 +218,6 @@ module _ (n i count : ℕ) (lines-high : n ≤ maxLines) (l : Line) where
   closed-found : (k : ℕ) (cs : List Control) → GoodFields n l k cs → count < maxGates → GateFound n i count l (closedGate i (l .ended) k cs)
   unfolding closedGate
   closed-found k cs h few =
-      let w : within n cs ≡ true = inside-within n cs (h .controls) in
       either (l .ended)
       (λ d.
       subst (GateFound n i count l) (sym (demand-met {A = Gate} _ _ _ _ d))
@@ -244,7 +228,7 @@ module _ (n i count : ℕ) (lines-high : n ≤ maxLines) (l : Line) where
       (either (risingFrom 0 cs)
       (λ r.
       subst (GateFound n i count l) (sym (demand-met {A = Gate} _ _ _ _ r))
-      (good (gateOf k cs) (controls-valid n k cs (h .target) w a r) (gate-bytes l k cs (h .fields) r (within-more n maxLines cs lines-high w)) d few))
+      (good (gateOf k cs) (controls-valid n k cs (h .target) (h .controls) a r) (gate-bytes l k cs (h .fields) r (inside-more n maxLines cs lines-high (h .controls))) d few))
       (λ r.
       subst (GateFound n i count l) (sym (demand-failed {A = Gate} _ _ _ _ r))
       (bad 5 (laws.not-rising k cs h few d (λ x. refuted a (true-among k cs x)) (not-rising cs r))))))))
@@ -260,7 +244,7 @@ module _ (n i count : ℕ) (lines-high : n ≤ maxLines) (l : Line) where
           (record {
             fields = e ∙ ap₂ (λ (x : List ℕ) (y : List (List ℕ)). gateWord ∷ x ∷ y) (h .text) f;
             target = b;
-            controls = within-inside n ds w;
+            controls = w;
           }) few
       then-controls k h b o (bad number x) = bad number (laws.controls t fs e few k h b number x)
 
@@ -301,7 +285,7 @@ module _ (n i count : ℕ) (lines-high : n ≤ maxLines) (l : Line) where
   gate-tested k cs h few =
       gate-start (numberText k) (map controlText cs) (h .fields) few
       ∙ then-served _ _ k (line-text n i k (h .target) (omega arith))
-      ∙ then-served _ _ cs (controls-text n i [] cs (inside-within n cs (h .controls)) (omega arith))
+      ∙ then-served _ _ cs (controls-text n i [] cs (h .controls) (omega arith))
 
   line-wrong : (t : List ℕ) (o : Outcome ℕ) → LineField n i t o → ((k : ℕ) → NumberField t k → ⊥) → o ≡ refused wrongForm i
   line-wrong t o (good k h b) x = absurd (x k h)

@@ -4,13 +4,13 @@ use mathlib.Core.Bool.{Bool, true, false, not, cond}
 use mathlib.Core.List.{List, [], _∷_, _++_, map, append-nil, append-assoc}
 use Prim.Native.Nat.{ℕ, _+_, _≤_, _<_}
 use native.Mathlib.Omega.{arith}
-use lib.Dec.{eqb, ltb}
+use lib.Dec.{eqb}
 use lib.ListN.{length, length-append}
-use borrow.Author.Tests.{lt-ltb, ltb-true}
+use borrow.Author.Tests.{lt-ltb}
 use Rattle.bits.proofs.Bools.{and-parts, both}
 use Rattle.bits.proofs.Lists.{free, free-append}
 use Rattle.circuit.specs.declared.gate.Gate.{Gate}
-use Rattle.circuit.specs.Gate.{maxLines, maxGates, valid, Control, controlsOf}
+use Rattle.circuit.specs.Gate.{maxLines, maxGates, valid, Control, Inside, controlsOf}
 use Rattle.circuit.specs.Outcome.{served, andThen}
 use Rattle.circuit.specs.Words.{allValid}
 use Rattle.circuit.specs.Text.{tab, lineFeed, plusSign, minusSign, linesWord, gateWord, endWord, numberText, controlText, controlsText, gateText, headerLine, gateLine, endLine, gateLines, textOf}
@@ -21,7 +21,7 @@ use Rattle.circuit.proofs.lemmas.gate.Laws.{valid-facts, valid-more}
 use Rattle.circuit.proofs.lemmas.words.Laws.{good-lines}
 use Rattle.circuit.proofs.lemmas.file.Lines.{lines-cut, tabbed, fields-cut, fields-one, allFree, fields-joined, same-self}
 use Rattle.circuit.proofs.lemmas.file.Numbers.{number-free, number-text}
-use Rattle.circuit.proofs.lemmas.file.Controls.{within, gate-controls, target-apart, controls-rising, controls-within}
+use Rattle.circuit.proofs.lemmas.file.Controls.{gate-controls, target-apart, controls-rising, controls-inside}
 
 -- ---- fields
 
@@ -36,13 +36,12 @@ control-text n i c h l = signed (c .positive) (c .line) h
     signed true k h = unfold controlOf in then-served _ _ k (line-text n i k h l)
     signed false k h = unfold controlOf in then-served _ _ k (line-text n i k h l)
 
-pub controls-text : (n i : ℕ) (cs ds : List Control) → within n ds ≡ true → n ≤ 100 → controlsFrom n i cs (map controlText ds) ≡ served (cs ++ ds)
-unfolding controlsFrom within
+pub controls-text : (n i : ℕ) (cs ds : List Control) → Inside n ds → n ≤ 100 → controlsFrom n i cs (map controlText ds) ≡ served (cs ++ ds)
+unfolding controlsFrom
 controls-text n i cs [] w l = ap served (sym (append-nil cs))
 controls-text n i cs (d ∷ ds) w l =
-    let (a, b) = and-parts (ltb (d .line) n) (within n ds) w in
-    then-served _ _ d (control-text n i d (ltb-true (d .line) n a) l)
-    ∙ controls-text n i (cs ++ (d ∷ [])) ds b l
+    then-served _ _ d (control-text n i d (w .0) l)
+    ∙ controls-text n i (cs ++ (d ∷ [])) ds (w .1) l
     ∙ ap served (append-assoc cs (d ∷ []) ds)
 
 -- the controls of a line are fields, each after a tab
@@ -59,13 +58,10 @@ control-free s c h l = both (sign (c .positive)) (number-free s (c .line) (omega
     sign true = ap not (borrow.Author.Tests.ne-eqb plusSign s (λ e. omega arith))
     sign false = ap not (borrow.Author.Tests.ne-eqb minusSign s (λ e. omega arith))
 
-pub controls-free : (s n : ℕ) (cs : List Control) → s < 43 → n ≤ 100 → within n cs ≡ true → allFree s (map controlText cs) ≡ true
-unfolding allFree within
+pub controls-free : (s n : ℕ) (cs : List Control) → s < 43 → n ≤ 100 → Inside n cs → allFree s (map controlText cs) ≡ true
+unfolding allFree
 controls-free s n [] h l w = refl
-controls-free s n (c ∷ cs) h l w =
-    let (a, b) = and-parts (ltb (c .line) n) (within n cs) w in
-    let d : c .line < n = ltb-true (c .line) n a in
-    both (control-free s c h (omega arith)) (controls-free s n cs h l b)
+controls-free s n (c ∷ cs) h l w = both (control-free s c h (omega (arith, w .0))) (controls-free s n cs h l (w .1))
 
 tabbed-free : (fs : List (List ℕ)) → allFree lineFeed fs ≡ true → free lineFeed (tabbed fs) ≡ true
 unfolding free tabbed allFree
@@ -76,7 +72,7 @@ tabbed-free (f ∷ fs) p = let (a, b) = and-parts (free lineFeed f) (allFree lin
 
 module _ (n : ℕ) (lines-high : n ≤ maxLines) where
   -- its fields
-  pub gate-fields : (t : ℕ) (cs : List Control) → t < n → within n cs ≡ true
+  pub gate-fields : (t : ℕ) (cs : List Control) → t < n → Inside n cs
       → fieldsOf (gateWord ++ (tab ∷ (numberText t ++ controlsText cs))) ≡ gateWord ∷ numberText t ∷ map controlText cs
   unfolding free
   gate-fields t cs h w =
@@ -86,7 +82,7 @@ module _ (n : ℕ) (lines-high : n ≤ maxLines) where
       ∙ fields-joined (numberText t) (map controlText cs) (number-free tab t (omega arith) (omega arith)) (controls-free tab n cs (omega arith) (omega arith) w))
 
   -- its bytes have no LF
-  pub gate-free : (t : ℕ) (cs : List Control) → t < n → within n cs ≡ true → free lineFeed (gateWord ++ (tab ∷ (numberText t ++ controlsText cs))) ≡ true
+  pub gate-free : (t : ℕ) (cs : List Control) → t < n → Inside n cs → free lineFeed (gateWord ++ (tab ∷ (numberText t ++ controlsText cs))) ≡ true
   unfolding free
   gate-free t cs h w =
       free-append lineFeed (numberText t) (controlsText cs) (number-free lineFeed t (omega arith) (omega arith))
@@ -95,7 +91,7 @@ module _ (n : ℕ) (lines-high : n ≤ maxLines) where
   pub gate-line : (g : Gate) (r : List ℕ) → valid n g ≡ true → linesOf (gateLine g ++ r) ≡ record { bytes = gateText g; ended = true } ∷ linesOf r
   gate-line g r v =
       ap linesOf (append-assoc (gateText g) (lineFeed ∷ []) r)
-      ∙ lines-cut (gateText g) r (gate-free (g .target) (controlsOf g) (valid-facts n g v .target-below) (controls-within n g v maxLines))
+      ∙ lines-cut (gateText g) r (gate-free (g .target) (controlsOf g) (valid-facts n g v .target-below) (controls-inside n g v maxLines))
 
   -- controls that rise and leave the target out
   closed-good : (i t : ℕ) (cs : List Control) → among t cs ≡ false → risingFrom 0 cs ≡ true → closedGate i true t cs ≡ served (gateOf t cs)
@@ -105,7 +101,7 @@ module _ (n : ℕ) (lines-high : n ≤ maxLines) where
   pub gate-read : (g : Gate) (i count : ℕ) → valid n g ≡ true → count < maxGates → gateOn n i count (record { bytes = gateText g; ended = true }) ≡ served g
   unfolding gateFields
   gate-read g i count v few =
-      let w = controls-within n g v maxLines in
+      let w = controls-inside n g v maxLines in
       let t = valid-facts n g v .target-below in
       let m = valid-more n maxLines g lines-high v in
       ap (gateFields n i count true) (gate-fields (g .target) (controlsOf g) t w)

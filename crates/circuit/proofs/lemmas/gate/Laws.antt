@@ -1,6 +1,6 @@
 -- The laws of a gate: what its two tests say as facts, firing by lines, the new state digit by digit, and that a gate is its own inverse. Assumes nothing.
 use mathlib.Core.Path.{_≡_, refl, sym, ap, ap₂, _∙_, subst}
-use mathlib.Core.Bool.{cond, Bool, true, false, _&&_, _||_, xor, false≢true}
+use mathlib.Core.Bool.{cond, Bool, true, false, _&&_, _||_, xor, false≢true, and-comm}
 use Prim.Native.Nat.{ℕ, _+_, _-_, _*_, _/_, _%_, _^_, _<_, _≤_}
 use native.Mathlib.Nat.{lt-of-lt-of-le, le-of-lt, mod-lt, div-eq-of-lt, zero-mul, one-mul}
 use native.Mathlib.Omega.{arith}
@@ -14,8 +14,8 @@ use Rattle.circuit.specs.declared.gate.Gate.{Gate}
 use Rattle.bits.specs.Digits.{bit, linesIn}
 use Rattle.circuit.specs.Gate.{maxLines, notGate, fires, valid, inverted, apply, toggled, controlCount}
 use Rattle.circuit.specs.Laws.{FiresByLines, ValidByLines}
-use Rattle.bits.proofs.Bools.{and-parts, both, not-held, either, same-test, cond-true, cond-false, and-apart}
-use Rattle.bits.proofs.Digits.{bit-and, bit-or, bit-xor, bit-pow, bit-none, bits-equal, bit-above, below-of-bits, lines-ones, ones-both}
+use Rattle.bits.proofs.Bools.{and-parts, both, not-held, either, same-test, cond-true, cond-false, and-apart, or-none, none-or, xor-none, xor-back}
+use Rattle.bits.proofs.Digits.{bit-and, bit-or, bit-xor, bit-pow, bit-none, bits-equal, bit-above, below-of-bits, line-clear, clear-line, lines-ones, ones-both}
 
 -- ---- `valid` as facts
 
@@ -84,16 +84,10 @@ lines-fires g s f =
 -- ---- the target stands in neither mask, so a gate fires on its output as on its input
 
 module _ (n : ℕ) (g : Gate) (v : Valid n g) where
-  clear : (a b e : Bool) → ((a || b) && e) ≡ false → e ≡ true → (a ≡ false) × (b ≡ false)
-  clear true b e h q = absurd (false≢true (sym h ∙ q))
-  clear false true e h q = absurd (false≢true (sym h ∙ q))
-  clear false false e h q = (refl, refl)
-
   pub target-clear : (bit (g .positive) (g .target) ≡ false) × (bit (g .negative) (g .target) ≡ false)
   target-clear =
-      let t = g .target in
-      clear (bit (g .positive) t) (bit (g .negative) t) (eqb t t)
-      (sym (bit-and _ _ t ∙ ap₂ _&&_ (bit-or _ _ t) (bit-pow t t)) ∙ ap (λ (x : ℕ). bit x t) (v .free) ∙ bit-none t) (eq-eqb t t refl)
+      or-none (bit (g .positive) (g .target)) (bit (g .negative) (g .target))
+      (sym (bit-or _ _ (g .target)) ∙ clear-line (bitOr (g .positive) (g .negative)) (g .target) (v .free))
 
   masked : (a e m : Bool) → (e ≡ true → m ≡ false) → (xor a e && m) ≡ (a && m)
   unfolding xor
@@ -114,13 +108,6 @@ module _ (n : ℕ) (g : Gate) (v : Valid n g) where
   unfolding fires
   fires-kept s =
       ap₂ (λ (x y : ℕ). eqb x (g .positive) && eqb y 0) (mask-kept s (g .positive) (target-clear .0)) (mask-kept s (g .negative) (target-clear .1))
-
-xor-back : (a e : Bool) → xor (xor a e) e ≡ a
-unfolding xor
-xor-back true true = refl
-xor-back true false = refl
-xor-back false true = refl
-xor-back false false = refl
 
 -- a mask has no bit at n or above exactly where it is below 2 ^ n
 pub above-none : (n m : ℕ) → m < 2 ^ maxLines → eqb (bitAnd m (2 ^ maxLines - 2 ^ n)) 0 ≡ ltb m (2 ^ n)
@@ -184,12 +171,9 @@ fires-missed s p q =
     xor-same a b z = omega (arith, xor-add-and a b, and-le-l a b, and-le-r a b)
 
 -- two masks that share no line
-shared-none : (a b : Bool) → (a && b) ≡ false → a ≡ true → b ≡ false
-shared-none true b e q = e
-shared-none false b e q = absurd (false≢true q)
-
 pub valid-apart : (n : ℕ) (g : Gate) → Valid n g → (k : ℕ) → bit (g .positive) k ≡ true → bit (g .negative) k ≡ false
-valid-apart n g v k = shared-none _ _ (sym (bit-and (g .positive) (g .negative) k) ∙ ap (λ (x : ℕ). bit x k) (v .apart) ∙ bit-none k)
+valid-apart n g v k e =
+    sym (ap (λ (t : Bool). t && bit (g .negative) k) e) ∙ sym (bit-and (g .positive) (g .negative) k) ∙ ap (λ (x : ℕ). bit x k) (v .apart) ∙ bit-none k
 
 -- the same of a gate, by one mask: on each line
 line-unmet : (b p q : Bool) → (p ≡ true → b ≡ true) → (q ≡ true → b ≡ false) → (xor b p && (p || q)) ≡ false
@@ -284,11 +268,6 @@ apply-below n g s v h =
     (λ e. rw (inverted-idle g s e) h)))
     (λ w. rw (apply-none g s w) h)
 
-xor-none : (a : Bool) → a ≡ xor a false
-unfolding xor
-xor-none true = refl
-xor-none false = refl
-
 -- the new state line by line: the target is inverted where the gate fires, and nothing else changes
 pub apply-bit : (g : Gate) (s k : ℕ) → valid maxLines g ≡ true → bit (apply g s) k ≡ xor (bit s k) (fires g s && eqb k (g .target))
 apply-bit g s k v =
@@ -300,7 +279,7 @@ apply-bit g s k v =
     ∙ ap (xor (bit s k)) (bit-pow _ k ∙ sym (ap (λ (b : Bool). b && eqb k (g .target)) e)))
     (λ e.
     ap (λ (x : ℕ). bit x k) (inverted-idle g s e)
-    ∙ xor-none (bit s k)
+    ∙ sym (xor-none (bit s k))
     ∙ ap (xor (bit s k)) (sym (ap (λ (b : Bool). b && eqb k (g .target)) e)))
 
 -- ---- validity by lines
@@ -317,19 +296,6 @@ valid-more m n g h e =
       apart = v .apart;
       free = v .free;
     })
-
--- a line that stands in no mask
-none-shared : (a b : Bool) → (a ≡ true → b ≡ false) → (a && b) ≡ false
-none-shared true b h = h refl
-none-shared false b h = refl
-
-neither : (a b e : Bool) → (e ≡ true → a ≡ false) → (e ≡ true → b ≡ false) → ((a || b) && e) ≡ false
-neither true b true p q = p refl
-neither false true true p q = q refl
-neither false false true p q = refl
-neither true b false p q = refl
-neither false true false p q = refl
-neither false false false p q = refl
 
 pub valid-by-lines : (n : ℕ) (g : Gate) → valid n g ≡ true → ValidByLines n g
 valid-by-lines n g e =
@@ -350,15 +316,8 @@ lines-valid n g v =
       target-below = v .target-below;
       positive-below = below-of-bits n (g .positive) (v .positive-below);
       negative-below = below-of-bits n (g .negative) (v .negative-below);
-      apart = bits-equal _ _ (λ k. bit-and _ _ k ∙ none-shared _ _ (v .apart k) ∙ sym (bit-none k));
-      free =
-          bits-equal _ _ (λ k.
-          bit-and _ _ k
-          ∙ ap₂ _&&_ (bit-or _ _ k) (bit-pow (g .target) k)
-          ∙ neither (bit (g .positive) k) (bit (g .negative) k) (eqb k (g .target))
-          (λ e. ap (bit (g .positive)) (eqb-true _ _ e) ∙ v .target-not-positive)
-          (λ e. ap (bit (g .negative)) (eqb-true _ _ e) ∙ v .target-not-negative)
-          ∙ sym (bit-none k));
+      apart = bits-equal _ _ (λ k. bit-and _ _ k ∙ and-comm (bit (g .positive) k) (bit (g .negative) k) ∙ and-apart _ _ (v .apart k) ∙ sym (bit-none k));
+      free = line-clear (bitOr (g .positive) (g .negative)) (g .target) (bit-or _ _ (g .target) ∙ none-or (v .target-not-positive) (v .target-not-negative));
     })
 
 -- the gate without controls

@@ -4,7 +4,7 @@ use native.Mathlib.Omega.{arith}
 use lib.ListN.{length}
 use lib.Seq.{length-take-le}
 use Rattle.circuit.specs.Words.{ofCount}
-use Rattle.checking.specs.Sizes.{ofSizes}
+use Rattle.checking.specs.Emit.{ofEmit}
 use Rattle.text.specs.declared.list.ListAnswer.the-variants as list
 use Rattle.text.proofs.list.Laws.{Mitered, says-as, mitered, pair-bad, list-bad, list-good}
 use borrow.Author.Needs.{needs}
@@ -64,7 +64,7 @@ returns-2 c =
     let g = made (c .before .before .before .before .before .before .before .before) in
     let e = c .before .before .before .before .emit in
     says-as (list.Refused (c .before .why2 .given .0 .0) 0) (e .last .1 .1 .0) _ _ (g .verdict-is)
-    (list-bad _ _ _ (g .cascade) (length (s .args .clauses .now)) (s .pre .1 .1) (c .before .why2 .given .0 .0) _ (sym (e .ensures .answer) ∙ ap ofSizes (c .before .why2 .given .1)))
+    (list-bad _ _ _ (g .cascade) (length (s .args .clauses .now)) (s .pre .1 .1) (c .before .why2 .given .0 .0) _ (sym (e .ensures .answer) ∙ ap ofEmit (c .before .why2 .given .1)))
 
 same-length-2 : tie.Need-same-length-2
 same-length-2 c = search needs
@@ -75,7 +75,7 @@ returns-3 c =
     let g = made (c .before .before .before .before .before .before .before .before) in
     let e = c .before .before .before .before .emit in
     says-as (list.Listed (c .before .totals .given .0 .0)) (e .last .1 .1 .0) _ _ (g .verdict-is)
-    (list-good _ _ _ (g .cascade) (length (s .args .clauses .now)) (s .pre .1 .1) (c .before .totals .given .0 .0) _ (s .args .clauses .now) refl (sym (e .ensures .answer) ∙ ap ofSizes (c .before .totals .given .1)) (e .ensures .buffer))
+    (list-good _ _ _ (g .cascade) (length (s .args .clauses .now)) (s .pre .1 .1) (c .before .totals .given .0 .0) _ (s .args .clauses .now) refl (sym (e .ensures .answer) ∙ ap ofEmit (c .before .totals .given .1)) (e .ensures .buffer))
 
 pub list-pair-spec : {M : Type 1} → statement M
 list-pair-spec =

@@ -11,22 +11,20 @@ use lib.Seq.{drop-drop, getD-drop, drop-append-seam}
 use borrow.Author.Tests.{ltb-true, ltb-false}
 use borrow.Rule.Slice.PartMut.{putMid}
 use Rattle.bits.specs.Lists.{over}
-use Rattle.bits.proofs.Bools.{either, and-parts}
+use Rattle.bits.proofs.Bools.{either, and-parts, table₁}
 use Rattle.bits.proofs.Lists.{lent-over}
 use Rattle.circuit.specs.declared.gate.Gate.{Gate}
-use Rattle.circuit.specs.Gate.{maxLines, valid, Control, controlsOf}
+use Rattle.circuit.specs.Gate.{maxLines, valid, Control, Inside, controlsOf}
 use Rattle.circuit.specs.Words.{gateWords, wordsOf, putGate, allValid}
 use Rattle.circuit.specs.declared.file.scan.Numeral.{Numeral}
 use Rattle.circuit.specs.declared.file.fill.GateRead.{GateRead}
 use Rattle.circuit.specs.Text.{tab, lineFeed, plusSign, minusSign, digit, numberText, controlText, controlsText, gateLine, gateLines}
 use Rattle.circuit.specs.File.{maskOf, gateOf}
-use Rattle.circuit.specs.File.{Inside}
 use Rattle.circuit.specs.private.Fill.{StandsAt, NumberAt, ControlsAt, GateAt, GatesAt}
 use Rattle.circuit.proofs.lemmas.gate.Laws.{valid-facts}
 use Rattle.circuit.proofs.lemmas.words.Laws.{words-append, words-length, put-fits}
 use Rattle.circuit.proofs.lemmas.file.Numbers.{text-short, text-long}
-use Rattle.circuit.proofs.lemmas.file.Controls.{mask-push, gate-controls, controls-within}
-use Rattle.circuit.proofs.lemmas.file.Offences.{within-inside}
+use Rattle.circuit.proofs.lemmas.file.Controls.{mask-push, gate-controls, controls-inside}
 use Rattle.circuit.proofs.lemmas.file.put.Laws.{rest-length}
 
 -- ---- bytes
@@ -153,17 +151,15 @@ pub record Control₁ (text : List ℕ) (at : ℕ) (c : Control) (cs : List Cont
 
 pub first-control : (text : List ℕ) (at : ℕ) (c : Control) (cs : List Control) → ControlsAt text at (c ∷ cs) → Control₁ text at c cs
 unfolding controlsText
-first-control text at c cs s = go (s .lines)
-  where
-    go : Inside maxLines (c ∷ cs) → Control₁ text at c cs
-    go (Inside.more d ds h i) =
-        let (a, x) = byte-there text at tab _ (s .stands) in
-        let (b, y) = byte-there text (at + 1) (cond (c .positive) plusSign minusSign) _ (later text at (tab ∷ []) _ (s .stands)) in
-        let p =
-        parted text (at + 2) (c .line) cs (omega arith) i
-        (restated text (at + 2) _ _ (append-assoc (numberText (c .line)) (controlsText cs) (lineFeed ∷ []))
-        (later text at (tab ∷ cond (c .positive) plusSign minusSign ∷ []) _ (s .stands))) in
-        record { tabbed = a; signed = b; inside = y; below = h; line = p .number; more = p .controls }
+first-control text at c cs s =
+    let (h, i) = s .lines in
+    let (a, x) = byte-there text at tab _ (s .stands) in
+    let (b, y) = byte-there text (at + 1) (cond (c .positive) plusSign minusSign) _ (later text at (tab ∷ []) _ (s .stands)) in
+    let p =
+    parted text (at + 2) (c .line) cs (omega (arith, h)) i
+    (restated text (at + 2) _ _ (append-assoc (numberText (c .line)) (controlsText cs) (lineFeed ∷ []))
+    (later text at (tab ∷ cond (c .positive) plusSign minusSign ∷ []) _ (s .stands))) in
+    record { tabbed = a; signed = b; inside = y; below = h; line = p .number; more = p .controls }
 
 -- whether it is positive
 pub sign-told : (b : ℕ) (p : Bool) → b ≡ cond p plusSign minusSign → eqb b plusSign ≡ p
@@ -236,12 +232,10 @@ module _ (text : List ℕ) (first : ℕ) (cs : List Control) (at positive negati
           }
         where
           is : (p : Bool) → Bool·beq p true ≡ p
-          is true = refl
-          is false = refl
+          is = table₁ _ _ refl
 
           isnt : (p : Bool) → Bool·beq p false ≡ not p
-          isnt true = refl
-          isnt false = refl
+          isnt = table₁ _ _ refl
 
           text-more : (c : Control) (ds : List Control) → length (controlsText (c ∷ ds)) ≡ 2 + length (numberText (c .line)) + length (controlsText ds)
           text-more c ds = unfold controlsText in omega (arith, length-append (numberText (c .line)) (controlsText ds))
@@ -263,7 +257,7 @@ module _ (text : List ℕ) (first : ℕ) (cs : List Control) (at positive negati
 pub gate-parts : (text : List ℕ) (at : ℕ) (g : Gate) → GateAt text at g → Parted text (at + 2) (g .target) (controlsOf g)
 gate-parts text at g s =
     let v = valid-facts maxLines g (s .good) in
-    parted text (at + 2) (g .target) (controlsOf g) (omega (arith, v .target-below)) (within-inside maxLines (controlsOf g) (controls-within maxLines g (s .good) maxLines))
+    parted text (at + 2) (g .target) (controlsOf g) (omega (arith, v .target-below)) (controls-inside maxLines g (s .good) maxLines)
     (restated text (at + 2) _ _ (append-assoc (numberText (g .target)) (controlsText (controlsOf g)) (lineFeed ∷ []))
     (later text at (103 ∷ tab ∷ []) _ (s .stands)))
 

@@ -8,7 +8,7 @@ use lib.Dec.{eqb, leb, ltb}
 use lib.ListN.{length, drop, getD, drop-of-length-le}
 use lib.Seq.{getD-drop, drop-cons}
 use borrow.Author.Tests.{eqb-true, eq-eqb, ne-eqb, le-leb, lt-leb, leb-true, le-ltb, lt-ltb, ltb-true, ltb-false}
-use Rattle.bits.proofs.Bools.{either, and-parts, both, cond-true, cond-false, and-second}
+use Rattle.bits.proofs.Bools.{either, and-parts, both, cond-true, cond-false, and-second, table₂}
 use Rattle.circuit.specs.Outcome.{Outcome, served, refused, demand, andThen}
 use Rattle.circuit.specs.Refusal.{wrongForm, lineOutside}
 use Rattle.circuit.specs.Text.{tab, lineFeed, plusSign, minusSign}
@@ -118,13 +118,10 @@ two-wrong a b [] e = ap orHundred (demand-failed _ _ _ _ e)
 two-wrong a b (d ∷ f) e = refl
 
 and-last : (a b : Bool) → (a && (b && false)) ≡ false
-and-last true true = refl
-and-last true false = refl
-and-last false b = refl
+and-last = table₂ _ _ refl
 
 and-middle : (a c : Bool) → (a && (false && c)) ≡ false
-and-middle true c = refl
-and-middle false c = refl
+and-middle = table₂ _ _ refl
 
 pub number-zero : (r : List ℕ) → isDigit (getD r 0 10) ≡ true → isStop (getD r 1 10) ≡ false → getD r 0 10 ≡ 48 → 100 ≡ numberAt r
 number-zero [] e s z = absurd (false≢true e)

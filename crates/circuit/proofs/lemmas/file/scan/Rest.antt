@@ -1,6 +1,6 @@
 -- The laws of the line from a position on: its next field, its end, and the gate or the header that it gives. Assumes nothing.
 use mathlib.Core.Path.{_≡_, refl, sym, ap, ap₂, _∙_, subst}
-use mathlib.Core.Bool.{Bool, true, false, not, _&&_, _||_}
+use mathlib.Core.Bool.{Bool, true, false, not, _||_}
 use mathlib.Core.List.{List, [], _∷_, _++_, cons≢nil, append-assoc}
 use Prim.Native.Nat.{ℕ, suc, _+_, _-_, _≤_, _<_}
 use native.Mathlib.Omega.{arith}
@@ -8,7 +8,7 @@ use lib.Dec.{eqb, ltb}
 use lib.ListN.{length, drop, getD, length-drop}
 use lib.Seq.{drop-drop, drop-append-seam, append-snoc}
 use borrow.Author.Tests.{eqb-true, eq-eqb, ne-eqb, lt-ltb, le-ltb, ltb-true, ltb-false}
-use Rattle.bits.proofs.Bools.{either, and-parts, not-held, refuted, same-test, or-none}
+use Rattle.bits.proofs.Bools.{either, and-parts, not-held, refuted, same-test, or-none, not-or}
 use Rattle.circuit.specs.declared.gate.Gate.{Gate}
 use Rattle.circuit.specs.declared.file.scan.Seen.{Seen}
 use Rattle.circuit.specs.Gate.{maxGates, Control}
@@ -167,12 +167,8 @@ seen-push t cs c =
     λ i. record {
       low = next-push cs c i;
       rising = rising-push cs c i;
-      apart = (ap not (among-push t cs c) ∙ both-not (among t cs) (eqb (c .line) t)) i;
+      apart = (ap not (among-push t cs c) ∙ not-or (among t cs) (eqb (c .line) t)) i;
     }
-  where
-    both-not : (a b : Bool) → not (a || b) ≡ (not a && not b)
-    both-not true b = refl
-    both-not false b = refl
 
 -- what a gate line's loop keeps: the controls up to `at`, and that what is left of the line from there decides
 pub record Going (n i t : ℕ) (text : List ℕ) (first at : ℕ) (seen : Seen) : Type 0 where
