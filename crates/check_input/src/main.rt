@@ -5,7 +5,7 @@ use streams::Reading;
 use text::TextAnswer;
 ghost use Prim.Native.Nat.{_≤_};
 ghost use lib.ListN.{length};
-ghost use Rattle.circuit.specs.private.Put.{Put};
+ghost use Rattle.bits.specs.Lists.{Put};
 ghost use Rattle.text.specs.Compare.{fileWords};
 ghost use Rattle.text.specs.CheckInput.{maxChecked, checkText};
 

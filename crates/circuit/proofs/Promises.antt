@@ -20,4 +20,4 @@ pub use Rattle.circuit.proofs.lemmas.file.RoundTrip.{round-trip, idle-r
 pub use Rattle.circuit.proofs.lemmas.file.Controls.{controls-inside}
 pub use Rattle.circuit.proofs.lemmas.file.Lines.{longer-some, same-true, same-self, true-same}
 pub use Rattle.circuit.proofs.lemmas.file.Numbers.{is-digit, digit-bounds}
-pub use Rattle.circuit.proofs.lemmas.file.put.Laws.{Written, written-none, written-first, written-more, written-put, put-as, rest-length}
+pub use Rattle.circuit.proofs.lemmas.file.put.Laws.{Written, copied, written-none, written-first, written-more, written-put, put-as, rest-length}

@@ -10,11 +10,12 @@ ghost use mathlib.Core.Bool.{true};
 ghost use mathlib.Core.List.{_++_};
 ghost use Prim.Native.Nat.{_/_, _<_, _≤_};
 ghost use lib.ListN.{length};
+ghost use Rattle.bits.specs.Lists.{Put};
 ghost use Rattle.circuit.specs.Gate.{maxLines, maxGates};
 ghost use Rattle.circuit.specs.Outcome.{Yields};
 ghost use Rattle.circuit.specs.Words.{gatesOf, allValid};
 ghost use Rattle.circuit.specs.Text.{gateLines, endLine, textOf};
-ghost use Rattle.circuit.specs.private.Put.{Put, TwoDigits};
+ghost use Rattle.circuit.specs.private.Put.{TwoDigits};
 ghost use Rattle.circuit.specs.private.Scan.{countsFrom};
 ghost use Rattle.circuit.specs.File.{readOutcome, readBuffer, ofRead, writeOutcome, writeBuffer, ofWrite};
 

@@ -5,7 +5,7 @@ ghost use mathlib.Core.Path.{_≡_};
 ghost use mathlib.Core.List.{[], _∷_, _++_};
 ghost use Prim.Native.Nat.{_+_, _≤_};
 ghost use lib.ListN.{length};
-ghost use Rattle.circuit.specs.private.Put.{Put};
+ghost use Rattle.bits.specs.Lists.{Put};
 ghost use Rattle.checking.specs.Satisfaction.{variableOf};
 ghost use Rattle.text.specs.Dimacs.{blank, literalText, literalsText, closing, headerText};
 ghost use Rattle.text.specs.private.Words.{signText, kindText, recordText, wordsText, Stores};

@@ -6,7 +6,7 @@ ghost use mathlib.Core.List.{[], _∷_, _++_};
 ghost use Prim.Native.Nat.{_+_, _≤_, _<_};
 ghost use lib.IntN.{negℤ};
 ghost use lib.ListN.{length};
-ghost use Rattle.circuit.specs.private.Put.{Put};
+ghost use Rattle.bits.specs.Lists.{Put};
 ghost use Rattle.checking.specs.Clauses.{OR, XOR, maxVariables};
 ghost use Rattle.checking.specs.Satisfaction.{variableOf, LiteralsWithin};
 ghost use Rattle.checking.specs.Stored.{wordLimit};

@@ -3,7 +3,7 @@
 use crate::list::ListAnswer;
 ghost use Prim.Native.Nat.{_≤_};
 ghost use lib.ListN.{length};
-ghost use Rattle.circuit.specs.private.Put.{Put};
+ghost use Rattle.bits.specs.Lists.{Put};
 ghost use Rattle.text.specs.Tomiter.{maxText, tomiterText};
 
 // The words of the clause buffer.

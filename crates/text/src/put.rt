@@ -4,7 +4,7 @@ ghost use mathlib.Core.Path.{_≡_};
 ghost use mathlib.Core.List.{[], _∷_, _++_};
 ghost use Prim.Native.Nat.{_+_, _/_, _%_, _≤_, _<_};
 ghost use lib.ListN.{length};
-ghost use Rattle.circuit.specs.private.Put.{Put};
+ghost use Rattle.bits.specs.Lists.{Put};
 ghost use Rattle.circuit.specs.Text.{lineFeed, digit};
 ghost use Rattle.text.specs.Dimacs.{decimal};
 ghost use Rattle.text.specs.Tomiter.{numbersText};
@@ -14,12 +14,7 @@ pub(crate) fn put_word(out: &mut [u8], word: &[u8]) -> usize
     requires { ⌜ length (now word) ≤ length (now out) ⌝ }
     ensures { λ r. ⌜ Put r (now (out .exit)) (now (word .entry)) (now (out .entry)) ⌝ }
 {
-    let mut i = 0;
-    while i < word.len() {
-        out[i] = word[i];
-        i += 1;
-    }
-    i
+    bytes::copy(word, out)
 }
 
 // The digit of a number below 10.

@@ -6,7 +6,7 @@ use streams::Reading;
 use text::TextAnswer;
 ghost use Prim.Native.Nat.{_≤_};
 ghost use lib.ListN.{length};
-ghost use Rattle.circuit.specs.private.Put.{Put};
+ghost use Rattle.bits.specs.Lists.{Put};
 ghost use Rattle.text.specs.Tomiter.{maxText, tomiterText};
 
 // One byte more than an input may have.

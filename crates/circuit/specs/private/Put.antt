@@ -3,14 +3,8 @@ use mathlib.Core.Path.{_≡_}
 use mathlib.Core.List.{List}
 use Prim.Native.Nat.{ℕ, _+_, _*_, _/_, _%_, _<_, _≤_}
 use lib.ListN.{length, getD}
-use Rattle.bits.specs.Lists.{over}
 use Rattle.circuit.specs.declared.gate.Gate.{Gate}
 use Rattle.circuit.specs.Text.{digit}
-
--- these bytes stand at the start of the buffer, and their number was told
-pub record Put (told : ℕ) (last bytes first : List ℕ) : Type 0 where
-  pub count : told ≡ length bytes
-  pub buffer : last ≡ over bytes first
 
 -- the texts 00 to 99, one after the other
 pub record TwoDigits (table : List ℕ) : Type 0 where

@@ -6,9 +6,10 @@ ghost use mathlib.Core.Bool.{cond};
 ghost use mathlib.Core.List.{_∷_, _++_};
 ghost use Prim.Native.Nat.{_+_, _/_, _%_, _<_, _≤_};
 ghost use lib.ListN.{length};
+ghost use Rattle.bits.specs.Lists.{Put};
 ghost use Rattle.circuit.specs.Gate.{controlsOf};
 ghost use Rattle.circuit.specs.Text.{tab, digit, numberText, controlText, controlsText, headerLine, gateText, gateLine, endLine, plusSign, minusSign};
-ghost use Rattle.circuit.specs.private.Put.{Put, TwoDigits, maskGate};
+ghost use Rattle.circuit.specs.private.Put.{TwoDigits, maskGate};
 
 // The texts 00 to 99.
 pub(crate) const DIGITS: [u8; 200] = *b"0001020304050607080910111213141516171819\
@@ -38,12 +39,7 @@ fn put_word(out: &mut [u8], word: &[u8]) -> usize
     requires { ⌜ length (now word) ≤ length (now out) ⌝ }
     ensures { λ r. ⌜ Put r (now (out .exit)) (now (word .entry)) (now (out .entry)) ⌝ }
 {
-    let mut i = 0;
-    while i < word.len() {
-        out[i] = word[i];
-        i += 1;
-    }
-    i
+    bytes::copy(word, out)
 }
 
 // Writes a number below 100.

@@ -3,9 +3,9 @@ use mathlib.Core.Path.{_≡_, sym, ap, _∙_}
 use mathlib.Core.List.{List}
 use Prim.Native.Nat.{ℕ, _≤_}
 use lib.ListN.{length}
+use Rattle.bits.specs.Lists.{Put}
 use Rattle.circuit.specs.Outcome.{Outcome, served, written}
 use Rattle.circuit.proofs.Promises.{never}
-use Rattle.circuit.specs.private.Put.{Put}
 use Rattle.text.specs.Compare.{maxList, maxCompared, fileWords, miterWords, compareText, Rooms, rooms, compareOutcome, compareBuffer}
 use Rattle.text.specs.Answers.{ofText}
 use Rattle.text.proofs.Longest.{room-enough}

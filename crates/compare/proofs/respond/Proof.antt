@@ -5,8 +5,8 @@ use Prim.Native.Nat.{ℕ, _≤_}
 use native.Mathlib.Omega.{arith}
 use lib.ListN.{length, drop, length-append}
 use lib.Seq.{length-take-le}
-use Rattle.circuit.specs.private.Put.{Put}
 use borrow.Author.Needs.{needs}
+use Rattle.bits.specs.Lists.{Put}
 use Rattle.compare.proofs.respond.Statement.{statement}
 use Rattle.compare.proofs.respond.Tie as tie
 

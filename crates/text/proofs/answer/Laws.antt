@@ -6,10 +6,10 @@ use native.Mathlib.Omega.{arith}
 use lib.IntN.{ℤ}
 use lib.ListN.{length, length-append}
 use borrow.Author.Tests.{le-leb, lt-leb}
+use Rattle.bits.specs.Lists.{Put}
 use Rattle.circuit.specs.declared.refusal.Refusal.{Refusal}
 use Rattle.circuit.specs.Outcome.{Outcome, served, refused, Yields}
 use Rattle.circuit.specs.Refusal.{refusal, noRoom}
-use Rattle.circuit.specs.private.Put.{Put}
 use Rattle.circuit.specs.Text.{tab, lineFeed}
 use Rattle.circuit.proofs.Promises.{demand-met, demand-failed, told, why}
 use Rattle.text.specs.Dimacs.{blank, decimal, headerText}

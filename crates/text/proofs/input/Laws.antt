@@ -12,7 +12,7 @@ use lib.ListN.{length, take, drop, set, getD, length-set, length-append}
 use lib.Pow.{pow-mono}
 use lib.Seq.{drop-cons, take-all}
 use borrow.Author.Tests.{le-leb, lt-leb, eq-eqb, ne-eqb}
-use Rattle.bits.specs.Lists.{over}
+use Rattle.bits.specs.Lists.{over, Put}
 use Rattle.bits.proofs.Bools.{both, and-second, cond-true, cond-false}
 use Rattle.bits.proofs.Lists.{over-prefix}
 use Rattle.circuit.specs.declared.refusal.Refusal.{Refusal}
@@ -20,7 +20,6 @@ use Rattle.circuit.specs.Outcome.{Outcome, refused, written, Yields}
 use Rattle.circuit.specs.Refusal.{refusal, noRoom}
 use Rattle.circuit.proofs.Promises.{demand-met, demand-failed, told, why}
 use Rattle.circuit.specs.Words.{gatesOf}
-use Rattle.circuit.specs.private.Put.{Put}
 use Rattle.circuit.specs.Text.{tab, lineFeed, digit}
 use Rattle.text.specs.Dimacs.{thenRead}
 use Rattle.text.specs.declared.pair.FilesAnswer.the-variants as files

@@ -11,7 +11,7 @@ use borrow.Author.Tests.{ltb-true}
 use mir.Val.{SFits, toZ, ofZ}
 use mir.ValLaws.{toZ-ofZ}
 use borrow.Rule.Slice.PartMut.{putMid}
-use Rattle.circuit.specs.private.Put.{Put}
+use Rattle.bits.specs.Lists.{Put}
 use Rattle.circuit.proofs.Promises.{Written, written-none, written-more, written-put, put-as}
 use Rattle.checking.specs.Clauses.{Clause, OR, XOR, maxVariables}
 use Rattle.checking.specs.Satisfaction.{variableOf, LiteralsWithin, clauseLiterals, ClausesWithin}

@@ -6,11 +6,11 @@ use lib.IntN.{ℤ}
 use lib.ListN.{length, take, drop}
 use lib.Seq.{take-at}
 use borrow.Author.Tests.{le-leb, lt-leb}
+use Rattle.bits.specs.Lists.{Put}
 use Rattle.circuit.specs.declared.refusal.Refusal.{Refusal}
 use Rattle.circuit.specs.Outcome.{Outcome, served, refused, written}
 use Rattle.circuit.specs.Refusal.{noRoom}
 use Rattle.circuit.proofs.Promises.{demand-met, demand-failed, told}
-use Rattle.circuit.specs.private.Put.{Put}
 use Rattle.checking.specs.declared.clauses.Totals.{Totals}
 use Rattle.text.specs.declared.list.ListAnswer.the-variants as list
 use Rattle.text.specs.Dimacs.{headerText, dimacsOf}

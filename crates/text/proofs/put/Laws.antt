@@ -5,7 +5,7 @@ use Prim.Native.Nat.{ℕ, _+_, _-_, _≤_}
 use native.Mathlib.Omega.{arith}
 use lib.ListN.{length, take, drop}
 use borrow.Rule.Slice.PartMut.{putMid}
-use Rattle.circuit.specs.private.Put.{Put}
+use Rattle.bits.specs.Lists.{Put}
 use Rattle.circuit.proofs.Promises.{Written, written-first, written-more, written-put}
 
 -- nothing was written

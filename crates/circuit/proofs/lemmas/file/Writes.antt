@@ -7,6 +7,7 @@ use native.Mathlib.Omega.{arith}
 use lib.ListN.{length, take, drop, length-append}
 use borrow.Author.Tests.{le-leb, lt-leb}
 use borrow.Rule.Slice.PartMut.{putMid}
+use Rattle.bits.specs.Lists.{Put}
 use Rattle.bits.proofs.Bools.{and-parts}
 use Rattle.circuit.specs.declared.gate.Gate.{Gate}
 use Rattle.circuit.specs.Gate.{maxLines, maxGates, valid}
@@ -15,7 +16,6 @@ use Rattle.circuit.specs.Refusal.{noRoom}
 use Rattle.circuit.specs.Words.{gatesOf, gateAt, allValid, checkOutcome}
 use Rattle.circuit.specs.Text.{headerLine, gateLine, gateLines, endLine, textOf}
 use Rattle.circuit.specs.File.{writeOutcome, writeBuffer}
-use Rattle.circuit.specs.private.Put.{Put}
 use Rattle.circuit.specs.private.Scan.{width}
 use Rattle.circuit.proofs.lemmas.Outcome.{demand-met, demand-failed, then-served, then-refused, told}
 use Rattle.circuit.proofs.lemmas.gate.Laws.{valid-facts}

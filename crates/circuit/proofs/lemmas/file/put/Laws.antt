@@ -10,11 +10,11 @@ use lib.Count.{ones, trailingZeros}
 use lib.Dec.{leb}
 use lib.ListN.{length, set, take, drop, length-set, length-append, length-take, length-drop}
 use lib.Pow.{pow-pos}
-use lib.Seq.{sets-eq}
+use lib.Seq.{sets-eq, take-all}
 use borrow.Author.Tests.{le-leb, lt-leb}
 use borrow.Rule.Slice.PartMut.{putMid, same-len-mid}
 use Rattle.bits.specs.Digits.{bit, linesIn}
-use Rattle.bits.specs.Lists.{over}
+use Rattle.bits.specs.Lists.{over, Put}
 use Rattle.bits.proofs.Digits.{bit-shifted, lines-ones}
 use Rattle.bits.proofs.Lists.{lent-over}
 use Rattle.bits.proofs.Lowest.{lowest-below, lines-on, lines-done}
@@ -22,7 +22,7 @@ use Rattle.circuit.specs.declared.gate.Gate.{Gate}
 use Rattle.circuit.specs.Gate.{maxLines, Control, controlAt, controlsBelow, controlsOf}
 use Rattle.circuit.proofs.lemmas.gate.Controls.{controlOn, controls-lines}
 use Rattle.circuit.specs.Text.{tab, lineFeed, numberText, controlText, controlsText, gateText, gateLine, headerLine}
-use Rattle.circuit.specs.private.Put.{Put, maskGate}
+use Rattle.circuit.specs.private.Put.{maskGate}
 use Rattle.circuit.specs.private.Scan.{width}
 use Rattle.circuit.proofs.lemmas.file.scan.Rest.{number-width}
 
@@ -36,6 +36,11 @@ pub record Written (first out : List ℕ) (at : ℕ) (front : List ℕ) : Type 0
 
 pub written-none : (out : List ℕ) → Written out out 0 []
 written-none out = record { is = refl; long = refl; same = refl }
+
+-- a word that the kit copied
+pub copied : (word out last : List ℕ) (r : ℕ) → r ≡ length word → last ≡ take (length word) word ++ drop (length word) out → Put r last word out
+copied word out last r e b =
+    record { count = e; buffer = b ∙ ap (λ (x : List ℕ). x ++ drop (length word) out) (take-all (length word) word (omega arith)) }
 
 pub written-two : (out : List ℕ) (a b : ℕ) → 2 ≤ length out → Written out (set (set out 0 a) 1 b) 2 (a ∷ b ∷ [])
 written-two out a b h = record { is = sets-eq (a ∷ b ∷ []) out 0 h; long = refl; same = length-set (set out 0 a) 1 b ∙ length-set out 0 a }
