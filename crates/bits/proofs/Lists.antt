@@ -1,4 +1,4 @@
--- The laws of `fold`, of `All`, of lists in which a number does not stand, of reversed lists, of three elements in a row, and of `over`. Assumes nothing.
+-- The laws of `fold`, of `All`, of lists in which a number does not stand, of three elements in a row, and of `over`. Assumes nothing.
 use mathlib.Core.Path.{_≡_, refl, sym, ap, ap₂, _∙_}
 use mathlib.Core.Bool.{Bool, true, not, _&&_}
 use mathlib.Core.List.{List, [], _∷_, _++_, reverse, reverse-cons, append-assoc, append-nil, map}
@@ -59,24 +59,9 @@ unfolding free
 free-append s [] g p q = q
 free-append s (b ∷ f) g p q = let (x, y) = and-parts (not (eqb b s)) (free s f) p in both x (free-append s f g y q)
 
--- ---- reversed lists
+-- ---- two and three elements in a row
 
 module _ {A : Type 0} where
-  pub reverse-append : (xs ys : List A) → reverse (xs ++ ys) ≡ reverse ys ++ reverse xs
-  reverse-append [] ys = sym (append-nil (reverse ys))
-  reverse-append (x ∷ xs) ys =
-      reverse-cons x (xs ++ ys)
-      ∙ ap (λ (l : List A). l ++ (x ∷ [])) (reverse-append xs ys)
-      ∙ append-assoc (reverse ys) (reverse xs) (x ∷ [])
-      ∙ ap (λ (l : List A). reverse ys ++ l) (sym (reverse-cons x xs))
-
-  pub reverse-twice : (xs : List A) → reverse (reverse xs) ≡ xs
-  reverse-twice [] = refl
-  reverse-twice (x ∷ xs) =
-      ap reverse (reverse-cons x xs) ∙ reverse-append (reverse xs) (x ∷ []) ∙ ap (λ (l : List A). x ∷ l) (reverse-twice xs)
-
-  -- ---- two and three elements in a row
-
   pub two : (d : A) (xs : List A) (k : ℕ) → k + 1 < length xs → drop k xs ≡ getD xs k d ∷ getD xs (k + 1) d ∷ drop (k + 2) xs
   two d xs k h =
       let one : suc k ≡ k + 1 = omega arith in

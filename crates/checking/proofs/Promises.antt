@@ -16,7 +16,7 @@ pub use Rattle.checking.proofs.lemmas.compare.Laws.{sweep-says, differe
 -- clauses: what the list is made of, what satisfies it, and how it is stored and emitted
 pub use Rattle.checking.proofs.lemmas.clauses.Maps.{clauses-none, clauses-next, differences-none, differences-next, list-parts}
 pub use Rattle.checking.proofs.lemmas.clauses.Tests.{someTrue, oddTrue, holds-or, holds-xor, value-neg, satisfies-none, satisfies-next, satisfies-append}
-pub use Rattle.checking.proofs.lemmas.clauses.Bounds.{neg-size, neg-within}
+pub use Rattle.checking.proofs.lemmas.clauses.Within.{neg-size, neg-within}
 pub use Rattle.checking.proofs.lemmas.clauses.Meaning.{tells-same}
 pub use Rattle.checking.proofs.lemmas.clauses.Reading.{stored-none, stored-next, stored-append, read-back}
 pub use Rattle.checking.proofs.lemmas.clauses.Answers.{emit-cascade}

@@ -8,6 +8,7 @@ use Rattle.circuit.specs.declared.gate.Gate.{Gate}
 use Rattle.checking.specs.declared.clauses.Totals.{Totals}
 use Rattle.checking.specs.Clauses.{Clause, OR, XOR, plus, minus, clausesOf}
 use Rattle.checking.specs.Stored.{stored}
+use Rattle.checking.specs.Rows.{gate}
 use Rattle.checking.specs.Sizes.{totals, sizesOf}
 
 pub record ClauseRow : Type 0 where
@@ -15,10 +16,6 @@ pub record ClauseRow : Type 0 where
   pub gates : List Gate
   pub sizes : Totals
   pub clauses : List Clause
-
--- a gate by its target and its two masks
-abbrev gate : ℕ → ℕ → ℕ → Gate
-gate target positive negative = record { positive = positive; negative = negative; target = target }
 
 abbrev row : ℕ → List Gate → Totals → List Clause → ClauseRow
 row lines gates sizes clauses = record { lines = lines; gates = gates; sizes = sizes; clauses = clauses }

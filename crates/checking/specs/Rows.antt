@@ -9,6 +9,7 @@ use Rattle.circuit.specs.declared.gate.Gate.{Gate}
 use Rattle.circuit.specs.Outcome.{Outcome, served, refused, andThen}
 use Rattle.circuit.specs.Words.{wordsOf}
 use Rattle.circuit.specs.Run.{runOutcome}
+use Rattle.circuit.specs.File.{same}
 use Rattle.checking.specs.declared.clauses.Totals.{Totals}
 use Rattle.checking.specs.Miter.{miterOutcome, miterBuffer}
 use Rattle.checking.specs.Sizes.{sizesOutcome}
@@ -70,13 +71,6 @@ rows =
     ∷ faults 3 (t2+0 ∷ []) (t2+0+1 ∷ []) (1 ∷ []) (2 ∷ 0 ∷ [])
     ∷ []
 
--- two lists of words are the same
-abbrev pub sameWords : List ℕ → List ℕ → Bool
-sameWords [] [] = true
-sameWords [] (w ∷ ws) = false
-sameWords (v ∷ vs) [] = false
-sameWords (v ∷ vs) (w ∷ ws) = eqb v w && sameWords vs ws
-
 -- a call is served with this number
 abbrev pub servedWith : ℕ → Outcome ℕ → Bool
 servedWith k (served a) = eqb a k
@@ -111,12 +105,12 @@ miterSizes n a b =
 abbrev pub right : Row → Bool
 right (run n gates state output) = servedWith output (runOutcome n (wordsOf gates) state)
 right (step n gates after) =
-    foundWith (length after) (stepOutcome n (wordsOf gates)) && sameWords (stepBuffer n (wordsOf gates)) (filled after (length (wordsOf gates)))
+    foundWith (length after) (stepOutcome n (wordsOf gates)) && same (stepBuffer n (wordsOf gates)) (filled after (length (wordsOf gates)))
 right (sizes n a b v c w) = servedTotals v c w (miterSizes n (wordsOf a) (wordsOf b))
 right (faults n suspect reference states masks) =
     servedWith (length suspect) (faultOutcome n (wordsOf suspect) n (wordsOf reference) states (length masks))
-    && sameWords (faultBuffer n (wordsOf suspect) n (wordsOf reference) states (empty (length masks))) masks
-right (step-none n gates) = foundNone (stepOutcome n (wordsOf gates)) && sameWords (stepBuffer n (wordsOf gates)) (wordsOf gates)
+    && same (faultBuffer n (wordsOf suspect) n (wordsOf reference) states (empty (length masks))) masks
+right (step-none n gates) = foundNone (stepOutcome n (wordsOf gates)) && same (stepBuffer n (wordsOf gates)) (wordsOf gates)
 
 abbrev pub allRight : List Row → Bool
 allRight [] = true

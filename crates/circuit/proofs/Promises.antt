@@ -3,13 +3,14 @@
 -- outcomes: a test that is met or fails, a call after a call, a buffer
 pub use Rattle.circuit.proofs.lemmas.Outcome.{never, unserved, why, demand-met, demand-failed, demanded, then-served, then-refused, then-both, then-either, then-fails, last-failed, same-refusal, told, written-served, written-refused, wrong-refused, good-served, fails-refused, same-refused, at-least, above, unequal}
 -- a gate, by its masks, its lines and its list of controls
-pub use Rattle.circuit.proofs.lemmas.gate.Laws.{valid-facts, valid-by-lines, lines-valid, valid-more, fires-lines, lines-fires, inverted-fired, inverted-idle, apply-gate, apply-bit, apply-none, apply-not, apply-twice, apply-below, toggled-apply, count-lines}
+pub use Rattle.circuit.proofs.lemmas.gate.Valid.{valid-facts, valid-by-lines, lines-valid, valid-more, count-lines}
+pub use Rattle.circuit.proofs.lemmas.gate.Effect.{fires-lines, lines-fires, inverted-fired, inverted-idle, apply-gate, apply-bit, apply-none, apply-not, apply-twice, apply-below, toggled-apply}
 pub use Rattle.circuit.proofs.lemmas.gate.Controls.{met-none, met-one, met-next, met-append, controls-none, controls-next, few-controls, controls-fire, controls-count, controlOn, controls-lines, controls-below}
 -- gates and their words
-pub use Rattle.circuit.proofs.lemmas.words.Laws.{gates-length, gate-at, gate-none, gates-next, gates-end, words-none, words-one, words-next, words-append, words-length, words-take, words-drop, gates-words, words-gates, put-fits, put-short}
-pub use Rattle.circuit.proofs.lemmas.words.Laws.{valid-none, valid-parts, valid-both, valid-split, valid-append, valid-all-more, gate-valid, valid-next, valid-later}
+pub use Rattle.circuit.proofs.lemmas.words.Gates.{gates-length, gate-at, gate-none, gates-next, gates-end, words-none, words-one, words-next, words-append, words-length, words-take, words-drop, gates-words, words-gates, put-fits, put-short}
+pub use Rattle.circuit.proofs.lemmas.words.Gates.{valid-none, valid-parts, valid-both, valid-split, valid-append, valid-all-more, gate-valid, valid-next, valid-later}
 -- the tests of a caller's words
-pub use Rattle.circuit.proofs.lemmas.words.Laws.{lines-good, size-served, from-served, next-good, next-bad, none-left, gates-refused, gates-sized, check-lines, check-gates, check-served, served-check, check-refused, refused-check, words-cascade, cascade-count, cascade-words, words-wrong, pair-served, served-pair, pair-refused, pair-wrong}
+pub use Rattle.circuit.proofs.lemmas.words.Tests.{lines-good, size-served, from-served, next-good, next-bad, none-left, gates-refused, gates-sized, check-lines, check-gates, check-served, served-check, check-refused, refused-check, words-cascade, cascade-count, cascade-words, words-wrong, pair-served, served-pair, pair-refused, pair-wrong}
 -- a run and the inverse
 pub use Rattle.circuit.proofs.lemmas.run.Laws.{run-none, run-one, run-next, run-append, run-below, run-tested, equal-differs, run-refused, run-served, served-run}
 pub use Rattle.circuit.proofs.lemmas.run.Records.{records-words, records-served, served-records, records-fault, fault-records}
@@ -18,6 +19,7 @@ pub use Rattle.circuit.proofs.lemmas.inverse.Laws.{run-inverse, inverse
 pub use Rattle.circuit.proofs.lemmas.file.Laws.{reader, read-as, read-served, served-read, read-refused, write-served, served-write, write-refused, refuses-all}
 pub use Rattle.circuit.proofs.lemmas.file.RoundTrip.{round-trip, idle-reading, idle-writing, read-leaves}
 pub use Rattle.circuit.proofs.lemmas.file.Controls.{controls-inside}
-pub use Rattle.circuit.proofs.lemmas.file.Lines.{longer-some, same-true, same-self, true-same}
+unfoldable pub use Rattle.circuit.proofs.lemmas.file.Lines.{separated}
+pub use Rattle.circuit.proofs.lemmas.file.Lines.{whole, parts-none, parts-some, parts-cut, parts-one, parts-back, same-true, same-self, true-same}
 pub use Rattle.circuit.proofs.lemmas.file.Numbers.{is-digit, digit-bounds}
 pub use Rattle.circuit.proofs.lemmas.file.put.Laws.{Written, copied, written-none, written-first, written-more, written-put, put-as, rest-length}

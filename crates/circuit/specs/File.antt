@@ -46,17 +46,21 @@ linesOf (b ∷ bs) =
 abbrev pub lineSize : Line → ℕ
 lineSize l = length (l .bytes) + 1
 
--- one byte more at the start of the first field
+-- one byte more at the start of the first part
 abbrev pub longer : ℕ → List (List ℕ) → List (List ℕ)
 longer b [] = (b ∷ []) ∷ []
 longer b (f ∷ fs) = (b ∷ f) ∷ fs
 
--- the fields of a line, parted by one tab
-unfoldable pub fieldsOf : List ℕ → List (List ℕ)
-fieldsOf [] = [] ∷ []
-fieldsOf (b ∷ bs) = cond (eqb b tab) ([] ∷ fieldsOf bs) (longer b (fieldsOf bs))
+-- the parts of a text, parted by the byte s: one more than the text has of it
+unfoldable pub partedBy : ℕ → List ℕ → List (List ℕ)
+partedBy s [] = [] ∷ []
+partedBy s (b ∷ bs) = cond (eqb b s) ([] ∷ partedBy s bs) (longer b (partedBy s bs))
 
--- whether two fields have the same bytes
+-- the fields of a line
+abbrev pub fieldsOf : List ℕ → List (List ℕ)
+fieldsOf bs = partedBy tab bs
+
+-- whether two lists of numbers are the same
 unfoldable pub same : List ℕ → List ℕ → Bool
 same [] [] = true
 same [] (b ∷ bs) = false

@@ -9,14 +9,15 @@ use Rattle.bits.proofs.Lists.{free}
 use Rattle.circuit.specs.declared.gate.Gate.{Gate}
 use Rattle.circuit.specs.Run.{run, Equal}
 use Rattle.circuit.specs.Text.{tab, lineFeed}
-use Rattle.circuit.proofs.Promises.{run-none}
-use Rattle.text.specs.Dimacs.{Dimacs, decimal, numberRead, headerText, dimacsRead, partedBy}
+use Rattle.circuit.specs.File.{partedBy}
+use Rattle.circuit.proofs.Promises.{run-none, parts-cut}
+use Rattle.text.specs.Dimacs.{Dimacs, decimal, numberRead, headerText, dimacsRead}
 use Rattle.text.specs.Tomiter.{refusalText}
 use Rattle.text.specs.BytesTell.{TextTells}
 use Rattle.text.specs.Compare.{Files, cascades, faulty, equalText, differWord, differText}
 use Rattle.text.specs.TwoFiles.{TwoFiles, FilesRefused}
 use Rattle.text.specs.CompareLaws.{MayWrite, refuses, overflows, reduces, sweeps, differs, asks, Compares}
-use Rattle.text.proofs.Reading.{parts-cut, decimal-free, number-back}
+use Rattle.text.proofs.Reading.{decimal-free, number-back}
 use Rattle.text.proofs.Strict.{text-was}
 use Rattle.text.proofs.Verdicts.{judged-is}
 use Rattle.text.proofs.StandIns.{once, once-runs, none-good, once-good, first, second, first-bytes, second-bytes}

@@ -10,14 +10,15 @@ use lib.Seq.{take-at}
 use Rattle.bits.specs.Lists.{over}
 use Rattle.bits.proofs.Lists.{free, free-append}
 use Rattle.circuit.specs.Outcome.{Outcome, served, Untouched, Yields}
-use Rattle.circuit.proofs.Promises.{demanded, written-served, written-refused}
+use Rattle.circuit.specs.File.{partedBy}
+use Rattle.circuit.proofs.Promises.{demanded, written-served, written-refused, parts-cut, parts-one}
 use Rattle.circuit.specs.Refusal.{noRoom}
 use Rattle.circuit.specs.Text.{tab, lineFeed}
-use Rattle.text.specs.Dimacs.{decimal, partedBy, numberRead}
+use Rattle.text.specs.Dimacs.{decimal, numberRead}
 use Rattle.text.specs.Tomiter.{Verdict, listed, refusedAt, verdict, refusedWord, refusalText, verdictText, tomiterText, tomiterOutcome, tomiterBuffer, WritesText}
 use Rattle.text.specs.BytesTell.{StartsProblem, TextTells, BytesTell}
 use Rattle.text.specs.TextLaws.{ProgramRefused, RightText, clauses, refusal, ProgramLaws}
-use Rattle.text.proofs.Reading.{parts-cut, parts-one, decimal-free, number-back}
+use Rattle.text.proofs.Reading.{decimal-free, number-back}
 use Rattle.text.proofs.Telling.{refusal-starts, listed-fits, text-starts, text-fitting, text-told, dimacs-starts}
 use Rattle.text.proofs.Faults.{refused-exactly}
 

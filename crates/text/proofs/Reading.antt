@@ -12,45 +12,12 @@ use borrow.Author.Tests.{ne-eqb, not-true, ltb-true, ltb-false}
 use Rattle.bits.proofs.Bools.{either, and-parts, both, cond-true, cond-false, not-held, refuted}
 use Rattle.bits.proofs.Lists.{free, free-append}
 use Rattle.circuit.specs.Text.{lineFeed, minusSign, digit}
-use Rattle.circuit.specs.File.{longer, isDigit, same}
-use Rattle.circuit.proofs.Promises.{longer-some, same-self, same-true, is-digit}
+use Rattle.circuit.specs.File.{partedBy, isDigit, same}
+use Rattle.circuit.proofs.Promises.{parts-none, parts-some, parts-cut, parts-one, same-self, same-true, is-digit}
 use Rattle.checking.specs.Clauses.{Clause, OR, XOR}
 use Rattle.checking.specs.Satisfaction.{variableOf, LiteralsWithin, ClausesWithin}
-use Rattle.text.specs.Dimacs.{blank, xorSign, problemWord, cnfWord, decimalWithin, decimal, literalText, literalsText, clauseText, clausesText, headerText, dimacsOf, partedBy, bothRead, thenRead, digitsRead, numberRead, signedRead, literalRead, literalsRead, clauseRead, linesRead, header, headerRead, headed, readLines, dimacsRead}
+use Rattle.text.specs.Dimacs.{blank, xorSign, problemWord, cnfWord, decimalWithin, decimal, literalText, literalsText, clauseText, clausesText, headerText, dimacsOf, bothRead, thenRead, digitsRead, numberRead, signedRead, literalRead, literalsRead, clauseRead, linesRead, header, headerRead, headed, readLines, dimacsRead}
 use Rattle.text.proofs.Decimal.{within-short, within-long}
-
--- ---- parts
-
-pub part-more : (s b : ℕ) (r : List ℕ) → eqb b s ≡ false → partedBy s (b ∷ r) ≡ longer b (partedBy s r)
-unfolding partedBy
-part-more s b r e = cond-false (eqb b s) _ _ e
-
-pub part-over : (s b : ℕ) (r : List ℕ) → eqb b s ≡ true → partedBy s (b ∷ r) ≡ [] ∷ partedBy s r
-unfolding partedBy
-part-over s b r e = cond-true (eqb b s) _ _ e
-
--- a part is cut off at the byte that ends it
-pub parts-cut : (s : ℕ) (f r : List ℕ) → free s f ≡ true → partedBy s (f ++ (s ∷ r)) ≡ f ∷ partedBy s r
-unfolding free
-parts-cut s [] r p = part-over s s r (borrow.Author.Tests.eq-eqb s s refl)
-parts-cut s (b ∷ f) r p =
-    let (x, y) = and-parts (not (eqb b s)) (free s f) p in
-    part-more s b (f ++ (s ∷ r)) (not-true (eqb b s) x) ∙ ap (longer b) (parts-cut s f r y)
-
-pub parts-one : (s : ℕ) (f : List ℕ) → free s f ≡ true → partedBy s f ≡ f ∷ []
-unfolding free partedBy
-parts-one s [] p = refl
-parts-one s (b ∷ f) p =
-    let (x, y) = and-parts (not (eqb b s)) (free s f) p in
-    part-more s b f (not-true (eqb b s) x) ∙ ap (longer b) (parts-one s f y)
-
-pub parts-some : (s : ℕ) (bs : List ℕ) → partedBy s bs ≡ [] → ⊥
-unfolding partedBy
-parts-some s [] e = mathlib.Core.List.cons≢nil e
-parts-some s (b ∷ bs) e =
-    either (eqb b s)
-    (λ t. mathlib.Core.List.cons≢nil (sym (part-over s b bs t) ∙ e))
-    (λ t. longer-some b (partedBy s bs) (sym (part-more s b bs t) ∙ e))
 
 -- ---- digits
 
@@ -207,8 +174,8 @@ body-next l ls =
     append-assoc (literalText l ++ (blank ∷ [])) (literalsText ls) (48 ∷ []) ∙ append-assoc (literalText l) (blank ∷ []) (literalsText ls ++ (48 ∷ []))
 
 literals-back : (v : ℕ) (ls : List ℤ) → LiteralsWithin v ls → literalsRead (partedBy blank (bodyText ls)) ≡ some ls
-unfolding literalsText partedBy literalsRead
-literals-back v [] w = cond-true (same (48 ∷ []) (48 ∷ [])) (some []) none (same-self (48 ∷ []))
+unfolding literalsText literalsRead free
+literals-back v [] w = ap literalsRead (parts-one blank (48 ∷ []) refl) ∙ cond-true (same (48 ∷ []) (48 ∷ [])) (some []) none (same-self (48 ∷ []))
 literals-back v (l ∷ ls) w =
     ap (λ (t : List ℕ). literalsRead (partedBy blank t)) (body-next l ls)
     ∙ ap literalsRead (parts-cut blank (literalText l) (bodyText ls) (literal-free blank l refl refl))
@@ -223,9 +190,10 @@ body-free s (l ∷ ls) n m b =
 
 -- the first byte is no `x`
 or-read : (line : List ℕ) → free xorSign line ≡ true → clauseRead line ≡ thenRead OR (literalsRead (partedBy blank line))
-unfolding clauseRead partedBy literalsRead free
+unfolding clauseRead literalsRead free
 or-read [] p =
-    sym (ap (thenRead OR) (cond-false (same [] (48 ∷ [])) (some []) none (not-held _ (λ e. mathlib.Core.List.cons≢nil (sym (same-true [] (48 ∷ []) e))))))
+    sym (ap (λ (fs : List (List ℕ)). thenRead OR (literalsRead fs)) (parts-none blank)
+    ∙ ap (thenRead OR) (cond-false (same [] (48 ∷ [])) (some []) none (not-held _ (λ e. mathlib.Core.List.cons≢nil (sym (same-true [] (48 ∷ []) e))))))
 or-read (b ∷ bs) p = let (x, y) = and-parts (not (eqb b xorSign)) (free xorSign bs) p in cond-false (eqb b xorSign) _ _ (not-true (eqb b xorSign) x)
 
 -- a clause's line without its LF
@@ -255,8 +223,8 @@ lines-more l [] h = absurd (h refl)
 lines-more l (k ∷ ls) h = refl
 
 clauses-back : (v : ℕ) (cs : List Clause) → ClausesWithin v cs → linesRead (partedBy lineFeed (clausesText cs)) ≡ some cs
-unfolding clausesText linesRead partedBy
-clauses-back v [] w = cond-true (same [] []) (some []) none (same-self [])
+unfolding clausesText linesRead
+clauses-back v [] w = ap linesRead (parts-none lineFeed) ∙ cond-true (same [] []) (some []) none (same-self [])
 clauses-back v (c ∷ cs) w =
     ap (λ (t : List ℕ). linesRead (partedBy lineFeed t)) (line-closed c (clausesText cs))
     ∙ ap linesRead (parts-cut lineFeed (lineText c) (clausesText cs) (line-free c))
@@ -282,9 +250,11 @@ unfolding free
 header-free v m = free-append lineFeed (decimal v) (blank ∷ decimal m) (decimal-free lineFeed v refl) (decimal-free lineFeed m refl)
 
 header-parts : (v m : ℕ) → partedBy blank (headerLine v m) ≡ problemWord ∷ cnfWord ∷ decimal v ∷ decimal m ∷ []
-unfolding partedBy
+unfolding free
 header-parts v m =
-    ap (λ (fs : List (List ℕ)). problemWord ∷ cnfWord ∷ fs)
+    parts-cut blank problemWord (cnfWord ++ (blank ∷ (decimal v ++ (blank ∷ decimal m)))) refl
+    ∙ ap (λ (fs : List (List ℕ)). problemWord ∷ fs) (parts-cut blank cnfWord (decimal v ++ (blank ∷ decimal m)) refl)
+    ∙ ap (λ (fs : List (List ℕ)). problemWord ∷ cnfWord ∷ fs)
     (parts-cut blank (decimal v) (decimal m) (decimal-free blank v refl) ∙ ap (λ (fs : List (List ℕ)). decimal v ∷ fs) (parts-one blank (decimal m) (decimal-free blank m refl)))
 
 header-back : (v m : ℕ) → headerRead (partedBy blank (headerLine v m)) ≡ some (header v m)

@@ -10,12 +10,12 @@ use lib.IntN.{ℤ, pos, negsuc}
 use borrow.Author.Tests.{eqb-true, eqb-false}
 use Rattle.bits.proofs.Bools.{either, cond-true, cond-false}
 use Rattle.circuit.specs.Text.{lineFeed, minusSign, digit}
-use Rattle.circuit.specs.File.{longer, isDigit, same}
-use Rattle.circuit.proofs.Promises.{same-true, digit-bounds}
+use Rattle.circuit.specs.File.{partedBy, isDigit, same}
+use Rattle.circuit.proofs.Promises.{separated, whole, parts-back, same-true, digit-bounds}
 use Rattle.checking.specs.Clauses.{Clause, OR, XOR}
-use Rattle.text.specs.Dimacs.{blank, xorSign, problemWord, cnfWord, decimal, literalText, literalsText, clausesText, headerText, partedBy, bothRead, thenRead, digitsRead, numberRead, signedRead, literalRead, literalsRead, clauseRead, linesRead, Dimacs, Header, header, headerRead, headed, readLines, dimacsRead}
+use Rattle.text.specs.Dimacs.{blank, xorSign, problemWord, cnfWord, decimal, literalText, literalsText, clausesText, headerText, bothRead, thenRead, digitsRead, numberRead, signedRead, literalRead, literalsRead, clauseRead, linesRead, Dimacs, Header, header, headerRead, headed, readLines, dimacsRead}
 use Rattle.text.proofs.Decimal.{decimal-short, decimal-long}
-use Rattle.text.proofs.Reading.{part-more, part-over, parts-some, bodyText, body-next, lineText, line-closed, headerLine, header-closed}
+use Rattle.text.proofs.Reading.{bodyText, body-next, lineText, line-closed, headerLine, header-closed}
 
 -- nothing was read
 nothing : {A : Type 0} {a : A} → none ≡ some a → ⊥
@@ -39,37 +39,6 @@ was-true false x a e = absurd (nothing e)
 was-false : {A : Type 0} (t : Bool) (x : Option A) (a : A) → mathlib.Core.Bool.cond t none x ≡ some a → (t ≡ false) × (x ≡ some a)
 was-false true x a e = absurd (nothing e)
 was-false false x a e = (refl, e)
-
--- ---- parts, joined again
-
-unfoldable separated : ℕ → List (List ℕ) → List ℕ
-separated s [] = []
-separated s (f ∷ fs) = (s ∷ f) ++ separated s fs
-
-abbrev whole : ℕ → List (List ℕ) → List ℕ
-whole s [] = []
-whole s (f ∷ fs) = f ++ separated s fs
-
-separated-whole : (s : ℕ) (fs : List (List ℕ)) → (fs ≡ [] → ⊥) → separated s fs ≡ s ∷ whole s fs
-unfolding separated
-separated-whole s [] h = absurd (h refl)
-separated-whole s (f ∷ fs) h = refl
-
-whole-longer : (s b : ℕ) (fs : List (List ℕ)) → whole s (longer b fs) ≡ b ∷ whole s fs
-unfolding separated
-whole-longer s b [] = refl
-whole-longer s b (f ∷ fs) = refl
-
-parts-back : (s : ℕ) (bs : List ℕ) → whole s (partedBy s bs) ≡ bs
-unfolding separated partedBy
-parts-back s [] = refl
-parts-back s (b ∷ bs) =
-    either (eqb b s)
-    (λ t.
-    ap (whole s) (part-over s b bs t)
-    ∙ separated-whole s (partedBy s bs) (parts-some s bs)
-    ∙ ap₂ (λ (x : ℕ) (l : List ℕ). x ∷ l) (sym (eqb-true b s t)) (parts-back s bs))
-    (λ t. ap (whole s) (part-more s b bs t) ∙ whole-longer s b (partedBy s bs) ∙ ap (λ (l : List ℕ). b ∷ l) (parts-back s bs))
 
 -- ---- a number
 

@@ -1,9 +1,9 @@
 -- What is proved of the text that is written for two files, of any program of this kind.
 use mathlib.Core.Path.{_≡_}
 use mathlib.Core.Bool.{Bool}
-use mathlib.Core.List.{List, [], _∷_, _++_}
+use mathlib.Core.List.{List, [], _∷_}
 use mathlib.Core.Option.{some}
-use Prim.Native.Nat.{ℕ, _+_, _≤_, _<_}
+use Prim.Native.Nat.{ℕ, _≤_, _<_}
 use lib.IntN.{ℤ, negℤ}
 use lib.ListN.{length}
 use Rattle.circuit.specs.declared.gate.Gate.{Gate}

@@ -7,7 +7,7 @@ use lib.Dec.{eqb, ltb}
 use lib.IntN.{ℤ, pos, negsuc}
 use lib.ListN.{length}
 use Rattle.circuit.specs.Text.{lineFeed, minusSign, digit}
-use Rattle.circuit.specs.File.{longer, same, isDigit}
+use Rattle.circuit.specs.File.{partedBy, same, isDigit}
 use Rattle.checking.specs.Clauses.{Clause, OR, XOR}
 
 -- ---- the text
@@ -67,11 +67,6 @@ unfoldable pub dimacsOf : ℕ → List Clause → List ℕ
 dimacsOf variables cs = headerText variables (length cs) ++ clausesText cs
 
 -- ---- reading it back, by lines and fields
-
--- the parts of a text, parted by the byte s: one more than the text has of it
-unfoldable pub partedBy : ℕ → List ℕ → List (List ℕ)
-partedBy s [] = [] ∷ []
-partedBy s (b ∷ bs) = cond (eqb b s) ([] ∷ partedBy s bs) (longer b (partedBy s bs))
 
 -- two things that were read, put together
 abbrev pub bothRead : {A B C : Type 0} → (A → B → C) → Option A → Option B → Option C

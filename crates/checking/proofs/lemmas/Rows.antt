@@ -7,6 +7,7 @@ use Rattle.bits.specs.Lists.{fold}
 use Rattle.circuit.specs.Gate.{valid, fires, inverted, apply, controlCount}
 use Rattle.circuit.specs.Words.{gatesOf, wordsOf, validFrom, sizeOutcome, gatesOutcome, checkOutcome, pairOutcome}
 use Rattle.circuit.specs.Run.{runOutcome}
+use Rattle.circuit.specs.File.{same}
 use Rattle.checking.specs.Match.{mayPass, controlLines, controlRemoved, controlInverted, differing, matchOf}
 use Rattle.checking.specs.Step.{scanFrom, searchFrom, replaced, stepGates, filled, stepOutcome, stepBuffer}
 use Rattle.checking.specs.Miter.{miterOutcome, miterBuffer}
@@ -16,7 +17,7 @@ use Rattle.checking.specs.Faults.{everywhere, maskWhere, masksFrom, each
 use Rattle.checking.specs.Rows.{rows, allRight, RowLaws}
 
 rows-right : allRight rows ≡ true
-unfolding ones onesIn fold valid fires inverted apply gatesOf wordsOf validFrom sizeOutcome gatesOutcome checkOutcome pairOutcome runOutcome controlCount miterOutcome miterBuffer sizesOutcome sizesOf gatesSizes linesSizes upFrom targeted faultOutcome faultBuffer faultCheck eachFrom masksFrom maskWhere everywhere bit xor controlLines mayPass controlRemoved controlInverted differing matchOf scanFrom searchFrom replaced stepGates filled stepOutcome stepBuffer
+unfolding ones onesIn fold same valid fires inverted apply gatesOf wordsOf validFrom sizeOutcome gatesOutcome checkOutcome pairOutcome runOutcome controlCount miterOutcome miterBuffer sizesOutcome sizesOf gatesSizes linesSizes upFrom targeted faultOutcome faultBuffer faultCheck eachFrom masksFrom maskWhere everywhere bit xor controlLines mayPass controlRemoved controlInverted differing matchOf scanFrom searchFrom replaced stepGates filled stepOutcome stepBuffer
 rows-right = refl
 
 pub row-laws : RowLaws

@@ -1,7 +1,9 @@
 -- `circuit::laws` meets its contract: the record of the laws. Assumes nothing.
-use Rattle.circuit.proofs.lemmas.gate.Laws.{fires-lines, lines-fires, valid-by-lines, lines-valid, valid-more, apply-bit, apply-none, apply-not, toggled-apply, apply-twice, apply-below, count-lines}
+use Rattle.circuit.proofs.lemmas.gate.Valid.{valid-by-lines, lines-valid, valid-more, count-lines}
+use Rattle.circuit.proofs.lemmas.gate.Effect.{fires-lines, lines-fires, apply-bit, apply-none, apply-not, toggled-apply, apply-twice, apply-below}
 use Rattle.circuit.proofs.lemmas.gate.Controls.{controls-count, controls-fire}
-use Rattle.circuit.proofs.lemmas.words.Laws.{gates-words, words-gates, check-served, served-check, check-refused, refused-check, pair-served, served-pair, pair-refused}
+use Rattle.circuit.proofs.lemmas.words.Gates.{gates-words, words-gates}
+use Rattle.circuit.proofs.lemmas.words.Tests.{check-served, served-check, check-refused, refused-check, pair-served, served-pair, pair-refused}
 use Rattle.circuit.proofs.lemmas.run.Laws.{run-append, run-tested, run-below, equal-differs, run-refused, run-served, served-run}
 use Rattle.circuit.proofs.lemmas.run.Records.{records-words, records-served, served-records, records-fault, fault-records}
 use Rattle.circuit.proofs.lemmas.inverse.Laws.{run-inverse, inverse-run, inverse-append, inverse-twice, inverse-valid, refused-exactly, inverse-served, served-inverse, inverse-stands, inverse-untouched}

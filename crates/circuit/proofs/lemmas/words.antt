@@ -1,2 +1,3 @@
--- `Laws` has the laws of `specs/Words.antt`.
-pub mod Laws
+-- The laws of `specs/Words.antt`: `Gates` those of gates and their words, `Tests` those of the tests of a caller's words.
+pub mod Gates
+pub mod Tests

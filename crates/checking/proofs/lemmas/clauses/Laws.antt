@@ -3,7 +3,7 @@ use Rattle.checking.specs.ClauseLaws.{ClauseLaws}
 use Rattle.checking.proofs.lemmas.clauses.Forced.{spelled-line, spelled-below, gates-forced, list-forced}
 use Rattle.checking.proofs.lemmas.clauses.Meaning.{list-tells}
 use Rattle.checking.proofs.lemmas.clauses.Reading.{read-back, read-stored, read-bad}
-use Rattle.checking.proofs.lemmas.clauses.Bounds.{variables-counted, variables-few, words-fit}
+use Rattle.checking.proofs.lemmas.clauses.Fits.{variables-counted, variables-few, words-fit}
 use Rattle.checking.proofs.lemmas.clauses.Sums.{sizes-list}
 use Rattle.checking.proofs.lemmas.clauses.Rows.{rows-hold, words-hold}
 

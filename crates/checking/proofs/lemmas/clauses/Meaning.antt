@@ -17,7 +17,7 @@ use Rattle.checking.specs.Clauses.{Clause, upFrom, clausesOf, variablesO
 use Rattle.checking.specs.Satisfaction.{Satisfying, spelled, Tells}
 use Rattle.checking.specs.Forced.{gatesValues, differences, traced, forced}
 use Rattle.checking.proofs.lemmas.clauses.Forced.{spelled-below, spelled-digits, length-forced, list-forced}
-use Rattle.checking.proofs.lemmas.clauses.Bounds.{clauses-within}
+use Rattle.checking.proofs.lemmas.clauses.Within.{clauses-within}
 
 module _ (n : ℕ) (gs : List Gate) (few : n ≤ maxLines) (v : allValid n gs ≡ true) where
   spelled-forced : (x : ℕ) → x < 2 ^ n → spelled n (forced n x gs) ≡ x

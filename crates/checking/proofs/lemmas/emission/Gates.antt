@@ -27,7 +27,7 @@ use Rattle.checking.proofs.lemmas.clauses.Gates.{new-named}
 use Rattle.checking.proofs.lemmas.clauses.Reading.{stored-append}
 use Rattle.checking.proofs.lemmas.clauses.Sums.{gate-sizes}
 use Rattle.checking.proofs.lemmas.emitter.Parts.{lent-long}
-use Rattle.checking.proofs.lemmas.clauses.Bounds.{new-bound}
+use Rattle.checking.proofs.lemmas.clauses.Fits.{new-bound}
 use Rattle.checking.proofs.lemmas.clauses.Maps.{gate-local}
 
 -- ---- one gate

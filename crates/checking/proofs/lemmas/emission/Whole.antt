@@ -21,7 +21,8 @@ use Rattle.checking.specs.Stored.{stored, wordLimit}
 use Rattle.checking.specs.private.Emitter.{byLine}
 use Rattle.checking.specs.private.Emission.{Holds, linesStored, lastStored, LinesReady, GatesReady, GatesPut, ListReady}
 use Rattle.checking.proofs.lemmas.clauses.Gates.{new-named}
-use Rattle.checking.proofs.lemmas.clauses.Bounds.{after-named, inputs-named, used-bound}
+use Rattle.checking.proofs.lemmas.clauses.Within.{after-named, inputs-named}
+use Rattle.checking.proofs.lemmas.clauses.Fits.{used-bound}
 use Rattle.checking.proofs.lemmas.clauses.Forced.{below-upFrom, used-more}
 use Rattle.checking.proofs.lemmas.clauses.Maps.{differences-local}
 use Rattle.checking.proofs.lemmas.clauses.Reading.{stored-append}

@@ -15,7 +15,7 @@ use Rattle.circuit.proofs.Promises.{never, then-served, then-refused, then-both
 use Rattle.checking.specs.Match.{Kind, Match, remaining}
 use Rattle.checking.specs.Step.{filled, Step, found, none, stepGates, withCount, stepWords, servedWords, stepOutcome, stepBuffer}
 use Rattle.checking.specs.StepLaws.{Matches, Steps, finds, taken, Keeps, Stands, StepLaws}
-use Rattle.checking.proofs.lemmas.step.Lines.{pass-clear, clear-pass, passing, match-run, match-valid}
+use Rattle.checking.proofs.lemmas.step.TwoGates.{pass-clear, clear-pass, passing, match-run, match-valid}
 use Rattle.checking.proofs.lemmas.step.Verdicts.{match-found, found-match, match-unique}
 use Rattle.checking.proofs.lemmas.step.Relation.{step-relation, steps-unique}
 use Rattle.checking.proofs.lemmas.step.Keeping.{candidate-run, candidate-valid, match-taken}

@@ -17,7 +17,7 @@ use Rattle.circuit.proofs.Promises.{valid-by-lines}
 use Rattle.checking.specs.Match.{controlRemoved, controlInverted, differing, Match, Compared, apart, matched, matchOf}
 use Rattle.checking.specs.StepLaws.{OneMore, Matches, pair, drop, turn-first, turn-second}
 use Rattle.checking.proofs.lemmas.step.Matching.{match-equal, match-opposite, match-longer}
-use Rattle.checking.proofs.lemmas.step.Lines.{at-line}
+use Rattle.checking.proofs.lemmas.step.OneMore.{at-line}
 
 gate-equal : (g h : Gate) → g .positive ≡ h .positive → g .negative ≡ h .negative → g .target ≡ h .target → g ≡ h
 gate-equal g h p q t =

@@ -3,7 +3,7 @@ use mathlib.Core.Path.{ap, _∙_}
 use Prim.Native.Nat.{_^_}
 use native.Mathlib.Nat.{mod-eq-of-lt}
 use borrow.Author.Needs.{needs}
-use Rattle.checking.proofs.lemmas.step.Lines.{pass-test}
+use Rattle.checking.proofs.lemmas.step.TwoGates.{pass-test}
 use Rattle.checking.proofs.step.may_pass.Statement.{statement}
 use Rattle.checking.proofs.step.may_pass.Tie as tie
 

@@ -9,7 +9,8 @@ use Rattle.circuit.specs.Refusal.{noRoom}
 use Rattle.circuit.specs.Words.{gatesOf, ofCount, checkOutcome, Cascade}
 use Rattle.circuit.specs.Text.{textOf}
 use Rattle.circuit.proofs.lemmas.Outcome.{why}
-use Rattle.circuit.proofs.lemmas.words.Laws.{check-served, valid-all-more}
+use Rattle.circuit.proofs.lemmas.words.Gates.{valid-all-more}
+use Rattle.circuit.proofs.lemmas.words.Tests.{check-served}
 use Rattle.circuit.proofs.lemmas.file.Writes.{write-refused, write-short, write-made, write-told}
 use Rattle.circuit.proofs.lemmas.file.put.Table.{digits, two-digits}
 use Rattle.circuit.proofs.file.write.Statement.{statement}

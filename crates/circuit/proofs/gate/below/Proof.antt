@@ -4,7 +4,7 @@ use Prim.Native.Nat.{ℕ}
 use lib.Dec.{eqb}
 use lib.Bits.{bitAnd}
 use borrow.Author.Needs.{needs}
-use Rattle.circuit.proofs.lemmas.gate.Laws.{above-none}
+use Rattle.circuit.proofs.lemmas.gate.Valid.{above-none}
 use Rattle.circuit.proofs.gate.below.Statement.{statement}
 use Rattle.circuit.proofs.gate.below.Tie as tie
 

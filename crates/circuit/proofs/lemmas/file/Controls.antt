@@ -15,7 +15,7 @@ use Rattle.bits.proofs.Digits.{bit-or, bit-pow, bit-none, bits-equal, bit-above
 use Rattle.circuit.specs.declared.gate.Gate.{Gate}
 use Rattle.circuit.specs.Gate.{maxLines, valid, Control, Inside, controlAt, controlsBelow, controlsOf}
 use Rattle.circuit.specs.File.{among, risingFrom, maskOf, gateOf}
-use Rattle.circuit.proofs.lemmas.gate.Laws.{Valid, valid-facts, valid-apart, valid-by-lines, lines-valid}
+use Rattle.circuit.proofs.lemmas.gate.Valid.{Valid, valid-facts, valid-apart, valid-by-lines, lines-valid}
 
 -- ---- the masks of a list of controls, line by line
 

@@ -14,11 +14,11 @@ use Rattle.circuit.specs.Gate.{maxLines, maxGates}
 use Rattle.circuit.specs.Outcome.{Outcome, served, refused, andThen}
 use Rattle.circuit.specs.Refusal.{wrongForm, noRoom}
 use Rattle.circuit.specs.Text.{tab, lineFeed, linesWord, numberText, headerLine, endLine, gateLines, textOf}
-use Rattle.circuit.specs.File.{Line, noLine, firstLine, laterLines, linesOf, lineSize, gateOn, gateFields, fieldsOf, headerOn, isEnd, Reading, readFrom, reading, ReadCounts, countsOf, readOutcome, writeOutcome}
+use Rattle.circuit.specs.File.{Line, noLine, firstLine, laterLines, linesOf, lineSize, gateOn, gateFields, partedBy, headerOn, isEnd, Reading, readFrom, reading, ReadCounts, countsOf, readOutcome, writeOutcome}
 use Rattle.circuit.specs.FileLaws as laws
 use Rattle.circuit.specs.FileLaws.{FileCascade, LineOffence, FileRefused, ReaderLaws, Readable, ReadAs, ReadRefused, Writable, WriteRefused}
 use Rattle.circuit.specs.Words.{gatesOf, checkOutcome}
-use Rattle.circuit.proofs.lemmas.words.Laws.{check-served, served-check, words-wrong}
+use Rattle.circuit.proofs.lemmas.words.Tests.{check-served, served-check, words-wrong}
 use Rattle.circuit.proofs.lemmas.Outcome.{never, demand-met, demand-failed, then-served, then-refused, then-both, demanded, wrong-refused, fails-refused, above}
 use Rattle.circuit.proofs.lemmas.file.Lines.{Cut, cut-first}
 use Rattle.circuit.proofs.lemmas.file.Texts.{headerText, start-read, text-read}
@@ -110,7 +110,7 @@ line-refused n high gs at [] number x =
     ap (λ (k : ℕ). refused k (length gs + 1)) w
   where
     missing : (n i count : ℕ) → gateOn n i count noLine ≡ refused wrongForm i
-    missing n i count = unfold gateFields fieldsOf in refl
+    missing n i count = unfold gateFields partedBy in refl
 line-refused n high gs at (l ∷ ls) number x =
     cond-false (isEnd l) _ _ (offence-open n (length gs + 1) (length gs) high l number x)
     ∙ then-refused _ _ number (length gs + 1) (offence-refused n (length gs + 1) (length gs) high l number x)

@@ -9,8 +9,8 @@ use lib.ListN.{length, drop}
 use borrow.Author.Tests.{eqb-true, not-true}
 use Rattle.bits.proofs.Bools.{either, and-parts, both, cond-true, cond-false}
 use Rattle.bits.proofs.Lists.{free}
-use Rattle.circuit.specs.Text.{tab, lineFeed}
-use Rattle.circuit.specs.File.{Line, firstLine, laterLines, linesOf, lineSize, longer, fieldsOf, same}
+use Rattle.circuit.specs.Text.{lineFeed}
+use Rattle.circuit.specs.File.{Line, firstLine, laterLines, linesOf, lineSize, longer, partedBy, same}
 
 -- ---- lines
 
@@ -59,88 +59,90 @@ cut-first (b ∷ r) e =
       later = ap linesOf rest ∙ c .later;
     }))
 
--- ---- fields
+-- ---- the parts of a text
 
--- fields, each after a tab
-unfoldable pub tabbed : List (List ℕ) → List ℕ
-tabbed [] = []
-tabbed (f ∷ fs) = (tab ∷ f) ++ tabbed fs
+-- parts, each after the byte s
+unfoldable pub separated : ℕ → List (List ℕ) → List ℕ
+separated s [] = []
+separated s (f ∷ fs) = (s ∷ f) ++ separated s fs
 
-abbrev pub whole : List (List ℕ) → List ℕ
-whole [] = []
-whole (f ∷ fs) = f ++ tabbed fs
+abbrev pub whole : ℕ → List (List ℕ) → List ℕ
+whole s [] = []
+whole s (f ∷ fs) = f ++ separated s fs
 
-pub field-more : (b : ℕ) (r : List ℕ) → eqb b tab ≡ false → fieldsOf (b ∷ r) ≡ longer b (fieldsOf r)
-unfolding fieldsOf
-field-more b r e = cond-false (eqb b tab) _ _ e
-
-pub field-over : (b : ℕ) (r : List ℕ) → eqb b tab ≡ true → fieldsOf (b ∷ r) ≡ [] ∷ fieldsOf r
-unfolding fieldsOf
-field-over b r e = cond-true (eqb b tab) _ _ e
-
-pub fields-none : fieldsOf [] ≡ [] ∷ []
-unfolding fieldsOf
-fields-none = refl
-
-pub fields-cut : (f r : List ℕ) → free tab f ≡ true → fieldsOf (f ++ (tab ∷ r)) ≡ f ∷ fieldsOf r
-unfolding free
-fields-cut [] r p = field-over tab r refl
-fields-cut (b ∷ f) r p =
-    let (x, y) = and-parts (not (eqb b tab)) (free tab f) p in
-    field-more b (f ++ (tab ∷ r)) (not-true (eqb b tab) x) ∙ ap (longer b) (fields-cut f r y)
-
-pub fields-one : (f : List ℕ) → free tab f ≡ true → fieldsOf f ≡ f ∷ []
-unfolding free
-fields-one [] p = fields-none
-fields-one (b ∷ f) p =
-    let (x, y) = and-parts (not (eqb b tab)) (free tab f) p in
-    field-more b f (not-true (eqb b tab) x) ∙ ap (longer b) (fields-one f y)
-
--- every field is free of the byte s
+-- every part is free of the byte s
 unfoldable pub allFree : ℕ → List (List ℕ) → Bool
 allFree s [] = true
 allFree s (f ∷ fs) = free s f && allFree s fs
-
--- the fields of joined fields
-pub fields-joined : (f : List ℕ) (fs : List (List ℕ)) → free tab f ≡ true → allFree tab fs ≡ true → fieldsOf (f ++ tabbed fs) ≡ f ∷ fs
-unfolding tabbed allFree
-fields-joined f [] p q = ap fieldsOf (append-nil f) ∙ fields-one f p
-fields-joined f (g ∷ fs) p q =
-    let (x, y) = and-parts (free tab g) (allFree tab fs) q in
-    fields-cut f (g ++ tabbed fs) p ∙ ap (λ (l : List (List ℕ)). f ∷ l) (fields-joined g fs x y)
-
--- a line is its fields, joined
-tabbed-whole : (fs : List (List ℕ)) → (fs ≡ [] → ⊥) → tabbed fs ≡ tab ∷ whole fs
-unfolding tabbed
-tabbed-whole [] h = absurd (h refl)
-tabbed-whole (f ∷ fs) h = refl
 
 pub longer-some : (b : ℕ) (fs : List (List ℕ)) → longer b fs ≡ [] → ⊥
 longer-some b [] e = mathlib.Core.List.cons≢nil e
 longer-some b (f ∷ fs) e = mathlib.Core.List.cons≢nil e
 
-pub fields-some : (bs : List ℕ) → fieldsOf bs ≡ [] → ⊥
-fields-some [] e = mathlib.Core.List.cons≢nil (sym fields-none ∙ e)
-fields-some (b ∷ bs) e =
-    either (eqb b tab)
-    (λ t. mathlib.Core.List.cons≢nil (sym (field-over b bs t) ∙ e))
-    (λ t. longer-some b (fieldsOf bs) (sym (field-more b bs t) ∙ e))
+module _ (s : ℕ) where
+  pub part-more : (b : ℕ) (r : List ℕ) → eqb b s ≡ false → partedBy s (b ∷ r) ≡ longer b (partedBy s r)
+  unfolding partedBy
+  part-more b r e = cond-false (eqb b s) _ _ e
 
-whole-longer : (b : ℕ) (fs : List (List ℕ)) → whole (longer b fs) ≡ b ∷ whole fs
-unfolding tabbed
-whole-longer b [] = refl
-whole-longer b (f ∷ fs) = refl
+  pub part-over : (b : ℕ) (r : List ℕ) → eqb b s ≡ true → partedBy s (b ∷ r) ≡ [] ∷ partedBy s r
+  unfolding partedBy
+  part-over b r e = cond-true (eqb b s) _ _ e
 
-pub fields-back : (bs : List ℕ) → whole (fieldsOf bs) ≡ bs
-unfolding tabbed
-fields-back [] = ap whole fields-none
-fields-back (b ∷ bs) =
-    either (eqb b tab)
-    (λ t.
-    ap whole (field-over b bs t)
-    ∙ tabbed-whole (fieldsOf bs) (fields-some bs)
-    ∙ ap₂ (λ (x : ℕ) (l : List ℕ). x ∷ l) (sym (eqb-true b tab t)) (fields-back bs))
-    (λ t. ap whole (field-more b bs t) ∙ whole-longer b (fieldsOf bs) ∙ ap (λ (l : List ℕ). b ∷ l) (fields-back bs))
+  pub parts-none : partedBy s [] ≡ [] ∷ []
+  unfolding partedBy
+  parts-none = refl
+
+  pub parts-some : (bs : List ℕ) → partedBy s bs ≡ [] → ⊥
+  parts-some [] e = mathlib.Core.List.cons≢nil (sym parts-none ∙ e)
+  parts-some (b ∷ bs) e =
+      either (eqb b s)
+      (λ t. mathlib.Core.List.cons≢nil (sym (part-over b bs t) ∙ e))
+      (λ t. longer-some b (partedBy s bs) (sym (part-more b bs t) ∙ e))
+
+  -- a part is cut off at the byte that ends it
+  pub parts-cut : (f r : List ℕ) → free s f ≡ true → partedBy s (f ++ (s ∷ r)) ≡ f ∷ partedBy s r
+  unfolding free
+  parts-cut [] r p = part-over s r (borrow.Author.Tests.eq-eqb s s refl)
+  parts-cut (b ∷ f) r p =
+      let (x, y) = and-parts (not (eqb b s)) (free s f) p in
+      part-more b (f ++ (s ∷ r)) (not-true (eqb b s) x) ∙ ap (longer b) (parts-cut f r y)
+
+  pub parts-one : (f : List ℕ) → free s f ≡ true → partedBy s f ≡ f ∷ []
+  unfolding free
+  parts-one [] p = parts-none
+  parts-one (b ∷ f) p =
+      let (x, y) = and-parts (not (eqb b s)) (free s f) p in
+      part-more b f (not-true (eqb b s) x) ∙ ap (longer b) (parts-one f y)
+
+  -- the parts of joined parts
+  pub parts-joined : (f : List ℕ) (fs : List (List ℕ)) → free s f ≡ true → allFree s fs ≡ true → partedBy s (f ++ separated s fs) ≡ f ∷ fs
+  unfolding separated allFree
+  parts-joined f [] p q = ap (partedBy s) (append-nil f) ∙ parts-one f p
+  parts-joined f (g ∷ fs) p q =
+      let (x, y) = and-parts (free s g) (allFree s fs) q in
+      parts-cut f (g ++ separated s fs) p ∙ ap (λ (l : List (List ℕ)). f ∷ l) (parts-joined g fs x y)
+
+  -- a text is its parts, joined
+  separated-whole : (fs : List (List ℕ)) → (fs ≡ [] → ⊥) → separated s fs ≡ s ∷ whole s fs
+  unfolding separated
+  separated-whole [] h = absurd (h refl)
+  separated-whole (f ∷ fs) h = refl
+
+  whole-longer : (b : ℕ) (fs : List (List ℕ)) → whole s (longer b fs) ≡ b ∷ whole s fs
+  unfolding separated
+  whole-longer b [] = refl
+  whole-longer b (f ∷ fs) = refl
+
+  pub parts-back : (bs : List ℕ) → whole s (partedBy s bs) ≡ bs
+  unfolding separated
+  parts-back [] = ap (whole s) parts-none
+  parts-back (b ∷ bs) =
+      either (eqb b s)
+      (λ t.
+      ap (whole s) (part-over b bs t)
+      ∙ separated-whole (partedBy s bs) (parts-some bs)
+      ∙ ap₂ (λ (x : ℕ) (l : List ℕ). x ∷ l) (sym (eqb-true b s t)) (parts-back bs))
+      (λ t. ap (whole s) (part-more b bs t) ∙ whole-longer b (partedBy s bs) ∙ ap (λ (l : List ℕ). b ∷ l) (parts-back bs))
 
 -- ---- the same bytes
 

@@ -14,12 +14,12 @@ use Rattle.circuit.specs.Outcome.{Outcome, served, refused, demand, andT
 use Rattle.circuit.specs.Refusal.{wrongForm, badLineCount, lineOutside}
 use Rattle.circuit.specs.Words.{allValid, lineCountGood}
 use Rattle.circuit.specs.Text.{tab, lineFeed, plusSign, minusSign, linesWord, gateWord, endWord, numberText, controlText, controlsText, gateText, gateLine, endLine, gateLines}
-use Rattle.circuit.specs.File.{Line, noLine, firstLine, laterLines, linesOf, lineSize, fieldsOf, same, numberOf, lineOf, controlOf, controlsFrom, among, risingFrom, gateOf, closedGate, gateFields, gateOn, headerFields, headerOn, isEnd, Reading, readFrom}
+use Rattle.circuit.specs.File.{Line, noLine, firstLine, laterLines, linesOf, lineSize, partedBy, fieldsOf, same, numberOf, lineOf, controlOf, controlsFrom, among, risingFrom, gateOf, closedGate, gateFields, gateOn, headerFields, headerOn, isEnd, Reading, readFrom}
 use Rattle.circuit.specs.FileLaws as laws
 use Rattle.circuit.specs.FileLaws.{NumberField, ControlField, HeaderOffence, ControlsOffence, Among, NotRising, GoodFields, LineOffence}
 use Rattle.circuit.proofs.lemmas.Outcome.{never, demand-met, demand-failed, then-served, then-refused}
-use Rattle.circuit.proofs.lemmas.words.Laws.{lines-good, good-lines}
-use Rattle.circuit.proofs.lemmas.file.Lines.{tabbed, whole, fields-back, same-true, same-self, true-same, Cut, cut-first}
+use Rattle.circuit.proofs.lemmas.words.Tests.{lines-good, good-lines}
+use Rattle.circuit.proofs.lemmas.file.Lines.{separated, whole, parts-back, same-true, same-self, true-same, Cut, cut-first}
 use Rattle.circuit.proofs.lemmas.file.Numbers.{number-text, text-number, number-wrong}
 use Rattle.circuit.proofs.lemmas.file.Controls.{inside-more, controls-gate, controls-valid}
 use Rattle.circuit.proofs.lemmas.file.Texts.{line-text, control-text, controls-text, controls-tabbed, headerText}
@@ -188,7 +188,7 @@ rising-not low cs (NotRising.there c ds x) = and-second (leb low (c .line)) (ris
 
 -- a line that has a second field is not `end`
 end-fields : fieldsOf endWord ≡ endWord ∷ []
-unfolding fieldsOf
+unfolding partedBy
 end-fields = refl
 
 two-fields : (l : Line) (f t : List ℕ) (fs : List (List ℕ)) → fieldsOf (l .bytes) ≡ f ∷ t ∷ fs → isEnd l ≡ false
@@ -207,10 +207,10 @@ pub data GateFound (n i count : ℕ) (l : Line) : Outcome Gate → Type 0 where
 -- the bytes of a gate line by its fields
 gate-bytes : (l : Line) (k : ℕ) (cs : List Control) → fieldsOf (l .bytes) ≡ gateWord ∷ numberText k ∷ map controlText cs → risingFrom 0 cs ≡ true → Inside maxLines cs
     → l .bytes ≡ gateText (gateOf k cs)
-unfolding tabbed
+unfolding separated
 gate-bytes l k cs e r w =
-    sym (fields-back (l .bytes))
-    ∙ ap whole e
+    sym (parts-back tab (l .bytes))
+    ∙ ap (whole tab) e
     ∙ ap (λ (x : List ℕ). gateWord ++ (tab ∷ (numberText k ++ x))) (sym (controls-tabbed cs))
     ∙ ap (λ (x : List Control). gateWord ++ (tab ∷ (numberText k ++ controlsText x))) (sym (controls-gate k cs r w))
 
@@ -342,10 +342,10 @@ pub data HeaderFound (l : Line) : Outcome ℕ → Type 0 where
   bad : (number : ℕ) → HeaderOffence l number → HeaderFound l (refused number 0)
 
 header-bytes : (l : Line) (k : List ℕ) (n : ℕ) → fieldsOf (l .bytes) ≡ linesWord ∷ k ∷ [] → k ≡ numberText n → l .bytes ≡ headerText n
-unfolding tabbed
+unfolding separated
 header-bytes l k n e f =
-    sym (fields-back (l .bytes))
-    ∙ ap whole e
+    sym (parts-back tab (l .bytes))
+    ∙ ap (whole tab) e
     ∙ ap (λ (x : List ℕ). linesWord ++ (tab ∷ x)) (append-nil k ∙ f)
 
 module _ (l : Line) where
@@ -438,7 +438,7 @@ pub data Walked (n first : ℕ) (gs : List Gate) (at : ℕ) (r : List ℕ) : Out
       → (number : ℕ) → LineOffence n (length gs + length hs + first) (length gs + length hs) (firstLine (linesOf rest)) number → Walked n first gs at r (refused number (length gs + length hs + first))
 
 no-line : (n i count : ℕ) → LineOffence n i count noLine 1
-unfolding fieldsOf
+unfolding partedBy
 no-line n i count = laws.no-gate (λ t fs q. nil≢cons (tail-eq-of-cons-eq q)) (λ b d. false≢true d)
 
 -- a line that was cut off, and the text after it

@@ -14,7 +14,8 @@ use Rattle.circuit.specs.Text.{numberText, gateLines, textOf}
 use Rattle.circuit.specs.File.{Reading, reading, ReadCounts, gatesRead, readOutcome, readBuffer, writeOutcome, writeBuffer}
 use Rattle.circuit.specs.FileLaws.{FileCascade, Readable, Writable, RoundTrip}
 use Rattle.circuit.proofs.lemmas.Outcome.{written-served, written-refused}
-use Rattle.circuit.proofs.lemmas.words.Laws.{gates-length, gates-words, words-length, words-cascade, cascade-count, cascade-words}
+use Rattle.circuit.proofs.lemmas.words.Gates.{gates-length, gates-words, words-length}
+use Rattle.circuit.proofs.lemmas.words.Tests.{words-cascade, cascade-count, cascade-words}
 use Rattle.circuit.proofs.lemmas.file.Texts.{text-read}
 use Rattle.circuit.proofs.lemmas.file.Laws.{read-fits, read-served, write-served, served-write}
 

@@ -12,12 +12,12 @@ use Rattle.circuit.specs.Gate.{maxLines, maxGates}
 use Rattle.circuit.specs.Outcome.{Outcome, served, refused, written, Yields}
 use Rattle.circuit.specs.Refusal.{wrongForm}
 use Rattle.circuit.specs.Text.{lineFeed, endWord, endLine}
-use Rattle.circuit.specs.File.{Line, noLine, firstLine, laterLines, linesOf, lineSize, fieldsOf, same, gateFields, gateOn, headerOn, isEnd, Reading, readFrom, reading, ReadCounts, countsOf, gatesRead, readOutcome, readBuffer}
+use Rattle.circuit.specs.File.{Line, noLine, firstLine, laterLines, linesOf, lineSize, partedBy, same, gateFields, gateOn, headerOn, isEnd, Reading, readFrom, reading, ReadCounts, countsOf, gatesRead, readOutcome, readBuffer}
 use Rattle.circuit.specs.Words.{wordsOf}
 use Rattle.circuit.specs.private.Scan.{lineAt, gateNext, HeaderNext, headerNext, countsFrom}
 use Rattle.circuit.specs.private.Fill.{GatesAt}
 use Rattle.circuit.proofs.lemmas.Outcome.{never, unserved, then-served, then-refused, then-both, told}
-use Rattle.circuit.proofs.lemmas.words.Laws.{valid-all-more}
+use Rattle.circuit.proofs.lemmas.words.Gates.{valid-all-more}
 use Rattle.circuit.proofs.lemmas.file.Lines.{cut-first, same-true}
 use Rattle.circuit.proofs.lemmas.file.Offences.{GateFound, gate-found, HeaderFound, header-found, Walked, whole-text, stopped, walked}
 
@@ -80,7 +80,7 @@ module _ (n first : ℕ) (lines-high : n ≤ maxLines) (text : List ℕ) (gs : L
           q ∙ ap₂ (λ (a b : ℕ). refused a b) i j
 
       missing : gateOn n (length gs + first) (length gs) noLine ≡ refused wrongForm (length gs + first)
-      missing = unfold gateFields fieldsOf in refl
+      missing = unfold gateFields partedBy in refl
 
       go : (ls : List Line) → linesOf (drop at text) ≡ ls → gateOn n (length gs + first) (length gs) (lineAt (drop at text)) ≡ refused number place → readFrom n first gs at ls ≡ refused number place
       go [] q b =

@@ -17,9 +17,9 @@ use Rattle.circuit.specs.Text.{tab, lineFeed, plusSign, minusSign, lines
 use Rattle.circuit.specs.File.{Line, firstLine, laterLines, linesOf, lineSize, fieldsOf, same, lineOf, controlOf, controlsFrom, among, risingFrom, gateOf, closedGate, gateFields, gateOn, headerFields, headerOn, readFrom, reading}
 use Rattle.circuit.specs.FileLaws.{FileCascade}
 use Rattle.circuit.proofs.lemmas.Outcome.{demand-met, then-served}
-use Rattle.circuit.proofs.lemmas.gate.Laws.{valid-facts, valid-more}
-use Rattle.circuit.proofs.lemmas.words.Laws.{good-lines}
-use Rattle.circuit.proofs.lemmas.file.Lines.{lines-cut, tabbed, fields-cut, fields-one, allFree, fields-joined, same-self}
+use Rattle.circuit.proofs.lemmas.gate.Valid.{valid-facts, valid-more}
+use Rattle.circuit.proofs.lemmas.words.Tests.{good-lines}
+use Rattle.circuit.proofs.lemmas.file.Lines.{lines-cut, separated, parts-cut, parts-one, allFree, parts-joined, same-self}
 use Rattle.circuit.proofs.lemmas.file.Numbers.{number-free, number-text}
 use Rattle.circuit.proofs.lemmas.file.Controls.{gate-controls, target-apart, controls-rising, controls-inside}
 
@@ -45,8 +45,8 @@ controls-text n i cs (d ∷ ds) w l =
     ∙ ap served (append-assoc cs (d ∷ []) ds)
 
 -- the controls of a line are fields, each after a tab
-pub controls-tabbed : (cs : List Control) → controlsText cs ≡ tabbed (map controlText cs)
-unfolding controlsText tabbed
+pub controls-tabbed : (cs : List Control) → controlsText cs ≡ separated tab (map controlText cs)
+unfolding controlsText separated
 controls-tabbed [] = refl
 controls-tabbed (c ∷ cs) = ap (λ (l : List ℕ). (tab ∷ controlText c) ++ l) (controls-tabbed cs)
 
@@ -63,10 +63,10 @@ unfolding allFree
 controls-free s n [] h l w = refl
 controls-free s n (c ∷ cs) h l w = both (control-free s c h (omega (arith, w .0))) (controls-free s n cs h l (w .1))
 
-tabbed-free : (fs : List (List ℕ)) → allFree lineFeed fs ≡ true → free lineFeed (tabbed fs) ≡ true
-unfolding free tabbed allFree
+tabbed-free : (fs : List (List ℕ)) → allFree lineFeed fs ≡ true → free lineFeed (separated tab fs) ≡ true
+unfolding free separated allFree
 tabbed-free [] p = refl
-tabbed-free (f ∷ fs) p = let (a, b) = and-parts (free lineFeed f) (allFree lineFeed fs) p in free-append lineFeed f (tabbed fs) a (tabbed-free fs b)
+tabbed-free (f ∷ fs) p = let (a, b) = and-parts (free lineFeed f) (allFree lineFeed fs) p in free-append lineFeed f (separated tab fs) a (tabbed-free fs b)
 
 -- ---- a gate line
 
@@ -76,10 +76,10 @@ module _ (n : ℕ) (lines-high : n ≤ maxLines) where
       → fieldsOf (gateWord ++ (tab ∷ (numberText t ++ controlsText cs))) ≡ gateWord ∷ numberText t ∷ map controlText cs
   unfolding free
   gate-fields t cs h w =
-      fields-cut gateWord (numberText t ++ controlsText cs) refl
+      parts-cut tab gateWord (numberText t ++ controlsText cs) refl
       ∙ ap (λ (l : List (List ℕ)). gateWord ∷ l)
       (ap (λ (x : List ℕ). fieldsOf (numberText t ++ x)) (controls-tabbed cs)
-      ∙ fields-joined (numberText t) (map controlText cs) (number-free tab t (omega arith) (omega arith)) (controls-free tab n cs (omega arith) (omega arith) w))
+      ∙ parts-joined tab (numberText t) (map controlText cs) (number-free tab t (omega arith) (omega arith)) (controls-free tab n cs (omega arith) (omega arith) w))
 
   -- its bytes have no LF
   pub gate-free : (t : ℕ) (cs : List Control) → t < n → Inside n cs → free lineFeed (gateWord ++ (tab ∷ (numberText t ++ controlsText cs))) ≡ true
@@ -139,8 +139,8 @@ headerText n = linesWord ++ (tab ∷ numberText n)
 pub header-fields : (n : ℕ) → n ≤ maxLines → fieldsOf (headerText n) ≡ linesWord ∷ numberText n ∷ []
 unfolding free
 header-fields n h =
-    fields-cut linesWord (numberText n) refl
-    ∙ ap (λ (l : List (List ℕ)). linesWord ∷ l) (fields-one (numberText n) (number-free tab n (omega arith) (omega arith)))
+    parts-cut tab linesWord (numberText n) refl
+    ∙ ap (λ (l : List (List ℕ)). linesWord ∷ l) (parts-one tab (numberText n) (number-free tab n (omega arith) (omega arith)))
 
 pub header-line : (n : ℕ) (r : List ℕ) → n ≤ maxLines → linesOf (headerLine n ++ r) ≡ record { bytes = headerText n; ended = true } ∷ linesOf r
 unfolding free

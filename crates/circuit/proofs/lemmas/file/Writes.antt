@@ -18,8 +18,8 @@ use Rattle.circuit.specs.Text.{headerLine, gateLine, gateLines, endLine,
 use Rattle.circuit.specs.File.{writeOutcome, writeBuffer}
 use Rattle.circuit.specs.private.Scan.{width}
 use Rattle.circuit.proofs.lemmas.Outcome.{demand-met, demand-failed, then-served, then-refused, told}
-use Rattle.circuit.proofs.lemmas.gate.Laws.{valid-facts}
-use Rattle.circuit.proofs.lemmas.words.Laws.{gates-next, gates-end}
+use Rattle.circuit.proofs.lemmas.gate.Valid.{valid-facts}
+use Rattle.circuit.proofs.lemmas.words.Gates.{gates-next, gates-end}
 use Rattle.circuit.proofs.lemmas.file.scan.Laws.{width-two}
 use Rattle.circuit.proofs.lemmas.file.put.Laws.{Written, written-none, written-more, written-put, put-as, header-length}
 

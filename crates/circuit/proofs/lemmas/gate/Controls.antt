@@ -14,7 +14,8 @@ use Rattle.bits.proofs.Bools.{and-parts, both, either, same-test}
 use Rattle.bits.proofs.Digits.{bit-or, bit-above, lines-ones}
 use Rattle.circuit.specs.declared.gate.Gate.{Gate}
 use Rattle.circuit.specs.Gate.{maxLines, valid, fires, controlCount, Control, controlAt, controlsBelow, controlsOf, met, allMet}
-use Rattle.circuit.proofs.lemmas.gate.Laws.{Valid, valid-facts, valid-apart, fires-lines, lines-fires}
+use Rattle.circuit.proofs.lemmas.gate.Valid.{Valid, valid-facts, valid-apart}
+use Rattle.circuit.proofs.lemmas.gate.Effect.{fires-lines, lines-fires}
 
 pub met-none : (s : ℕ) → allMet s [] ≡ true
 unfolding allMet

@@ -2,7 +2,7 @@
 use mathlib.Core.Path.{_≡_, refl, sym, ap, _∙_, subst}
 use mathlib.Core.Logic.{_↔_}
 use mathlib.Core.Bool.{Bool, true, cond}
-use mathlib.Core.List.{List, [], _∷_, _++_, reverse, reverse-cons}
+use mathlib.Core.List.{List, [], _∷_, _++_, reverse, reverse-cons, reverse-append, reverse-reverse}
 use Prim.Native.Nat.{ℕ, _+_, _-_, _*_, _/_, _≤_, _<_}
 use native.Mathlib.Omega.{arith}
 use lib.Dec.{leb}
@@ -12,7 +12,7 @@ use borrow.Author.Tests.{le-leb, lt-leb, leb-true}
 use borrow.Rule.Slice.PartMut.{putMid}
 use Rattle.bits.specs.Lists.{over}
 use Rattle.bits.proofs.Bools.{and-parts, both}
-use Rattle.bits.proofs.Lists.{lent-over, fold-back, reverse-append, reverse-twice}
+use Rattle.bits.proofs.Lists.{lent-over, fold-back}
 use Rattle.circuit.specs.declared.gate.Gate.{Gate}
 use Rattle.circuit.specs.Gate.{maxGates, valid, apply}
 use Rattle.circuit.specs.Outcome.{Outcome, served, refused, written, Untouched, Yields}
@@ -21,9 +21,10 @@ use Rattle.circuit.specs.Words.{gateAt, gateWords, gatesOf, wordsOf, all
 use Rattle.circuit.specs.Inverse.{inverse, putInverse, inverseOutcome, inverseBuffer}
 use Rattle.circuit.specs.Run.{run}
 use Rattle.circuit.specs.Laws.{InverseRefused, InverseStands}
-use Rattle.circuit.proofs.lemmas.gate.Laws.{apply-twice}
+use Rattle.circuit.proofs.lemmas.gate.Effect.{apply-twice}
 use Rattle.circuit.proofs.lemmas.Outcome.{demand-met, demand-failed, then-served, then-refused, then-both, demanded, written-refused, told, above}
-use Rattle.circuit.proofs.lemmas.words.Laws.{words-wrong, gates-next, gates-end, gates-length, words-length, gates-words, words-reverse, valid-append, words-cascade, cascade-count, cascade-words, check-served, served-check}
+use Rattle.circuit.proofs.lemmas.words.Gates.{gates-next, gates-end, gates-length, words-length, gates-words, words-reverse, valid-append}
+use Rattle.circuit.proofs.lemmas.words.Tests.{words-wrong, words-cascade, cascade-count, cascade-words, check-served, served-check}
 
 -- the words of the gates from j on, in reverse order
 abbrev pub tailBack : List ℕ → ℕ → List ℕ
@@ -69,7 +70,7 @@ pub run-inverse : (gs : List Gate) (s : ℕ) → run (inverse gs) (run gs s) ≡
 run-inverse gs s = fold-back apply apply-twice gs s
 
 pub inverse-twice : (gs : List Gate) → inverse (inverse gs) ≡ gs
-inverse-twice gs = reverse-twice gs
+inverse-twice gs = reverse-reverse gs
 
 pub inverse-run : (gs : List Gate) (s : ℕ) → run gs (run (inverse gs) s) ≡ s
 inverse-run gs s = ap (λ (l : List Gate). run l (run (inverse gs) s)) (sym (inverse-twice gs)) ∙ run-inverse (inverse gs) s

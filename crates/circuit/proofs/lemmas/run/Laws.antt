@@ -18,8 +18,9 @@ use Rattle.circuit.specs.Words.{gateAt, gatesOf, allValid, lineCountGood
 use Rattle.circuit.specs.Run.{run, runTested, Equal, Differs, runOutcome}
 use Rattle.circuit.specs.Laws.{RunRefused}
 use Rattle.circuit.proofs.lemmas.Outcome.{demand-met, demand-failed, then-served, then-refused, then-both, then-fails, demanded, at-least}
-use Rattle.circuit.proofs.lemmas.gate.Laws.{apply-below, toggled-apply}
-use Rattle.circuit.proofs.lemmas.words.Laws.{words-wrong, gates-next, gates-end, check-lines, check-gates, gates-refused, gates-sized, check-served, served-check}
+use Rattle.circuit.proofs.lemmas.gate.Effect.{apply-below, toggled-apply}
+use Rattle.circuit.proofs.lemmas.words.Gates.{gates-next, gates-end}
+use Rattle.circuit.proofs.lemmas.words.Tests.{words-wrong, check-lines, check-gates, gates-refused, gates-sized, check-served, served-check}
 
 -- a turn over the words: gate i acts, by the rule f, and the others after it
 module _ (f : Gate → ℕ → ℕ) where

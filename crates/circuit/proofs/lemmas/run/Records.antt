@@ -20,7 +20,8 @@ use Rattle.circuit.specs.Run.{run, runOutcome, recordsOutcome}
 use Rattle.circuit.specs.private.Records.{begun, goesOn, advanced, ended}
 use Rattle.circuit.specs.Laws.{RunRefused}
 use Rattle.circuit.proofs.lemmas.Outcome.{demand-met, demand-failed, then-refused}
-use Rattle.circuit.proofs.lemmas.words.Laws.{words-length, gates-words, from-good, from-bad, lines-good, size-good, size-many, gates-sized, check-gates, cascade-count}
+use Rattle.circuit.proofs.lemmas.words.Gates.{words-length, gates-words}
+use Rattle.circuit.proofs.lemmas.words.Tests.{from-good, from-bad, lines-good, size-good, size-many, gates-sized, check-gates, cascade-count}
 use Rattle.circuit.proofs.lemmas.run.Laws.{run-lines, run-size, run-served, served-run, run-refused}
 
 -- ---- gate by gate

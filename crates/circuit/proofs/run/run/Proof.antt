@@ -8,7 +8,7 @@ use Rattle.circuit.specs.Outcome.{served}
 use Rattle.circuit.specs.Words.{ofCount, lineCountGood, sizeOutcome}
 use Rattle.circuit.specs.Run.{ofRun}
 use Rattle.circuit.proofs.lemmas.Outcome.{why}
-use Rattle.circuit.proofs.lemmas.words.Laws.{lines-good}
+use Rattle.circuit.proofs.lemmas.words.Tests.{lines-good}
 use Rattle.circuit.proofs.lemmas.run.Laws.{run-lines, run-size, run-gate, run-outside, run-made}
 use Rattle.circuit.proofs.run.run.Statement.{statement}
 use Rattle.circuit.proofs.run.run.Tie as tie

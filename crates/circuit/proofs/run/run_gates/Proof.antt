@@ -10,8 +10,9 @@ use Rattle.circuit.specs.Outcome.{served}
 use Rattle.circuit.specs.Words.{gatesOf, validFrom}
 use Rattle.circuit.specs.Run.{run}
 use Rattle.circuit.proofs.lemmas.Outcome.{why, then-served, then-refused}
-use Rattle.circuit.proofs.lemmas.gate.Laws.{valid-more, toggled-apply}
-use Rattle.circuit.proofs.lemmas.words.Laws.{next-good, next-bad, none-left}
+use Rattle.circuit.proofs.lemmas.gate.Valid.{valid-more}
+use Rattle.circuit.proofs.lemmas.gate.Effect.{toggled-apply}
+use Rattle.circuit.proofs.lemmas.words.Tests.{next-good, next-bad, none-left}
 use Rattle.circuit.proofs.lemmas.run.Laws.{fold-turn, fold-end}
 use Rattle.circuit.proofs.run.run_gates.Statement.{statement}
 use Rattle.circuit.proofs.run.run_gates.Tie as tie

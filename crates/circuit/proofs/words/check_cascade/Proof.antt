@@ -3,7 +3,7 @@ use mathlib.Core.Path.{sym, _∙_}
 use borrow.Author.Needs.{needs}
 use borrow.Author.Tests.{not-true, not-false}
 use Rattle.circuit.proofs.lemmas.Outcome.{why}
-use Rattle.circuit.proofs.lemmas.words.Laws.{check-lines, check-gates}
+use Rattle.circuit.proofs.lemmas.words.Tests.{check-lines, check-gates}
 use Rattle.circuit.proofs.words.check_cascade.Statement.{statement}
 use Rattle.circuit.proofs.words.check_cascade.Tie as tie
 

@@ -8,7 +8,7 @@ use borrow.Author.Tests.{not-true, not-false}
 use Rattle.circuit.specs.Outcome.{served}
 use Rattle.circuit.specs.Words.{gatesOf, validFrom}
 use Rattle.circuit.proofs.lemmas.Outcome.{why}
-use Rattle.circuit.proofs.lemmas.words.Laws.{next-good, next-bad, none-left}
+use Rattle.circuit.proofs.lemmas.words.Tests.{next-good, next-bad, none-left}
 use Rattle.circuit.proofs.words.check_each.Statement.{statement}
 use Rattle.circuit.proofs.words.check_each.Tie as tie
 

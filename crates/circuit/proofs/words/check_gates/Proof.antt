@@ -2,7 +2,7 @@
 use mathlib.Core.Path.{sym, ap, _∙_}
 use borrow.Author.Needs.{needs}
 use Rattle.circuit.specs.Words.{ofCount}
-use Rattle.circuit.proofs.lemmas.words.Laws.{gates-refused, gates-sized}
+use Rattle.circuit.proofs.lemmas.words.Tests.{gates-refused, gates-sized}
 use Rattle.circuit.proofs.words.check_gates.Statement.{statement}
 use Rattle.circuit.proofs.words.check_gates.Tie as tie
 

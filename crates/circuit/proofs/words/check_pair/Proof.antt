@@ -5,7 +5,7 @@ use Rattle.circuit.specs.Gate.{maxGates}
 use Rattle.circuit.specs.Outcome.{served}
 use Rattle.circuit.specs.Words.{ofCount, checkOutcome}
 use Rattle.circuit.proofs.lemmas.Outcome.{why}
-use Rattle.circuit.proofs.lemmas.words.Laws.{pair-first, pair-second, pair-differ, pair-good}
+use Rattle.circuit.proofs.lemmas.words.Tests.{pair-first, pair-second, pair-differ, pair-good}
 use Rattle.circuit.proofs.words.check_pair.Statement.{statement}
 use Rattle.circuit.proofs.words.check_pair.Tie as tie
 

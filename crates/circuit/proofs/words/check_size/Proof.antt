@@ -3,7 +3,7 @@ use mathlib.Core.Path.{sym, _∙_}
 use native.Mathlib.Omega.{arith}
 use borrow.Author.Needs.{needs}
 use Rattle.circuit.proofs.lemmas.Outcome.{why}
-use Rattle.circuit.proofs.lemmas.words.Laws.{size-uneven, size-many, size-good}
+use Rattle.circuit.proofs.lemmas.words.Tests.{size-uneven, size-many, size-good}
 use Rattle.circuit.proofs.words.check_size.Statement.{statement}
 use Rattle.circuit.proofs.words.check_size.Tie as tie
 

@@ -2,7 +2,7 @@
 use mathlib.Core.Path.{sym, _∙_}
 use native.Mathlib.Omega.{arith}
 use borrow.Author.Needs.{needs}
-use Rattle.circuit.proofs.lemmas.words.Laws.{gate-at, gate-none}
+use Rattle.circuit.proofs.lemmas.words.Gates.{gate-at, gate-none}
 use Rattle.circuit.proofs.words.gate_at.Statement.{statement}
 use Rattle.circuit.proofs.words.gate_at.Tie as tie
 

@@ -2,7 +2,7 @@
 use mathlib.Core.Path.{sym, _∙_}
 use native.Mathlib.Omega.{arith}
 use borrow.Author.Needs.{needs}
-use Rattle.circuit.proofs.lemmas.words.Laws.{put-fits, put-short}
+use Rattle.circuit.proofs.lemmas.words.Gates.{put-fits, put-short}
 use Rattle.circuit.proofs.words.put_gate.Statement.{statement}
 use Rattle.circuit.proofs.words.put_gate.Tie as tie
 

@@ -1,11 +1,11 @@
 -- `text::plain::put_both` meets its contract. Assumes nothing.
 use mathlib.Core.Path.{_≡_, ap, ap₂}
 use mathlib.Core.List.{List, [], _∷_}
-use mir.Syntax.{w16}
 use mir.Val.{toZ, ofZ}
 use lib.IntN.{ℤ, negℤ}
 use lib.ListN.{length}
 use Rattle.circuit.proofs.Promises.{put-as}
+use Rattle.checking.specs.Stored.{wordWidth}
 use Rattle.checking.specs.Clauses.{Clause, OR}
 use Rattle.text.specs.Dimacs.{clausesText}
 use Rattle.text.specs.private.Words.{bothOrs}
@@ -16,15 +16,15 @@ use Rattle.text.proofs.plain.put_both.Statement.{statement}
 use Rattle.text.proofs.plain.put_both.Tie as tie
 
 -- the literals of the first OR and of the second one
-first : (s : tie.Start) → toZ w16 (ofZ w16 (s .args .a)) ∷ toZ w16 (ofZ w16 (s .args .b)) ∷ toZ w16 (ofZ w16 (s .args .c)) ∷ [] ≡ s .args .a ∷ s .args .b ∷ s .args .c ∷ []
+first : (s : tie.Start) → toZ wordWidth (ofZ wordWidth (s .args .a)) ∷ toZ wordWidth (ofZ wordWidth (s .args .b)) ∷ toZ wordWidth (ofZ wordWidth (s .args .c)) ∷ [] ≡ s .args .a ∷ s .args .b ∷ s .args .c ∷ []
 first s = three-words (s .args .a) (s .args .b) (s .args .c) (s .fits .a) (s .fits .b) (s .fits .c)
 
-second : (c : tie.After-negated2) → let s = c .before .before .before in toZ w16 (ofZ w16 (s .args .a)) ∷ toZ w16 (ofZ w16 (c .before .negated .result)) ∷ toZ w16 (ofZ w16 (c .negated2 .result)) ∷ [] ≡ s .args .a ∷ negℤ (s .args .b) ∷ negℤ (s .args .c) ∷ []
+second : (c : tie.After-negated2) → let s = c .before .before .before in toZ wordWidth (ofZ wordWidth (s .args .a)) ∷ toZ wordWidth (ofZ wordWidth (c .before .negated .result)) ∷ toZ wordWidth (ofZ wordWidth (c .negated2 .result)) ∷ [] ≡ s .args .a ∷ negℤ (s .args .b) ∷ negℤ (s .args .c) ∷ []
 second c =
     let s = c .before .before .before in
     ap₂ (λ (x : ℤ) (l : List ℤ). x ∷ l) (word-is (s .args .a) (s .fits .a)) (ap₂ (λ (x y : ℤ). x ∷ y ∷ []) (passed-opposite (s .args .b) _ (s .fits .b) (s .pre .0 .0) (c .before .negated .ensures)) (passed-opposite (s .args .c) _ (s .fits .c) (s .pre .0 .1) (c .negated2 .ensures)))
 
-written : (c : tie.After-negated2) → let s = c .before .before .before in OR (toZ w16 (ofZ w16 (s .args .a)) ∷ toZ w16 (ofZ w16 (s .args .b)) ∷ toZ w16 (ofZ w16 (s .args .c)) ∷ []) ∷ OR (toZ w16 (ofZ w16 (s .args .a)) ∷ toZ w16 (ofZ w16 (c .before .negated .result)) ∷ toZ w16 (ofZ w16 (c .negated2 .result)) ∷ []) ∷ [] ≡ bothOrs (s .args .a) (s .args .b) (s .args .c)
+written : (c : tie.After-negated2) → let s = c .before .before .before in OR (toZ wordWidth (ofZ wordWidth (s .args .a)) ∷ toZ wordWidth (ofZ wordWidth (s .args .b)) ∷ toZ wordWidth (ofZ wordWidth (s .args .c)) ∷ []) ∷ OR (toZ wordWidth (ofZ wordWidth (s .args .a)) ∷ toZ wordWidth (ofZ wordWidth (c .before .negated .result)) ∷ toZ wordWidth (ofZ wordWidth (c .negated2 .result)) ∷ []) ∷ [] ≡ bothOrs (s .args .a) (s .args .b) (s .args .c)
 written c =
     let s = c .before .before .before in
     ap₂ (λ (l m : List ℤ). OR l ∷ OR m ∷ []) (first s) (second c)

@@ -1,11 +1,11 @@
 -- `text::plain::put_pair` meets its contract. Assumes nothing.
 use mathlib.Core.Path.{_≡_, sym, ap, ap₂, _∙_}
 use mathlib.Core.List.{List, [], _∷_}
-use mir.Syntax.{w16}
 use mir.Val.{toZ, ofZ}
 use lib.IntN.{ℤ, negℤ}
 use lib.ListN.{length}
 use Rattle.circuit.proofs.Promises.{put-as}
+use Rattle.checking.specs.Stored.{wordWidth}
 use Rattle.checking.specs.Clauses.{Clause, OR, XOR}
 use Rattle.text.specs.Dimacs.{clausesText}
 use Rattle.text.specs.Plain.{plainClause}
@@ -15,15 +15,15 @@ use Rattle.text.proofs.plain.put_pair.Statement.{statement}
 use Rattle.text.proofs.plain.put_pair.Tie as tie
 
 -- the literals of the first OR and of the second one
-first : (s : tie.Start) → toZ w16 (ofZ w16 (s .args .a)) ∷ toZ w16 (ofZ w16 (s .args .b)) ∷ [] ≡ s .args .a ∷ s .args .b ∷ []
+first : (s : tie.Start) → toZ wordWidth (ofZ wordWidth (s .args .a)) ∷ toZ wordWidth (ofZ wordWidth (s .args .b)) ∷ [] ≡ s .args .a ∷ s .args .b ∷ []
 first s = two-words (s .args .a) (s .args .b) (s .fits .a) (s .fits .b)
 
-second : (c : tie.After-negated2) → let s = c .before .before .before in toZ w16 (ofZ w16 (c .before .negated .result)) ∷ toZ w16 (ofZ w16 (c .negated2 .result)) ∷ [] ≡ negℤ (s .args .a) ∷ negℤ (s .args .b) ∷ []
+second : (c : tie.After-negated2) → let s = c .before .before .before in toZ wordWidth (ofZ wordWidth (c .before .negated .result)) ∷ toZ wordWidth (ofZ wordWidth (c .negated2 .result)) ∷ [] ≡ negℤ (s .args .a) ∷ negℤ (s .args .b) ∷ []
 second c =
     let s = c .before .before .before in
     ap₂ (λ (x y : ℤ). x ∷ y ∷ []) (passed-opposite (s .args .a) _ (s .fits .a) (s .pre .0 .0) (c .before .negated .ensures)) (passed-opposite (s .args .b) _ (s .fits .b) (s .pre .0 .1) (c .negated2 .ensures))
 
-written : (c : tie.After-negated2) → let s = c .before .before .before in OR (toZ w16 (ofZ w16 (s .args .a)) ∷ toZ w16 (ofZ w16 (s .args .b)) ∷ []) ∷ OR (toZ w16 (ofZ w16 (c .before .negated .result)) ∷ toZ w16 (ofZ w16 (c .negated2 .result)) ∷ []) ∷ [] ≡ plainClause (XOR (s .args .a ∷ s .args .b ∷ []))
+written : (c : tie.After-negated2) → let s = c .before .before .before in OR (toZ wordWidth (ofZ wordWidth (s .args .a)) ∷ toZ wordWidth (ofZ wordWidth (s .args .b)) ∷ []) ∷ OR (toZ wordWidth (ofZ wordWidth (c .before .negated .result)) ∷ toZ wordWidth (ofZ wordWidth (c .negated2 .result)) ∷ []) ∷ [] ≡ plainClause (XOR (s .args .a ∷ s .args .b ∷ []))
 written c =
     let s = c .before .before .before in
     ap₂ (λ (l m : List ℤ). OR l ∷ OR m ∷ []) (first s) (second c) ∙ sym (pair-parts (s .args .a) (s .args .b))

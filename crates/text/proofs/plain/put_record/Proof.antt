@@ -3,9 +3,9 @@ use mathlib.Core.Path.{_≡_, sym, ap, ap₂, _∙_}
 use mathlib.Core.List.{List, [], _∷_}
 use lib.IntN.{ℤ}
 use lib.ListN.{length}
-use mir.Syntax.{w16}
 use mir.Val.{toZ, ofZ}
 use Rattle.circuit.proofs.Promises.{put-as}
+use Rattle.checking.specs.Stored.{wordWidth}
 use Rattle.checking.specs.Clauses.{Clause, XOR}
 use Rattle.text.specs.Dimacs.{clausesText}
 use Rattle.text.specs.Plain.{plainClause}
@@ -16,11 +16,11 @@ use Rattle.text.proofs.plain.put_record.Statement.{statement}
 use Rattle.text.proofs.plain.put_record.Tie as tie
 
 -- the clauses of the literals that were passed on
-two-passed : (z : ℤ) (ls : List ℤ) → Two z ls → plainClause (XOR (toZ w16 (ofZ w16 (at-place ls 0)) ∷ toZ w16 (ofZ w16 (at-place ls 1)) ∷ [])) ≡ plainRecord z ls
+two-passed : (z : ℤ) (ls : List ℤ) → Two z ls → plainClause (XOR (toZ wordWidth (ofZ wordWidth (at-place ls 0)) ∷ toZ wordWidth (ofZ wordWidth (at-place ls 1)) ∷ [])) ≡ plainRecord z ls
 two-passed z ls t = ap₂ (λ (x y : ℤ). plainClause (XOR (x ∷ y ∷ []))) (small-word _ (t .first)) (small-word _ (t .second)) ∙ sym (t .record-is)
 
 three-passed : (z : ℤ) (ls : List ℤ) → Three z ls
-    → plainClause (XOR (toZ w16 (ofZ w16 (at-place ls 0)) ∷ toZ w16 (ofZ w16 (at-place ls 1)) ∷ toZ w16 (ofZ w16 (at-place ls 2)) ∷ [])) ≡ plainRecord z ls
+    → plainClause (XOR (toZ wordWidth (ofZ wordWidth (at-place ls 0)) ∷ toZ wordWidth (ofZ wordWidth (at-place ls 1)) ∷ toZ wordWidth (ofZ wordWidth (at-place ls 2)) ∷ [])) ≡ plainRecord z ls
 three-passed z ls t =
     ap₂ (λ (x : ℤ) (l : List ℤ). plainClause (XOR (x ∷ l))) (small-word _ (t .first)) (ap₂ (λ (x y : ℤ). x ∷ y ∷ []) (small-word _ (t .second)) (small-word _ (t .third)))
     ∙ sym (t .record-is)

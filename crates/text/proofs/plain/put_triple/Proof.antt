@@ -1,11 +1,10 @@
 -- `text::plain::put_triple` meets its contract. Assumes nothing.
 use mathlib.Core.Path.{_≡_, sym, ap, ap₂, _∙_}
-use mathlib.Core.List.{List, [], _∷_, _++_}
+use mathlib.Core.List.{List, [], _∷_}
 use Prim.Native.Nat.{_+_, _<_}
-use mir.Syntax.{w16}
 use mir.Val.{SFits, toZ, ofZ}
 use Rattle.checking.specs.Satisfaction.{variableOf}
-use Rattle.checking.specs.Stored.{wordLimit}
+use Rattle.checking.specs.Stored.{wordWidth, wordLimit}
 use Rattle.checking.proofs.Promises.{neg-size}
 use native.Mathlib.Omega.{arith}
 use lib.IntN.{ℤ, negℤ}
@@ -22,17 +21,17 @@ use Rattle.text.proofs.plain.put_triple.Statement.{statement}
 use Rattle.text.proofs.plain.put_triple.Tie as tie
 
 -- a literal that is passed on is as small
-small-passed : (z : ℤ) → SFits w16 z → variableOf z < wordLimit → variableOf (toZ w16 (ofZ w16 z)) < wordLimit
+small-passed : (z : ℤ) → SFits wordWidth z → variableOf z < wordLimit → variableOf (toZ wordWidth (ofZ wordWidth z)) < wordLimit
 small-passed z f h = omega (arith, ap variableOf (word-is z f))
 
 -- the first half and the second one
-first : (s : tie.Start) → bothOrs (toZ w16 (ofZ w16 (s .args .a))) (toZ w16 (ofZ w16 (s .args .b))) (toZ w16 (ofZ w16 (s .args .c))) ≡ bothOrs (s .args .a) (s .args .b) (s .args .c)
-first s = ap₂ (λ (x y : ℤ). bothOrs x y (toZ w16 (ofZ w16 (s .args .c)))) (word-is (s .args .a) (s .fits .a)) (word-is (s .args .b) (s .fits .b)) ∙ ap (bothOrs (s .args .a) (s .args .b)) (word-is (s .args .c) (s .fits .c))
+first : (s : tie.Start) → bothOrs (toZ wordWidth (ofZ wordWidth (s .args .a))) (toZ wordWidth (ofZ wordWidth (s .args .b))) (toZ wordWidth (ofZ wordWidth (s .args .c))) ≡ bothOrs (s .args .a) (s .args .b) (s .args .c)
+first s = ap₂ (λ (x y : ℤ). bothOrs x y (toZ wordWidth (ofZ wordWidth (s .args .c)))) (word-is (s .args .a) (s .fits .a)) (word-is (s .args .b) (s .fits .b)) ∙ ap (bothOrs (s .args .a) (s .args .b)) (word-is (s .args .c) (s .fits .c))
 
-second : (c : tie.After-negated2) → let s = c .before .before .before .before .before .before .before .before in bothOrs (toZ w16 (ofZ w16 (c .before .negated .result))) (toZ w16 (ofZ w16 (s .args .b))) (toZ w16 (ofZ w16 (c .negated2 .result))) ≡ bothOrs (negℤ (s .args .a)) (s .args .b) (negℤ (s .args .c))
+second : (c : tie.After-negated2) → let s = c .before .before .before .before .before .before .before .before in bothOrs (toZ wordWidth (ofZ wordWidth (c .before .negated .result))) (toZ wordWidth (ofZ wordWidth (s .args .b))) (toZ wordWidth (ofZ wordWidth (c .negated2 .result))) ≡ bothOrs (negℤ (s .args .a)) (s .args .b) (negℤ (s .args .c))
 second c =
     let s = c .before .before .before .before .before .before .before .before in
-    ap₂ (λ (x y : ℤ). bothOrs x y (toZ w16 (ofZ w16 (c .negated2 .result)))) (passed-opposite (s .args .a) _ (s .fits .a) (s .pre .0 .0) (c .before .negated .ensures)) (word-is (s .args .b) (s .fits .b)) ∙ ap (bothOrs (negℤ (s .args .a)) (s .args .b)) (passed-opposite (s .args .c) _ (s .fits .c) (s .pre .0 .2) (c .negated2 .ensures))
+    ap₂ (λ (x y : ℤ). bothOrs x y (toZ wordWidth (ofZ wordWidth (c .negated2 .result)))) (passed-opposite (s .args .a) _ (s .fits .a) (s .pre .0 .0) (c .before .negated .ensures)) (word-is (s .args .b) (s .fits .b)) ∙ ap (bothOrs (negℤ (s .args .a)) (s .args .b)) (passed-opposite (s .args .c) _ (s .fits .c) (s .pre .0 .2) (c .negated2 .ensures))
 
 halves : (s : tie.Start) → length (clausesText (plainClause (XOR (s .args .a ∷ s .args .b ∷ s .args .c ∷ [])))) ≡ length (clausesText (bothOrs (s .args .a) (s .args .b) (s .args .c))) + length (clausesText (bothOrs (negℤ (s .args .a)) (s .args .b) (negℤ (s .args .c))))
 halves s = ap (λ (cs : List Clause). length (clausesText cs)) (triple-parts (s .args .a) (s .args .b) (s .args .c)) ∙ clauses-long (bothOrs (s .args .a) (s .args .b) (s .args .c)) (bothOrs (negℤ (s .args .a)) (s .args .b) (negℤ (s .args .c)))

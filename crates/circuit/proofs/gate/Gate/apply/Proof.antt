@@ -1,7 +1,7 @@
 -- `circuit::gate::Gate::apply` meets its contract. Assumes nothing.
 use mathlib.Core.Path.{sym, _∙_}
 use borrow.Author.Needs.{needs}
-use Rattle.circuit.proofs.lemmas.gate.Laws.{toggled-apply, apply-none}
+use Rattle.circuit.proofs.lemmas.gate.Effect.{toggled-apply, apply-none}
 use Rattle.circuit.proofs.gate.Gate.apply.Statement.{statement}
 use Rattle.circuit.proofs.gate.Gate.apply.Tie as tie
 

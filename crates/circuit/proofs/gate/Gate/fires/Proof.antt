@@ -1,6 +1,6 @@
 -- `circuit::gate::Gate::fires` meets its contract. Assumes nothing.
 use Rattle.circuit.specs.Gate.{fires}
-use Rattle.circuit.proofs.lemmas.gate.Laws.{fires-missed}
+use Rattle.circuit.proofs.lemmas.gate.Effect.{fires-missed}
 use Rattle.circuit.proofs.gate.Gate.fires.Statement.{statement}
 use Rattle.circuit.proofs.gate.Gate.fires.Tie as tie
 

@@ -5,7 +5,7 @@ use lib.Dec.{eqb}
 use lib.Bits.{bitAnd, bitOr, bitXor}
 use borrow.Author.Needs.{needs}
 use Rattle.circuit.specs.Gate.{maxLines, toggled}
-use Rattle.circuit.proofs.lemmas.gate.Laws.{shifted}
+use Rattle.circuit.proofs.lemmas.gate.Effect.{shifted}
 use Rattle.circuit.proofs.gate.Gate.toggle.Statement.{statement}
 use Rattle.circuit.proofs.gate.Gate.toggle.Tie as tie
 

@@ -10,7 +10,7 @@ use borrow.Author.Tests.{lt-ltb, not-true, not-false}
 use Rattle.bits.proofs.Bools.{refuted}
 use Rattle.circuit.specs.declared.gate.Gate.{Gate}
 use Rattle.circuit.specs.Gate.{maxLines, valid}
-use Rattle.circuit.proofs.lemmas.gate.Laws.{not-valid, valid-last, both-below}
+use Rattle.circuit.proofs.lemmas.gate.Valid.{not-valid, valid-last, both-below}
 use Rattle.circuit.proofs.gate.Gate.valid.Statement.{statement}
 use Rattle.circuit.proofs.gate.Gate.valid.Tie as tie
 

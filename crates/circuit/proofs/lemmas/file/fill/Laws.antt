@@ -21,8 +21,8 @@ use Rattle.circuit.specs.declared.file.fill.GateRead.{GateRead}
 use Rattle.circuit.specs.Text.{tab, lineFeed, plusSign, minusSign, digit, numberText, controlText, controlsText, gateLine, gateLines}
 use Rattle.circuit.specs.File.{maskOf, gateOf}
 use Rattle.circuit.specs.private.Fill.{StandsAt, NumberAt, ControlsAt, GateAt, GatesAt}
-use Rattle.circuit.proofs.lemmas.gate.Laws.{valid-facts}
-use Rattle.circuit.proofs.lemmas.words.Laws.{words-append, words-length, put-fits}
+use Rattle.circuit.proofs.lemmas.gate.Valid.{valid-facts}
+use Rattle.circuit.proofs.lemmas.words.Gates.{words-append, words-length, put-fits}
 use Rattle.circuit.proofs.lemmas.file.Numbers.{text-short, text-long}
 use Rattle.circuit.proofs.lemmas.file.Controls.{mask-push, gate-controls, controls-inside}
 use Rattle.circuit.proofs.lemmas.file.put.Laws.{rest-length}

@@ -19,7 +19,7 @@ use Rattle.circuit.specs.Text.{tab, lineFeed, linesWord, gateWord, endWo
 use Rattle.circuit.specs.File.{Line, noLine, firstLine, linesOf, lineSize, longer, fieldsOf, same, numberOf, lineOf, controlOf, controlsFrom, among, risingFrom, gateOf, closedGate, gateFields, gateOn, headerFields, headerOn, isEnd}
 use Rattle.circuit.specs.private.Scan.{isStop, fieldAt, lineAt, startsWith, orHundred, width, added, laterFields, headerNext, gateNext, controlsNext}
 use Rattle.circuit.proofs.lemmas.Outcome.{never, demand-met, demand-failed, demanded, then-served, then-refused, then-both}
-use Rattle.circuit.proofs.lemmas.file.Lines.{line-more, line-over, lines-none, field-over, fields-none, fields-some, same-self, same-true, cut-first, tabbed, whole, fields-back}
+use Rattle.circuit.proofs.lemmas.file.Lines.{line-more, line-over, lines-none, part-over, parts-none, parts-some, same-self, same-true, cut-first, separated, whole, parts-back}
 use Rattle.circuit.proofs.lemmas.file.Lines as lines
 use Rattle.circuit.proofs.lemmas.file.Numbers.{text-short, text-long, text-number, number-wrong}
 use Rattle.circuit.proofs.lemmas.file.Controls.{nextLine, among-push, rising-push, next-push}
@@ -55,7 +55,7 @@ tabbed-line (b ∷ r) e =
     let s = line-step b r t in
     let n : length (lineAt (b ∷ r) .bytes) ≡ suc (length (lineAt r .bytes)) = ap (λ (l : Line). length (l .bytes)) s in
     record {
-      fields = ap (λ (l : Line). fieldsOf (l .bytes)) s ∙ field-over b (lineAt r .bytes) (eq-eqb b tab e);
+      fields = ap (λ (l : Line). fieldsOf (l .bytes)) s ∙ part-over tab b (lineAt r .bytes) (eq-eqb b tab e);
       ended = ap (λ (l : Line). l .ended) s;
       sizes = omega arith;
       inside = omega arith;
@@ -79,7 +79,7 @@ stopped b r e =
     x ∙ ap (λ (fs : List (List ℕ)). [] ∷ laterFields fs) (sym x))
     (λ t.
     let u : eqb b lineFeed ≡ true = sym (ap (λ (x : Bool). x || eqb b lineFeed) t) ∙ e in
-    let x : fieldsOf (lineAt (b ∷ r) .bytes) ≡ [] ∷ [] = ap (λ (l : Line). fieldsOf (l .bytes)) (line-done b r u) ∙ fields-none in
+    let x : fieldsOf (lineAt (b ∷ r) .bytes) ≡ [] ∷ [] = ap (λ (l : Line). fieldsOf (l .bytes)) (line-done b r u) ∙ parts-none tab in
     x ∙ ap (λ (fs : List (List ℕ)). [] ∷ laterFields fs) (sym x))
 
 empty-part : (r : List ℕ) → fieldAt r ≡ [] → fieldsOf (lineAt r .bytes) ≡ [] ∷ laterFields (fieldsOf (lineAt r .bytes)) → Parted r [] r
@@ -89,7 +89,7 @@ pub parted : (r : List ℕ) → Parted r (fieldAt r) (drop (length (fieldAt r)) 
 parted [] =
     rw field-none
     (empty-part [] field-none
-    (let x : fieldsOf (lineAt [] .bytes) ≡ [] ∷ [] = ap (λ (l : Line). fieldsOf (l .bytes)) line-none ∙ fields-none in
+    (let x : fieldsOf (lineAt [] .bytes) ≡ [] ∷ [] = ap (λ (l : Line). fieldsOf (l .bytes)) line-none ∙ parts-none tab in
     x ∙ ap (λ (fs : List (List ℕ)). [] ∷ laterFields fs) (sym x)))
 parted (b ∷ r) =
     either (isStop b)
@@ -103,7 +103,7 @@ parted (b ∷ r) =
     let i = p .inside in
     rw (field-more b r s)
     (record {
-      fields = ap (λ (x : Line). fieldsOf (x .bytes)) l ∙ lines.field-more b (lineAt r .bytes) t ∙ ap (longer b) (p .fields);
+      fields = ap (λ (x : Line). fieldsOf (x .bytes)) l ∙ lines.part-more tab b (lineAt r .bytes) t ∙ ap (longer b) (p .fields);
       ended = ap (λ (x : Line). x .ended) l ∙ p .ended;
       sizes = omega arith;
       stop = p .stop;
@@ -121,8 +121,8 @@ feed b r e h =
 
 -- a field ends here, and no tab stands here
 pub end-fields : (r : List ℕ) → fieldAt r ≡ [] → (getD r 0 10 ≡ tab → ⊥) → laterFields (fieldsOf (lineAt r .bytes)) ≡ []
-end-fields [] e h = ap laterFields (ap (λ (l : Line). fieldsOf (l .bytes)) line-none ∙ fields-none)
-end-fields (b ∷ r) e h = ap laterFields (ap (λ (l : Line). fieldsOf (l .bytes)) (line-done b r (feed b r e h)) ∙ fields-none)
+end-fields [] e h = ap laterFields (ap (λ (l : Line). fieldsOf (l .bytes)) line-none ∙ parts-none tab)
+end-fields (b ∷ r) e h = ap laterFields (ap (λ (l : Line). fieldsOf (l .bytes)) (line-done b r (feed b r e h)) ∙ parts-none tab)
 
 pub end-missing : (r : List ℕ) → length r ≡ 0 → lineAt r .ended ≡ false
 end-missing [] e = ap (λ (l : Line). l .ended) line-none
@@ -330,14 +330,14 @@ line-prefix (b ∷ r) =
 
 -- a line whose first field is the word, and which has a second one
 word-starts : (w : List ℕ) (r t : List ℕ) (fs : List (List ℕ)) → fieldsOf (lineAt r .bytes) ≡ w ∷ t ∷ fs → startsWith (w ++ (tab ∷ [])) r ≡ true
-unfolding tabbed
+unfolding separated
 word-starts w r t fs e =
     let x : List ℕ = drop (length (lineAt r .bytes)) r in
-    let p : r ≡ (w ++ (tab ∷ [])) ++ ((t ++ tabbed fs) ++ x) =
+    let p : r ≡ (w ++ (tab ∷ [])) ++ ((t ++ separated tab fs) ++ x) =
     line-prefix r
-    ∙ ap (λ (y : List ℕ). y ++ x) (sym (fields-back (lineAt r .bytes)) ∙ ap whole e ∙ sym (append-snoc w tab (t ++ tabbed fs)))
-    ∙ append-assoc (w ++ (tab ∷ [])) (t ++ tabbed fs) x in
-    ap (startsWith (w ++ (tab ∷ []))) p ∙ true-starts (w ++ (tab ∷ [])) ((t ++ tabbed fs) ++ x)
+    ∙ ap (λ (y : List ℕ). y ++ x) (sym (parts-back tab (lineAt r .bytes)) ∙ ap (whole tab) e ∙ sym (append-snoc w tab (t ++ separated tab fs)))
+    ∙ append-assoc (w ++ (tab ∷ [])) (t ++ separated tab fs) x in
+    ap (startsWith (w ++ (tab ∷ []))) p ∙ true-starts (w ++ (tab ∷ [])) ((t ++ separated tab fs) ++ x)
 
 -- ---- a gate line from its start
 
@@ -539,7 +539,7 @@ module _ (r : List ℕ) (starts : startsWith (108 ∷ 105 ∷ 110 ∷ 101 ∷ 11
           go : (fs : List (List ℕ)) → laterFields (fieldsOf (lineAt after .bytes)) ≡ fs → lastTest (lineAt r .ended) fs n ≡ refused wrongForm 0
           go (x ∷ fs) q = refl
           go [] q =
-              absurd (fields-some (lineAt (drop 1 after) .bytes)
+              absurd (parts-some tab (lineAt (drop 1 after) .bytes)
               (sym (ap laterFields (tabbed-line after (tabs after after-stop (λ e. ne (first-after ∙ e))) .fields)) ∙ q))
 
       pub header-good : 6 + width n < length r → getD r (6 + width n) 10 ≡ 10 → headerNext r ≡ served (record { lines = n; next = 6 + width n + 1 })

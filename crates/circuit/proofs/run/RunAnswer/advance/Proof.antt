@@ -5,7 +5,8 @@ use borrow.Author.Tests.{not-true, not-false}
 use Rattle.circuit.specs.Outcome.{served}
 use Rattle.circuit.specs.Run.{ofRun}
 use Rattle.circuit.proofs.lemmas.Outcome.{why, demand-met, demand-failed, then-served, then-refused}
-use Rattle.circuit.proofs.lemmas.gate.Laws.{valid-more, toggled-apply}
+use Rattle.circuit.proofs.lemmas.gate.Valid.{valid-more}
+use Rattle.circuit.proofs.lemmas.gate.Effect.{toggled-apply}
 use Rattle.circuit.proofs.run.RunAnswer.advance.Statement.{statement}
 use Rattle.circuit.proofs.run.RunAnswer.advance.Tie as tie
 
