@@ -7,12 +7,12 @@ use native.Mathlib.Omega.{arith}
 use lib.Dec.{eqb, leb}
 use lib.ListN.{length, length-append}
 use lib.Pow.{pow-mono}
-use borrow.Author.Tests.{leb-true, le-leb}
+use borrow.Author.Tests.{leb-true}
 use Rattle.bits.proofs.Bools.{either, cond-true, cond-false}
 use Rattle.circuit.specs.declared.gate.Gate.{Gate}
 use Rattle.circuit.specs.Outcome.{served}
 use Rattle.circuit.specs.Run.{run}
-use Rattle.circuit.proofs.Promises.{demand-met, run-below}
+use Rattle.circuit.proofs.Promises.{run-below}
 use Rattle.checking.specs.Compare.{maxSweepLines, Difference, none, lowest, lowestFrom}
 use Rattle.checking.specs.Compare as sweep
 use Rattle.checking.specs.Clauses.{Clause, clausesOf, variablesOf, maxVariables}
@@ -21,7 +21,7 @@ use Rattle.checking.proofs.Promises.{sweep-says, clause-laws}
 use Rattle.text.specs.Dimacs.{headerText, clausesText, dimacsOf}
 use Rattle.text.specs.Plain.{plainClauses}
 use Rattle.text.specs.Tomiter.{refusalText}
-use Rattle.text.specs.Compare.{maxList, maxCompared, fileWords, miterWords, Files, cascades, faulty, filesOf, Comparison, gatesLeft, sweptAs, listAs, compared, comparedFiles, comparison, comparisonText, compareText, fitOutcome, Rooms, compareOutcome}
+use Rattle.text.specs.Compare.{maxList, maxCompared, fileWords, miterWords, Files, cascades, faulty, filesOf, Comparison, gatesLeft, sweptAs, listAs, compared, comparedFiles, comparison, comparisonText, compareText, Rooms, compareOutcome}
 use Rattle.text.specs.TwoFiles.{TwoFiles, WholeRefused, line, after, FilesRefused, first-long, second-long, first-file, second-file, lines-differ}
 use Rattle.text.proofs.Decimal.{decimal-few}
 use Rattle.text.proofs.Sizes.{variable-few, fault-small}
@@ -29,7 +29,7 @@ use Rattle.text.proofs.Rooms.{rooms-good}
 use Rattle.text.proofs.Verdicts.{Judged, judged, lines, kept, left-few}
 use Rattle.text.proofs.plain.Laws.{plain-few}
 use Rattle.text.proofs.comparison.Laws.{list-short, list-within}
-use Rattle.text.proofs.answer.Laws.{digits-few, differ-long, refusal-long, header-long}
+use Rattle.text.proofs.answer.Laws.{fit-fits, digits-few, differ-long, refusal-long, header-long}
 
 -- ---- refusals
 
@@ -114,7 +114,6 @@ text-fits first second = files-few first second (filesOf first second) (judged f
 -- so a buffer of that length, and rooms of their lengths, always suffice
 pub room-enough : (first second : List ℕ) (lent : Rooms) (room : ℕ) → fileWords ≤ lent .first → fileWords ≤ lent .second → miterWords ≤ lent .miter → maxList ≤ lent .clauses → maxCompared ≤ room
     → compareOutcome first second lent room ≡ served (length (compareText first second))
-unfolding fitOutcome
 room-enough first second lent room a b c d h =
     rooms-good first second lent a b c d room
-    ∙ demand-met _ _ _ _ (le-leb (length (compareText first second)) room (le-trans (text-fits first second) h))
+    ∙ fit-fits (compareText first second) room (le-trans (text-fits first second) h)

@@ -15,6 +15,7 @@ use Rattle.circuit.proofs.Promises.{demanded, written-served, written-refused, 
 use Rattle.circuit.specs.Refusal.{noRoom}
 use Rattle.circuit.specs.Text.{tab, lineFeed}
 use Rattle.text.specs.Dimacs.{decimal, numberRead}
+use Rattle.text.specs.Answers.{fitOutcome, fitBuffer}
 use Rattle.text.specs.Tomiter.{Verdict, listed, refusedAt, verdict, refusedWord, refusalText, verdictText, tomiterText, tomiterOutcome, tomiterBuffer, WritesText}
 use Rattle.text.specs.BytesTell.{StartsProblem, TextTells, BytesTell}
 use Rattle.text.specs.TextLaws.{ProgramRefused, RightText, clauses, refusal, ProgramLaws}
@@ -103,16 +104,16 @@ program-laws =
 -- ---- the call
 
 pub call-leaves : (input out : List ℕ) (k : ℕ) → tomiterOutcome input (length out) ≡ served k → tomiterBuffer input out ≡ over (tomiterText input) out
-unfolding tomiterBuffer
+unfolding fitBuffer
 call-leaves input out k e = written-served (tomiterText input) out (tomiterOutcome input (length out)) k e
 
 pub call-untouched : (input out : List ℕ) → Untouched (tomiterOutcome input (length out)) out (tomiterBuffer input out)
-unfolding tomiterBuffer
+unfolding fitBuffer
 call-untouched input out = written-refused (tomiterText input) out (tomiterOutcome input (length out))
 
 -- what the bytes of a served call tell
 pub bytes-tell : (input out : List ℕ) (told : Outcome ℕ) (last : List ℕ) → told ≡ tomiterOutcome input (length out) → last ≡ tomiterBuffer input out → BytesTell input told last
-unfolding tomiterOutcome
+unfolding fitOutcome
 bytes-tell input out told last e l k s starts =
     let (t, q) = demanded (leb (length (tomiterText input)) (length out)) noRoom 0 (served (length (tomiterText input))) k (sym e ∙ s) in
     let long : length (tomiterText input) ≡ k = cc in

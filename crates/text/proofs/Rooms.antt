@@ -10,7 +10,8 @@ use Rattle.circuit.specs.Outcome.{Outcome, refused, written, Yields}
 use Rattle.circuit.specs.Refusal.{refusal, noRoom}
 use Rattle.circuit.proofs.Promises.{demand-met, demand-failed, told, why}
 use Rattle.text.specs.declared.comparison.ComparedAnswer.{ComparedAnswer}
-use Rattle.text.specs.Compare.{maxList, fileWords, miterWords, comparison, comparisonText, compareText, fitOutcome, fitBuffer, Rooms, compareOutcome, compareBuffer}
+use Rattle.text.specs.Answers.{fitOutcome, fitBuffer}
+use Rattle.text.specs.Compare.{maxList, fileWords, miterWords, comparison, comparisonText, compareText, Rooms, compareOutcome, compareBuffer}
 use Rattle.text.specs.private.Comparing.{ofCompared, SaysCompared}
 
 module _ (first second : List ℕ) (lent : Rooms) (out : List ℕ) where

@@ -25,7 +25,7 @@ use Rattle.text.specs.Dimacs.{blank, decimal, literalText, literalsText,
 use Rattle.text.specs.Tomiter.{maxInput, maxWords, maxText, Verdict, listed, refusedAt, ofFile, listVerdict, pairVerdict, secondVerdict, verdict, refusalText, verdictText, tomiterText, tomiterOutcome}
 use Rattle.text.proofs.Decimal.{decimal-few}
 use Rattle.text.proofs.Pairs.{Listable, listable}
-use Rattle.text.proofs.program.Laws.{fits}
+use Rattle.text.proofs.answer.Laws.{fit-fits}
 
 -- ---- the text of a clause list
 
@@ -156,4 +156,4 @@ text-fits input = small-text (verdict input) (verdict-small input)
 
 -- so a buffer of that length always suffices
 pub room-enough : (input : List ℕ) (room : ℕ) → maxText ≤ room → tomiterOutcome input room ≡ served (length (tomiterText input))
-room-enough input room h = fits input room (le-trans (text-fits input) h)
+room-enough input room h = fit-fits (tomiterText input) room (le-trans (text-fits input) h)

@@ -15,6 +15,7 @@ use Rattle.checking.specs.Reduce.{reduceGates}
 use Rattle.checking.specs.Compare.{maxSweepLines, Difference, none, lowest, lowestFrom}
 use Rattle.checking.specs.Clauses.{Clause, clausesOf, variablesOf}
 use Rattle.checking.specs.Stored.{stored}
+unfoldable pub use Rattle.text.specs.Answers.{fitOutcome}
 use Rattle.text.specs.Dimacs.{dimacsOf}
 use Rattle.text.specs.Plain.{plainClauses}
 use Rattle.text.specs.Tomiter.{numbersText, refusalText}
@@ -137,13 +138,6 @@ unfoldable pub compareText : List ℕ → List ℕ → List ℕ
 compareText first second = comparisonText (comparison first second)
 
 -- ---- the call on slices
-
--- a text is written where it fits: 10 where the buffer is shorter
-unfoldable pub fitOutcome : List ℕ → ℕ → Outcome ℕ
-fitOutcome text room = demand (leb (length text) room) noRoom 0 (served (length text))
-
-unfoldable pub fitBuffer : List ℕ → List ℕ → List ℕ
-fitBuffer text out = written (fitOutcome text (length out)) text out
 
 -- the rooms that the caller lends: for the words of the first cascade, of the second, of the miter, and of the clauses
 pub record Rooms : Type 0 where

@@ -6,13 +6,14 @@ use Prim.Native.Nat.{ℕ, _+_}
 use lib.Dec.{eqb, leb}
 use lib.ListN.{length, drop}
 use Rattle.circuit.specs.declared.gate.Gate.{Gate}
-use Rattle.circuit.specs.Outcome.{Outcome, served, refused, demand, written}
+use Rattle.circuit.specs.Outcome.{Outcome, served, refused}
 use Rattle.circuit.specs.Refusal.{wrongForm, lineCountsDiffer, noRoom}
 use Rattle.circuit.specs.Text.{tab, lineFeed}
 use Rattle.circuit.specs.File.{Reading, reading}
 use Rattle.checking.specs.Miter.{miterGates}
 use Rattle.checking.specs.Clauses.{Clause, clausesOf, variablesOf}
 use Rattle.checking.specs.Stored.{stored}
+use Rattle.text.specs.Answers.{fitOutcome, fitBuffer}
 use Rattle.text.specs.Dimacs.{decimal, dimacsOf}
 use Rattle.text.specs.BytesTell.{BytesTell}
 
@@ -83,11 +84,11 @@ unfoldable pub tomiterText : List ℕ → List ℕ
 tomiterText input = verdictText (verdict input)
 
 -- the call on slices: 10 where the buffer is shorter than the text
-unfoldable pub tomiterOutcome : List ℕ → ℕ → Outcome ℕ
-tomiterOutcome input room = demand (leb (length (tomiterText input)) room) noRoom 0 (served (length (tomiterText input)))
+abbrev pub tomiterOutcome : List ℕ → ℕ → Outcome ℕ
+tomiterOutcome input room = fitOutcome (tomiterText input) room
 
-unfoldable pub tomiterBuffer : List ℕ → List ℕ → List ℕ
-tomiterBuffer input out = written (tomiterOutcome input (length out)) (tomiterText input) out
+abbrev pub tomiterBuffer : List ℕ → List ℕ → List ℕ
+tomiterBuffer input out = fitBuffer (tomiterText input) out
 
 -- what the call owes: its answer, the buffer's last contents, and that the bytes there tell on which states the cascades of its input differ
 pub record WritesText (input out : List ℕ) (told : Outcome ℕ) (last : List ℕ) : Type 0 where

@@ -9,12 +9,12 @@ ghost use mathlib.Core.List.{_++_};
 ghost use Prim.Native.Nat.{_+_};
 ghost use lib.ListN.{length};
 ghost use Rattle.circuit.specs.Outcome.{Yields};
-ghost use Rattle.text.specs.Answers.{ofText};
+ghost use Rattle.text.specs.Answers.{ofText, fitOutcome, fitBuffer};
 ghost use Rattle.text.specs.Dimacs.{decimal, dimacsOf};
 ghost use Rattle.text.specs.Plain.{plainClauses};
 ghost use Rattle.text.specs.Tomiter.{numbersText, refusalText};
 ghost use Rattle.text.specs.private.Words.{storedIn, StoresPlain};
-ghost use Rattle.text.specs.Compare.{comparisonText, fitOutcome, fitBuffer};
+ghost use Rattle.text.specs.Compare.{comparisonText};
 ghost use Rattle.text.specs.private.Comparing.{ofCompared, ComparedReady};
 
 // Writes a text that stands elsewhere.

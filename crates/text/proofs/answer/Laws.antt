@@ -14,29 +14,30 @@ use Rattle.circuit.specs.Text.{tab, lineFeed}
 use Rattle.circuit.proofs.Promises.{demand-met, demand-failed, told, why}
 use Rattle.text.specs.Dimacs.{blank, decimal, headerText}
 use Rattle.text.specs.Tomiter.{refusedWord, numbersText, refusalText}
-use Rattle.text.specs.Compare.{differWord, differText, comparisonText, fitOutcome, fitBuffer}
+use Rattle.text.specs.Answers.{fitOutcome, fitBuffer}
+use Rattle.text.specs.Compare.{differWord, differText, comparisonText}
 use Rattle.text.specs.declared.comparison.ComparedAnswer.{ComparedAnswer}
 use Rattle.text.specs.private.Comparing.{ofCompared}
 use Rattle.text.proofs.Decimal.{decimal-few}
 
 -- ---- where it fits
 
+pub fit-fits : (text : List ℕ) (room : ℕ) → length text ≤ room → fitOutcome text room ≡ served (length text)
+unfolding fitOutcome
+fit-fits text room h = demand-met _ _ _ _ (le-leb (length text) room h)
+
+fit-short : (text : List ℕ) (room : ℕ) → room < length text → fitOutcome text room ≡ refused noRoom 0
+unfolding fitOutcome
+fit-short text room h = demand-failed _ _ _ _ (lt-leb (length text) room h)
+
 module _ (text out : List ℕ) where
-  pub fit-fits : length text ≤ length out → fitOutcome text (length out) ≡ served (length text)
-  unfolding fitOutcome
-  fit-fits h = demand-met _ _ _ _ (le-leb (length text) (length out) h)
-
-  fit-short : length out < length text → fitOutcome text (length out) ≡ refused noRoom 0
-  unfolding fitOutcome
-  fit-short h = demand-failed _ _ _ _ (lt-leb (length text) (length out) h)
-
   pub fit-refused : (r : Refusal) → r ≡ refusal noRoom 0 → length out < length text → Yields (refused (r .number) (r .place)) out (fitOutcome text (length out)) (fitBuffer text out)
   unfolding fitBuffer
-  fit-refused r e h = told text out _ out (fitOutcome text (length out)) (refused noRoom 0) (why e) (fit-short h) refl
+  fit-refused r e h = told text out _ out (fitOutcome text (length out)) (refused noRoom 0) (why e) (fit-short text (length out) h) refl
 
   pub fit-put : (k : ℕ) (last : List ℕ) → Put k last text out → length text ≤ length out → Yields (served k) last (fitOutcome text (length out)) (fitBuffer text out)
   unfolding fitBuffer
-  fit-put k last p h = told text out _ last (fitOutcome text (length out)) (served (length text)) (ap served (p .count)) (fit-fits h) (p .buffer)
+  fit-put k last p h = told text out _ last (fitOutcome text (length out)) (served (length text)) (ap served (p .count)) (fit-fits text (length out) h) (p .buffer)
 
 -- an answer that is known
 pub answer-as : (x y : ComparedAnswer) (clauses : List ℤ) (r : Outcome ℕ) (last out : List ℕ) → x ≡ y

@@ -25,7 +25,8 @@ use Rattle.text.specs.Dimacs.{thenRead}
 use Rattle.text.specs.declared.pair.FilesAnswer.the-variants as files
 use Rattle.text.specs.declared.input.CheckedAnswer.{CheckedAnswer}
 use Rattle.text.specs.declared.input.CheckedAnswer.the-variants as answer
-use Rattle.text.specs.Compare.{fileWords, Files, filesOf, differWord, fitOutcome, fitBuffer}
+use Rattle.text.specs.Answers.{fitOutcome, fitBuffer}
+use Rattle.text.specs.Compare.{fileWords, Files, filesOf, differWord}
 use Rattle.text.specs.private.Comparing.{SaysFiles}
 use Rattle.text.specs.private.Checking.{ofChecked, SaysChecked}
 use Rattle.text.specs.CheckInput.{stateText, stateRead, agreeWord, outputsText, checkedOn, checkedFiles, checked, checkedText, checkText, inputOutcome, inputBuffer}

@@ -1,17 +1,16 @@
 -- `text::tomiter` meets its contract. Assumes nothing.
-use mathlib.Core.Path.{refl, sym, ap, _∙_}
+use mathlib.Core.Path.{sym, ap, _∙_}
 use mathlib.Core.List.{List}
 use Prim.Native.Nat.{ℕ}
 use native.Mathlib.Omega.{arith}
 use lib.ListN.{length}
 use lib.Seq.{length-take-le}
-use Rattle.bits.specs.Lists.{over}
-use Rattle.circuit.specs.Outcome.{served, refused}
-use Rattle.circuit.specs.Refusal.{noRoom}
-use Rattle.circuit.proofs.Promises.{why}
+use Rattle.bits.specs.Lists.{over, Put}
 use Rattle.text.specs.Tomiter.{tomiterText}
-use Rattle.text.proofs.Sizes.{room-enough}
-use Rattle.text.proofs.program.Laws.{short, fits, call-told, made}
+use Rattle.text.proofs.Sizes.{text-fits}
+use Rattle.text.proofs.ProgramLaws.{answers}
+use Rattle.text.proofs.answer.Laws.{fit-refused, fit-put}
+use Rattle.text.proofs.program.Laws.{made}
 use borrow.Author.Needs.{needs}
 use Rattle.text.proofs.tomiter.Statement.{statement}
 use Rattle.text.proofs.tomiter.Tie as tie
@@ -26,8 +25,7 @@ returns : tie.Need-returns
 returns c =
     let s = c .before .before .before .before .before .before .before in
     let t = c .before .before .put-text in
-    call-told (s .args .input .now) (s .args .out .now) _ (served (length (tomiterText (s .args .input .now)))) _ (ap served (t .ensures .count))
-    (room-enough (s .args .input .now) (length (s .args .out .now)) (omega arith)) (t .ensures .buffer)
+    answers (s .args .input .now) (s .args .out .now) _ _ (fit-put (tomiterText (s .args .input .now)) (s .args .out .now) _ _ (t .ensures) (omega (arith, text-fits (s .args .input .now))))
 
 slice-aggregate-put-text : tie.Need-slice-aggregate-put-text
 slice-aggregate-put-text c = search needs
@@ -42,8 +40,7 @@ returns-2 : tie.Need-returns-2
 returns-2 c =
     let s = c .before .before .before .before .before .before .before .before in
     let t = c .before .before .before .put-text2 in
-    call-told (s .args .input .now) (s .args .out .now) _ (refused noRoom 0) _ (why (c .no-room .ensures))
-    (short (s .args .input .now) (length (s .args .out .now)) (omega (arith, t .ensures .count, c .before .if2 .taken))) refl
+    answers (s .args .input .now) (s .args .out .now) _ _ (fit-refused (tomiterText (s .args .input .now)) (s .args .out .now) (c .no-room .result) (c .no-room .ensures) (omega (arith, t .ensures .count, c .before .if2 .taken)))
 
 array-share-prefix-text : tie.Need-array-share-prefix-text
 array-share-prefix-text c = search needs
@@ -64,9 +61,9 @@ returns-3 c =
     let s = c .before .before .before .before .before .before .before .before .before .before .before .before in
     let t = c .before .before .before .before .before .before .before .put-text2 in
     let p = c .before .before .put-word in
-    call-told (s .args .input .now) (s .args .out .now) _ (served (length (tomiterText (s .args .input .now)))) _ (ap served (t .ensures .count))
-    (fits (s .args .input .now) (length (s .args .out .now)) (omega (arith, t .ensures .count, c .before .before .before .before .before .if2 .left)))
-    (p .ensures .buffer ∙ ap (λ (l : List ℕ). over l (s .args .out .now)) (made (t .result) (t .last .0) _ _ (t .ensures)))
+    let q : Put (t .result) (p .last .0) (tomiterText (s .args .input .now)) (s .args .out .now) =
+    record { count = t .ensures .count; buffer = p .ensures .buffer ∙ ap (λ (l : List ℕ). over l (s .args .out .now)) (made (t .result) (t .last .0) _ _ (t .ensures)) } in
+    answers (s .args .input .now) (s .args .out .now) _ _ (fit-put (tomiterText (s .args .input .now)) (s .args .out .now) _ _ q (omega (arith, t .ensures .count, c .before .before .before .before .before .if2 .left)))
 
 pub tomiter-spec : {M : Type 1} → statement M
 tomiter-spec =

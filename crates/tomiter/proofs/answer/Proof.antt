@@ -7,7 +7,7 @@ use Rattle.bits.specs.Lists.{Put}
 use Rattle.circuit.specs.Outcome.{Outcome, served, written}
 use Rattle.circuit.proofs.Promises.{never}
 use Rattle.text.specs.Tomiter.{maxText, tomiterText, tomiterOutcome, tomiterBuffer}
-use Rattle.text.specs.Answers.{ofText}
+use Rattle.text.specs.Answers.{ofText, fitBuffer}
 use Rattle.text.proofs.Sizes.{room-enough}
 use borrow.Author.Needs.{needs}
 use Rattle.tomiter.proofs.answer.Statement.{statement}
@@ -16,7 +16,7 @@ use Rattle.tomiter.proofs.answer.Tie as tie
 -- the text was written
 written-text : (input out : List ℕ) (size : ℕ) (last : List ℕ) → maxText ≤ length out → tomiterOutcome input (length out) ≡ served size → last ≡ tomiterBuffer input out
     → Put size last (tomiterText input) out
-unfolding tomiterBuffer
+unfolding fitBuffer
 written-text input out size last room e b =
     let f : served size ≡ served (length (tomiterText input)) = sym e ∙ room-enough input (length out) room in
     record {
