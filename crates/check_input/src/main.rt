@@ -1,6 +1,5 @@
 // Gives the input that its third argument spells to the cascades of the two files that the others name, and writes whether they differ on it, with both outputs, or a refusal. Where a file could not be read, writes `failed`. Says on standard error why it could not read or not write all.
 
-use libc::STDOUT_FILENO;
 use streams::Reading;
 use text::TextAnswer;
 ghost use Prim.Native.Nat.{_≤_};
@@ -40,9 +39,7 @@ fn respond(first: &[u8], second: &[u8], state: &[u8]) {
     let mut b = [0u64; text::FILE_WORDS];
     let mut out = [0u8; text::MAX_CHECKED];
     let size = answer(&mut out, first, second, state, &mut a, &mut b);
-    if !io::write_all(STDOUT_FILENO, &out[..size]) {
-        os::fail(b"check_input: standard output");
-    }
+    streams::write(&out[..size], b"check_input: standard output");
 }
 
 // Goes on with the files; an argument that is longer than a state is taken for an empty one, which is none.

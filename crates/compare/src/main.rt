@@ -1,6 +1,5 @@
 // Compares the cascades of the two files that its arguments name, and writes the verdict, clauses for a solver, or a refusal. Where a file could not be read, writes `failed`. Says on standard error why it could not read or not write all.
 
-use libc::STDOUT_FILENO;
 use streams::Reading;
 use text::TextAnswer;
 ghost use Prim.Native.Nat.{_≤_};
@@ -59,9 +58,7 @@ fn respond(first: &[u8], second: &[u8]) {
         &mut miter,
         &mut clauses,
     );
-    if !io::write_all(STDOUT_FILENO, &out[..size]) {
-        os::fail(b"compare: standard output");
-    }
+    streams::write(&out[..size], b"compare: standard output");
 }
 
 // Goes on with the first file.

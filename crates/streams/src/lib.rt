@@ -1,4 +1,4 @@
-// Reading standard input to its end, where an error is told apart from the end, and telling that a program failed.
+// Reading to the end of an input, where an error is told apart from the end; writing to standard output; telling that a program failed.
 
 ghost use Rattle.streams.specs.Reading.{Inside};
 
@@ -36,6 +36,13 @@ pub fn read_all(fd: i32, buf: &mut [u8]) -> Reading
         }
     }
     Reading::Bytes(done)
+}
+
+// Writes bytes to standard output. Where that failed, `what` and errno's text as a line on standard error.
+pub fn write(bytes: &[u8], what: &[u8]) {
+    if !io::write_all(libc::STDOUT_FILENO, bytes) {
+        os::fail(what);
+    }
 }
 
 // What failed and errno's text as a line on standard error, and the line `failed` on standard output.

@@ -1,7 +1,6 @@
 // Reads two cascade files from standard input, one after the other, and writes the clauses that tell whether they differ, or a refusal. Where the input could not be read, writes `failed`. Says on standard error why it could not read or not write all.
 
 use libc::STDIN_FILENO;
-use libc::STDOUT_FILENO;
 use streams::Reading;
 use text::TextAnswer;
 ghost use Prim.Native.Nat.{_≤_};
@@ -27,9 +26,7 @@ fn answer(out: &mut [u8], input: &[u8]) -> usize
 fn respond(input: &[u8]) {
     let mut out = [0u8; text::MAX_TEXT];
     let size = answer(&mut out, input);
-    if !io::write_all(STDOUT_FILENO, &out[..size]) {
-        os::fail(b"tomiter: standard output");
-    }
+    streams::write(&out[..size], b"tomiter: standard output");
 }
 
 fn main() {

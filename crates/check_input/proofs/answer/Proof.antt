@@ -1,29 +1,14 @@
 -- `check_input::answer` meets its contract. Assumes nothing.
-use mathlib.Core.Path.{_≡_, sym, ap, _∙_}
-use mathlib.Core.List.{List}
-use Prim.Native.Nat.{ℕ, _≤_}
+use mathlib.Core.Path.{sym, ap, _∙_}
 use lib.ListN.{length}
-use Rattle.bits.specs.Lists.{Put}
-use Rattle.circuit.specs.Outcome.{Outcome, served, written}
 use Rattle.circuit.proofs.Promises.{never}
-use Rattle.text.specs.Compare.{fileWords}
-use Rattle.text.specs.CheckInput.{maxChecked, checkText, inputOutcome, inputBuffer}
+use Rattle.text.specs.CheckInput.{checkText, inputBuffer}
 use Rattle.text.specs.Answers.{ofText}
 use Rattle.text.proofs.Inputs.{room-enough}
+use Rattle.text.proofs.Writes.{served-put}
 use borrow.Author.Needs.{needs}
 use Rattle.check_input.proofs.answer.Statement.{statement}
 use Rattle.check_input.proofs.answer.Tie as tie
-
--- the text was written
-written-text : (first second state : List ℕ) (room-a room-b : ℕ) (out : List ℕ) (size : ℕ) (last : List ℕ) → fileWords ≤ room-a → fileWords ≤ room-b → maxChecked ≤ length out
-    → inputOutcome first second state room-a room-b (length out) ≡ served size → last ≡ inputBuffer first second state room-a room-b out → Put size last (checkText first second state) out
-unfolding inputBuffer
-written-text first second state room-a room-b out size last a b room e is =
-    let f : served size ≡ served (length (checkText first second state)) = sym e ∙ room-enough first second state room-a room-b (length out) a b room in
-    record {
-      count = cc;
-      buffer = is ∙ ap (λ (o : Outcome ℕ). written o (checkText first second state) out) e;
-    }
 
 check-input-requires : tie.Need-check-input-requires
 check-input-requires c κs = search needs
@@ -44,10 +29,11 @@ same-length-3 : tie.Need-same-length-3
 same-length-3 c = search needs
 
 returns : tie.Need-returns
+unfolding inputBuffer
 returns c =
     let s = c .before .before .before .before .before .before .before .before .before .before .before .before .before .before .before .before .before .before .before in
     let t = c .before .before .before .before .before .before .before .before .before .check-input in
-    written-text (s .args .first .now) (s .args .second .now) (s .args .state .now) (length (s .args .a .now)) (length (s .args .b .now)) (s .args .out .now) _ _ (s .pre .1 .0) (s .pre .1 .1) (s .pre .0) (sym (t .ensures .answer) ∙ ap ofText (c .before .size .given .1)) (t .ensures .buffer)
+    served-put (checkText (s .args .first .now) (s .args .second .now) (s .args .state .now)) (s .args .out .now) _ _ _ (room-enough (s .args .first .now) (s .args .second .now) (s .args .state .now) (length (s .args .a .now)) (length (s .args .b .now)) (length (s .args .out .now)) (s .pre .1 .0) (s .pre .1 .1) (s .pre .0)) (sym (t .ensures .answer) ∙ ap ofText (c .before .size .given .1)) (t .ensures .buffer)
 
 same-length-4 : tie.Need-same-length-4
 same-length-4 c = search needs

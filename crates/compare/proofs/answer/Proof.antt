@@ -1,28 +1,14 @@
 -- `compare::answer` meets its contract. Assumes nothing.
-use mathlib.Core.Path.{_≡_, sym, ap, _∙_}
-use mathlib.Core.List.{List}
-use Prim.Native.Nat.{ℕ, _≤_}
+use mathlib.Core.Path.{sym, ap, _∙_}
 use lib.ListN.{length}
-use Rattle.bits.specs.Lists.{Put}
-use Rattle.circuit.specs.Outcome.{Outcome, served, written}
 use Rattle.circuit.proofs.Promises.{never}
-use Rattle.text.specs.Compare.{maxList, maxCompared, fileWords, miterWords, compareText, Rooms, rooms, compareOutcome, compareBuffer}
+use Rattle.text.specs.Compare.{compareText, rooms, compareBuffer}
 use Rattle.text.specs.Answers.{ofText}
 use Rattle.text.proofs.Longest.{room-enough}
+use Rattle.text.proofs.Writes.{served-put}
 use borrow.Author.Needs.{needs}
 use Rattle.compare.proofs.answer.Statement.{statement}
 use Rattle.compare.proofs.answer.Tie as tie
-
--- the text was written
-written-text : (first second : List ℕ) (lent : Rooms) (out : List ℕ) (size : ℕ) (last : List ℕ) → fileWords ≤ lent .first → fileWords ≤ lent .second → miterWords ≤ lent .miter → maxList ≤ lent .clauses
-    → maxCompared ≤ length out → compareOutcome first second lent (length out) ≡ served size → last ≡ compareBuffer first second lent out → Put size last (compareText first second) out
-unfolding compareBuffer
-written-text first second lent out size last a b c d room e is =
-    let f : served size ≡ served (length (compareText first second)) = sym e ∙ room-enough first second lent (length out) a b c d room in
-    record {
-      count = cc;
-      buffer = is ∙ ap (λ (o : Outcome ℕ). written o (compareText first second) out) e;
-    }
 
 compare-requires : tie.Need-compare-requires
 compare-requires c κs = search needs
@@ -49,10 +35,11 @@ same-length-5 : tie.Need-same-length-5
 same-length-5 c = search needs
 
 returns : tie.Need-returns
+unfolding compareBuffer
 returns c =
     let s = c .before .before .before .before .before .before .before .before .before .before .before .before .before .before .before .before .before .before .before .before .before .before .before .before in
     let t = c .before .before .before .before .before .before .before .before .before .before .before .before .compare in
-    written-text (s .args .first .now) (s .args .second .now) (rooms (length (s .args .a .now)) (length (s .args .b .now)) (length (s .args .miter .now)) (length (s .args .clauses .now))) (s .args .out .now) _ _ (s .pre .1 .0) (s .pre .1 .1 .0) (s .pre .1 .1 .1 .0) (s .pre .1 .1 .1 .1) (s .pre .0) (sym (t .ensures .answer) ∙ ap ofText (c .before .size .given .1)) (t .ensures .buffer)
+    served-put (compareText (s .args .first .now) (s .args .second .now)) (s .args .out .now) _ _ _ (room-enough (s .args .first .now) (s .args .second .now) (rooms (length (s .args .a .now)) (length (s .args .b .now)) (length (s .args .miter .now)) (length (s .args .clauses .now))) (length (s .args .out .now)) (s .pre .1 .0) (s .pre .1 .1 .0) (s .pre .1 .1 .1 .0) (s .pre .1 .1 .1 .1) (s .pre .0)) (sym (t .ensures .answer) ∙ ap ofText (c .before .size .given .1)) (t .ensures .buffer)
 
 same-length-6 : tie.Need-same-length-6
 same-length-6 c = search needs
