@@ -1,5 +1,6 @@
 // Compares the cascades of the two files that its arguments name, and writes the verdict, clauses for a solver, or a refusal. Where a file could not be read, writes `failed`. Says on standard error why it could not read or not write all.
 
+use checking::clauses::ClauseWord;
 use streams::Reading;
 use text::TextAnswer;
 ghost use Prim.Native.Nat.{_≤_};
@@ -18,7 +19,7 @@ fn answer(
     a: &mut [u64],
     b: &mut [u64],
     miter: &mut [u64],
-    clauses: &mut [i16],
+    clauses: &mut [ClauseWord],
 ) -> usize
     requires { ⌜ maxCompared ≤ length (now out) ⌝ }
     requires { ⌜ fileWords ≤ length (now a) ⌝ }
@@ -34,8 +35,8 @@ fn answer(
 }
 
 // A room for clauses, and one for the text.
-fn clause_room() -> [i16; text::MAX_LIST] {
-    [0i16; text::MAX_LIST]
+fn clause_room() -> [ClauseWord; text::MAX_LIST] {
+    [0; text::MAX_LIST]
 }
 
 fn text_room() -> [u8; text::MAX_COMPARED] {

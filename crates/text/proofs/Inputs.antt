@@ -17,7 +17,8 @@ use Rattle.circuit.specs.Text.{digit}
 use Rattle.circuit.proofs.Promises.{demand-met}
 use Rattle.text.specs.Dimacs.{thenRead}
 use Rattle.text.specs.Tomiter.{refusalText}
-use Rattle.text.specs.Compare.{fileWords, Files, cascades, faulty, filesOf, differWord, fitOutcome}
+use Rattle.text.specs.Compare.{fileWords, Files, cascades, faulty, filesOf, differWord}
+use Rattle.text.specs.Answers.{fitOutcome}
 use Rattle.text.specs.TwoFiles.{TwoFiles, FilesRefused}
 use Rattle.text.specs.CheckInput.{maxChecked, stateText, stateRead, agreeWord, outputsText, checkedOn, checkedFiles, checked, checkedText, checkText, inputOutcome}
 use Rattle.text.specs.CheckInputLaws.{saidOf, ChecksInput}

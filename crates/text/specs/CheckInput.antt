@@ -12,7 +12,8 @@ use Rattle.circuit.specs.Run.{run}
 use Rattle.circuit.specs.Text.{tab, lineFeed, digit}
 use Rattle.text.specs.Dimacs.{thenRead}
 use Rattle.text.specs.Tomiter.{refusalText}
-use Rattle.text.specs.Compare.{fileWords, Files, cascades, faulty, filesOf, differWord, fitOutcome}
+use Rattle.text.specs.Compare.{fileWords, Files, cascades, faulty, filesOf, differWord}
+use Rattle.text.specs.Answers.{fitOutcome}
 
 -- no text has more bytes: `differ`, two states of 64 lines after a tab each, and an LF
 abbrev pub maxChecked : ℕ

@@ -15,7 +15,7 @@ use Rattle.checking.specs.Reduce.{reduceGates}
 use Rattle.checking.specs.Compare.{maxSweepLines, Difference, none, lowest, lowestFrom}
 use Rattle.checking.specs.Clauses.{Clause, clausesOf, variablesOf}
 use Rattle.checking.specs.Stored.{stored}
-unfoldable pub use Rattle.text.specs.Answers.{fitOutcome}
+use Rattle.text.specs.Answers.{fitOutcome}
 use Rattle.text.specs.Dimacs.{dimacsOf}
 use Rattle.text.specs.Plain.{plainClauses}
 use Rattle.text.specs.Tomiter.{numbersText, refusalText}
