@@ -3,7 +3,7 @@ use mathlib.Core.Path.{_≡_}
 use mathlib.Core.Logic.{_↔_}
 use mathlib.Core.Bool.{Bool, true}
 use mathlib.Core.List.{List, [], _++_}
-use Prim.Native.Nat.{ℕ, suc, _+_, _^_, _<_, _≤_}
+use Prim.Native.Nat.{ℕ, suc, _+_, _*_, _^_, _<_, _≤_}
 use lib.IntN.{ℤ}
 use lib.ListN.{length, take}
 use Rattle.bits.specs.Digits.{bit}
@@ -11,7 +11,7 @@ use Rattle.circuit.specs.declared.gate.Gate.{Gate}
 use Rattle.circuit.specs.Gate.{maxLines, maxMiterGates}
 use Rattle.circuit.specs.Words.{allValid}
 use Rattle.circuit.specs.Run.{run}
-use Rattle.checking.specs.Clauses.{Clause, inputOf, gatesClauses, usedAfter, clausesOf, variablesOf, countP, maxVariables}
+use Rattle.checking.specs.Clauses.{Clause, inputOf, gatesClauses, usedAfter, clausesOf, variablesOf, countP}
 use Rattle.checking.specs.Satisfaction.{variable, satisfies, spelled, Tells}
 use Rattle.checking.specs.Forced.{traced, forced}
 use Rattle.checking.specs.Stored.{stored, clausesIn, clausesRead, badRecord, BadAt, AllFit}
@@ -34,9 +34,9 @@ pub record ClauseLaws : Type 0 where
   pub read-back : (cs : List Clause) (rest : List ℤ) → clausesIn (take (length (stored cs)) (stored cs ++ rest)) ≡ clausesRead cs
   pub read-stored : (ws : List ℤ) (cs : List Clause) → clausesIn ws ≡ clausesRead cs → ws ≡ stored cs
   pub read-bad : (ws : List ℤ) (i : ℕ) → clausesIn ws ≡ badRecord i → BadAt ws i
-  -- each variable is an input, a gate's w, a p or a d; there are at most `maxVariables`, and every number of a list fits a word
+  -- each variable is an input, a gate's w, a p or a d; there are two at most for each line and each gate, and every number of a list fits a word
   pub variables-counted : (n : ℕ) (gs : List Gate) → variablesOf n gs ≡ n + (length gs + countP gs) + n
-  pub variables-few : (n : ℕ) (gs : List Gate) → n ≤ maxLines → length gs ≤ maxMiterGates → variablesOf n gs ≤ maxVariables
+  pub variables-few : (n : ℕ) (gs : List Gate) → n ≤ maxLines → length gs ≤ maxMiterGates → variablesOf n gs ≤ 2 * maxLines + 2 * maxMiterGates
   pub words-fit : (n : ℕ) (gs : List Gate) → n ≤ maxLines → length gs ≤ maxMiterGates → allValid n gs ≡ true → AllFit (stored (clausesOf n gs))
   -- the sums gate by gate are the variables, clauses and words of the list
   pub sizes-list : (n : ℕ) (gs : List Gate) → n ≤ maxLines → allValid n gs ≡ true

@@ -83,7 +83,8 @@ pub record FaultLaws : Type 0 where
   pub sweep : Sweeping (λ n a b. lowestFrom a b 0 (2 ^ n))
   pub untried : Sweeping (λ n a b. none) → ⊥
   pub from-one : Sweeping (λ n a b. lowestFrom a b 1 (2 ^ n - 1)) → ⊥
-  -- the masks are those of the candidates; a call that strikes nothing, or everything, is none
+  -- a gate has two masks, and these are those of the candidates; a call that strikes nothing, or everything, is none
+  pub two-masks : gateMasks ≡ 2
   pub masks : Masking faultMasks
   pub nothing-struck : Masking strikesNothing → ⊥
   pub all-struck : Masking strikesAll → ⊥

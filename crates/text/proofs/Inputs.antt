@@ -7,21 +7,25 @@ use Prim.Native.Nat.{ℕ, zero, suc, _+_, _*_, _-_, _/_, _%_, _^_, _≤_, _<_}
 use native.Mathlib.Nat.{le-trans}
 use native.Mathlib.Omega.{arith}
 use lib.Dec.{eqb, leb}
-use lib.ListN.{length}
+use lib.ListN.{length, getD}
 use borrow.Author.Tests.{le-leb, leb-true, ne-eqb, eq-eqb, eqb-true, eqb-false}
 use Rattle.bits.proofs.Bools.{either, and-parts, both, cond-true, cond-false}
+use Rattle.bits.specs.Digits.{bit}
+use Rattle.bits.proofs.Digits.{bit-first, bit-suc}
 use Rattle.circuit.specs.declared.gate.Gate.{Gate}
-use Rattle.circuit.specs.Outcome.{served}
+use Rattle.circuit.specs.Outcome.{Outcome, served, demand}
+use Rattle.circuit.specs.Refusal.{noRoom}
 use Rattle.circuit.specs.Run.{run, Differs}
 use Rattle.circuit.specs.Text.{digit}
 use Rattle.circuit.proofs.Promises.{demand-met}
 use Rattle.text.specs.Dimacs.{thenRead}
 use Rattle.text.specs.Tomiter.{refusalText}
 use Rattle.text.specs.Compare.{fileWords, Files, cascades, faulty, filesOf, differWord}
-use Rattle.text.specs.Answers.{fitOutcome}
+use Rattle.text.specs.Answers.{fitOutcome, WritesWhere}
 use Rattle.text.specs.TwoFiles.{TwoFiles, FilesRefused}
-use Rattle.text.specs.CheckInput.{maxChecked, stateText, stateRead, agreeWord, outputsText, checkedOn, checkedFiles, checked, checkedText, checkText, inputOutcome}
+use Rattle.text.specs.CheckInput.{maxChecked, stateText, stateRead, agreeWord, outputsText, checkedOn, checkedFiles, checked, checkedText, checkText, InputRoomsFit, inputOutcome, inputBuffer}
 use Rattle.text.specs.CheckInputLaws.{saidOf, ChecksInput}
+use Rattle.text.proofs.Writes.{two-tests, writes-where}
 use Rattle.text.proofs.Longest.{fault-few}
 use Rattle.text.proofs.Verdicts.{Judged, judged, judged-is}
 use Rattle.text.proofs.Decimal.{decimal-few}
@@ -32,6 +36,23 @@ use Rattle.text.proofs.input.Laws.{parts}
 
 digit-good : (k : ℕ) → k < 2 → (leb 48 (digit k) && leb (digit k) 49) ≡ true
 digit-good k h = both (le-leb 48 (digit k) (omega arith)) (le-leb (digit k) 49 (omega arith))
+
+pub state-size : (n x : ℕ) → length (stateText n x) ≡ n
+unfolding stateText
+state-size zero x = refl
+state-size (suc n) x = ap suc (state-size n (x / 2))
+
+pub state-line : (n x k : ℕ) → k < n → getD (stateText n x) k 0 ≡ digit (cond (bit x k) 1 0)
+unfolding stateText
+state-line zero x k h = absurd (omega arith)
+state-line (suc n) x zero h = ap digit (low (x % 2) (omega arith) ∙ sym (ap (λ (b : Bool). cond b 1 0) (bit-first x)))
+  where
+    low : (d : ℕ) → d < 2 → d ≡ cond (eqb d 1) 1 0
+    low d l =
+        either (eqb d 1)
+        (λ t. eqb-true d 1 t ∙ sym (cond-true (eqb d 1) 1 0 t))
+        (λ t. let z : d ≡ 0 = omega (arith, eqb-false d 1 t) in z ∙ sym (cond-false (eqb d 1) 1 0 t))
+state-line (suc n) x (suc k) h = state-line n (x / 2) k (omega arith) ∙ ap (λ (b : Bool). digit (cond b 1 0)) (sym (bit-suc x k))
 
 pub state-back : (n x : ℕ) → x < 2 ^ n → stateRead n (stateText n x) ≡ some x
 unfolding stateRead stateText
@@ -151,9 +172,39 @@ pub text-fits : (first second state : List ℕ) → length (checkText first seco
 unfolding checkText checked
 text-fits first second state = files-few first second state (filesOf first second) (judged first second)
 
-pub room-enough : (first second state : List ℕ) (room-a room-b room : ℕ) → fileWords ≤ room-a → fileWords ≤ room-b → maxChecked ≤ room
+pub room-enough : (first second state : List ℕ) (room-a room-b room : ℕ) → InputRoomsFit room-a room-b → maxChecked ≤ room
     → inputOutcome first second state room-a room-b room ≡ served (length (checkText first second state))
 unfolding inputOutcome fitOutcome
-room-enough first second state room-a room-b room a b h =
+room-enough first second state room-a room-b room (a, b) h =
     demand-met _ _ _ _ (le-leb fileWords room-a a) ∙ demand-met _ _ _ _ (le-leb fileWords room-b b)
     ∙ demand-met _ _ _ _ (le-leb (length (checkText first second state)) room (le-trans (text-fits first second state) h))
+
+-- ---- exactly where everything fits
+
+module _ (first second state : List ℕ) (room-a room-b : ℕ) (out : List ℕ) where
+  abbrev text : List ℕ
+  text = checkText first second state
+
+  abbrev fits : Bool
+  fits = leb fileWords room-a && (leb fileWords room-b && leb (length text) (length out))
+
+  one-test : inputOutcome first second state room-a room-b (length out) ≡ demand fits noRoom 0 (served (length text))
+  unfolding inputOutcome fitOutcome
+  one-test =
+      ap (λ (o : Outcome ℕ). demand (leb fileWords room-a) noRoom 0 o) (two-tests (leb fileWords room-b) _ noRoom 0 _)
+      ∙ two-tests (leb fileWords room-a) _ noRoom 0 _
+
+  all-fit : fits ≡ true → InputRoomsFit room-a room-b × (length text ≤ length out)
+  all-fit e =
+      let (a, f) = and-parts (leb fileWords room-a) _ e in
+      let (b, g) = and-parts (leb fileWords room-b) _ f in
+      ((leb-true _ _ a, leb-true _ _ b), leb-true _ _ g)
+
+  fit-all : InputRoomsFit room-a room-b × (length text ≤ length out) → fits ≡ true
+  fit-all ((a, b), i) = both (le-leb _ _ a) (both (le-leb _ _ b) (le-leb _ _ i))
+
+  pub call : WritesWhere (InputRoomsFit room-a room-b × (length text ≤ length out)) (inputOutcome first second state room-a room-b (length out)) text out
+      (inputBuffer first second state room-a room-b out)
+  unfolding inputBuffer
+  call =
+      writes-where (InputRoomsFit room-a room-b × (length text ≤ length out)) fits all-fit fit-all (inputOutcome first second state room-a room-b (length out)) text out one-test

@@ -21,7 +21,7 @@ use Rattle.checking.proofs.Promises.{sweep-says, clause-laws}
 use Rattle.text.specs.Dimacs.{headerText, clausesText, dimacsOf}
 use Rattle.text.specs.Plain.{plainClauses}
 use Rattle.text.specs.Tomiter.{refusalText}
-use Rattle.text.specs.Compare.{maxList, maxCompared, fileWords, miterWords, Files, cascades, faulty, filesOf, Comparison, gatesLeft, sweptAs, listAs, compared, comparedFiles, comparison, comparisonText, compareText, Rooms, compareOutcome}
+use Rattle.text.specs.Compare.{maxList, maxCompared, Files, cascades, faulty, filesOf, Comparison, gatesLeft, sweptAs, listAs, compared, comparedFiles, comparison, comparisonText, compareText, Rooms, RoomsFit, compareOutcome}
 use Rattle.text.specs.TwoFiles.{TwoFiles, WholeRefused, line, after, FilesRefused, first-long, second-long, first-file, second-file, lines-differ}
 use Rattle.text.proofs.Decimal.{decimal-few}
 use Rattle.text.proofs.Sizes.{variable-few, fault-small}
@@ -112,8 +112,8 @@ unfolding compareText comparison
 text-fits first second = files-few first second (filesOf first second) (judged first second)
 
 -- so a buffer of that length, and rooms of their lengths, always suffice
-pub room-enough : (first second : List ℕ) (lent : Rooms) (room : ℕ) → fileWords ≤ lent .first → fileWords ≤ lent .second → miterWords ≤ lent .miter → maxList ≤ lent .clauses → maxCompared ≤ room
+pub room-enough : (first second : List ℕ) (lent : Rooms) (room : ℕ) → RoomsFit lent → maxCompared ≤ room
     → compareOutcome first second lent room ≡ served (length (compareText first second))
-room-enough first second lent room a b c d h =
+room-enough first second lent room (a, b, c, d) h =
     rooms-good first second lent a b c d room
     ∙ fit-fits (compareText first second) room (le-trans (text-fits first second) h)

@@ -91,7 +91,7 @@ module _ (one two : List ℕ) (number file place : ℕ) (r : FilesRefused one tw
   refused-case text (reduces m c d s f g h) = absurd (not-both one two m c d number file place s r)
   refused-case text (sweeps m c d s f g h i) = absurd (not-both one two m c d number file place s r)
   refused-case text (differs m c d s x f g h i j) = absurd (not-both one two m c d number file place s r)
-  refused-case text (asks m c d s f g h i j) = absurd (not-both one two m c d number file place s r)
+  refused-case text (asks m c d s u f g h i j) = absurd (not-both one two m c d number file place s r)
 
 pub refused-only : (program : List ℕ → List ℕ → List ℕ) (first second : List ℕ) (number file place : ℕ) → FilesRefused first second number file place
     → Compares program → program first second ≡ refusalText number file place
@@ -128,14 +128,15 @@ module _ (one two : List ℕ) (n : ℕ) (a b : List Gate) (t : TwoFiles one two 
   equal-case text word e (reduces m c d s f g h) = same-equal m c d s h
   equal-case text word e (sweeps m c d s f g h i) = same-equal m c d s i
   equal-case text word e (differs m c d s x f g h i j) = absurd (omega (arith, differ-start x (run c x) (run d x), ap start (sym f ∙ e), equal-start word))
-  equal-case text word e (asks m c d s f g h i j) = absurd (omega (arith, tells-start text m c d f, ap start e, equal-start word))
+  equal-case text word e (asks m c d s u f g h i j) = absurd (omega (arith, tells-start text m c d f, ap start e, equal-start word))
 
 pub equal-only : (program : List ℕ → List ℕ → List ℕ) (first second word : List ℕ) (n : ℕ) (a b : List Gate) → TwoFiles first second n a b
     → program first second ≡ equalText word → Compares program → Equal n a b
 equal-only program one two word n a b t e laws = equal-case one two n a b t (program one two) word e (laws one two)
 
-pub always-equal : (program : List ℕ → List ℕ → List ℕ) (word : List ℕ) → ((first second : List ℕ) → program first second ≡ equalText word) → Compares program → ⊥
-always-equal program word all laws = not-equal 1 once [] files (equal-only program first second word 1 once [] files (all first second) laws)
+pub always-equal : (program : List ℕ → List ℕ → List ℕ) (word : List ℕ) → ((first second : List ℕ) (n : ℕ) (a b : List Gate) → TwoFiles first second n a b → program first second ≡ equalText word)
+    → Compares program → ⊥
+always-equal program word all laws = not-equal 1 once [] files (equal-only program first second word 1 once [] files (all first second 1 once [] files) laws)
 
 asked-case : (text : List ℕ) → start text ≡ 112 → MayWrite first second text → ⊥
 asked-case text e (refuses number file place f g) = omega (arith, refusal-start number file place, ap start f)
@@ -143,10 +144,11 @@ asked-case text e (overflows n a b t f g h i) = omega (arith, refusal-start 10 0
 asked-case text e (reduces n a b t f g h) = not-equal n a b t h
 asked-case text e (sweeps n a b t f g h i) = not-equal n a b t i
 asked-case text e (differs n a b t x f g h i j) = omega (arith, differ-start x (run a x) (run b x), ap start f)
-asked-case text e (asks n a b t f g h i j) = omega (arith, one-line n a b t)
+asked-case text e (asks n a b t u f g h i j) = omega (arith, one-line n a b t)
 
-pub always-asks : (program : List ℕ → List ℕ → List ℕ) → ((first second : List ℕ) → (d : Dimacs) × (dimacsRead (program first second) ≡ some d)) → Compares program → ⊥
-always-asks program all laws = let (d, e) = all first second in asked-case (program first second) (read-start _ d e) (laws first second)
+pub always-asks : (program : List ℕ → List ℕ → List ℕ) → ((first second : List ℕ) (n : ℕ) (a b : List Gate) → TwoFiles first second n a b → (d : Dimacs) × (dimacsRead (program first second) ≡ some d))
+    → Compares program → ⊥
+always-asks program all laws = let (d, e) = all first second 1 once [] files in asked-case (program first second) (read-start _ d e) (laws first second)
 
 -- the state of a difference is read off its text
 abbrev stateField : List (List ℕ) → List ℕ
@@ -178,7 +180,7 @@ module _ (one two : List ℕ) (n : ℕ) (a b : List Gate) (x y z : ℕ) (t : Two
       let q : k ≡ x = same-state k (run c k) (run d k) x y z (sym f ∙ e) in
       i .outputs
       (ap₂ run (p .first) q ∙ agree ∙ sym (ap₂ run (p .second) q))
-  difference-case text e (asks m c d s f g h i j) = omega (arith, tells-start text m c d f, differ-start x y z, ap start e)
+  difference-case text e (asks m c d s u f g h i j) = omega (arith, tells-start text m c d f, differ-start x y z, ap start e)
 
 pub no-difference : (program : List ℕ → List ℕ → List ℕ) (first second : List ℕ) (n : ℕ) (a b : List Gate) (x y z : ℕ) → TwoFiles first second n a b
     → program first second ≡ differText x y z → run a x ≡ run b x → Compares program → ⊥

@@ -2,7 +2,7 @@
 use mathlib.Core.Path.{_≡_, refl, sym, ap, ap₂, _∙_}
 use mathlib.Core.Logic.{_↔_}
 use mathlib.Core.Bool.{Bool, true, false, not, _&&_, _||_, xor, and-true, or-true, or-and-distrib-left}
-use mathlib.Core.List.{List, [], _∷_, map, map-append}
+use mathlib.Core.List.{List, [], _∷_, _++_, map, map-append}
 use Prim.Native.Nat.{ℕ}
 use lib.IntN.{ℤ, negℤ}
 use Rattle.bits.specs.Lists.{All}
@@ -114,3 +114,12 @@ module _ (n variables : ℕ) (cs : List Clause) (a b : List Gate) (t : Tells n v
         no-other = λ σ s. t .no-other σ (satisfying σ .0 s);
         within = plain-within variables cs (t .within);
       }
+
+-- ---- each clause in its place
+
+pub plain-each : (c : Clause) (cs : List Clause) → plainClauses (c ∷ cs) ≡ plainClause c ++ plainClauses cs
+unfolding plainClauses
+plain-each c cs = refl
+
+pub plain-same : (ls : List ℤ) → plainClause (OR ls) ≡ OR ls ∷ []
+plain-same ls = refl

@@ -3,25 +3,26 @@ use mathlib.Core.Path.{_≡_, refl, sym, ap, subst, _∙_}
 use mathlib.Core.Bool.{true}
 use mathlib.Core.List.{List, [], _∷_, _++_}
 use mathlib.Core.Option.{some}
-use Prim.Native.Nat.{ℕ}
+use Prim.Native.Nat.{ℕ, _≤_}
 use lib.Dec.{leb}
 use lib.ListN.{length, take}
 use lib.Seq.{take-at}
-use Rattle.bits.specs.Lists.{over}
+use borrow.Author.Tests.{leb-true, le-leb}
 use Rattle.bits.proofs.Lists.{free, free-append}
-use Rattle.circuit.specs.Outcome.{Outcome, served, Untouched, Yields}
+use Rattle.circuit.specs.Outcome.{Outcome, served, Yields}
 use Rattle.circuit.specs.File.{partedBy}
-use Rattle.circuit.proofs.Promises.{demanded, written-served, written-refused, parts-cut, parts-one}
+use Rattle.circuit.proofs.Promises.{demanded, parts-cut, parts-one}
 use Rattle.circuit.specs.Refusal.{noRoom}
 use Rattle.circuit.specs.Text.{tab, lineFeed}
 use Rattle.text.specs.Dimacs.{decimal, numberRead}
-use Rattle.text.specs.Answers.{fitOutcome, fitBuffer}
+use Rattle.text.specs.Answers.{fitOutcome, fitBuffer, WritesWhere}
 use Rattle.text.specs.Tomiter.{Verdict, listed, refusedAt, verdict, refusedWord, refusalText, verdictText, tomiterText, tomiterOutcome, tomiterBuffer, WritesText}
 use Rattle.text.specs.BytesTell.{StartsProblem, TextTells, BytesTell}
 use Rattle.text.specs.TextLaws.{ProgramRefused, RightText, clauses, refusal, ProgramLaws}
 use Rattle.text.proofs.Reading.{decimal-free, number-back}
 use Rattle.text.proofs.Telling.{refusal-starts, listed-fits, text-starts, text-fitting, text-told, dimacs-starts}
 use Rattle.text.proofs.Faults.{refused-exactly}
+use Rattle.text.proofs.Writes.{writes-where}
 
 -- ---- the text of a refusal by its fields
 
@@ -103,13 +104,10 @@ program-laws =
 
 -- ---- the call
 
-pub call-leaves : (input out : List ℕ) (k : ℕ) → tomiterOutcome input (length out) ≡ served k → tomiterBuffer input out ≡ over (tomiterText input) out
-unfolding fitBuffer
-call-leaves input out k e = written-served (tomiterText input) out (tomiterOutcome input (length out)) k e
-
-pub call-untouched : (input out : List ℕ) → Untouched (tomiterOutcome input (length out)) out (tomiterBuffer input out)
-unfolding fitBuffer
-call-untouched input out = written-refused (tomiterText input) out (tomiterOutcome input (length out))
+pub call : (input out : List ℕ) → WritesWhere (length (tomiterText input) ≤ length out) (tomiterOutcome input (length out)) (tomiterText input) out (tomiterBuffer input out)
+unfolding fitOutcome fitBuffer
+call input out =
+    writes-where (length (tomiterText input) ≤ length out) (leb (length (tomiterText input)) (length out)) (leb-true _ _) (le-leb _ _) _ (tomiterText input) out refl
 
 -- what the bytes of a served call tell
 pub bytes-tell : (input out : List ℕ) (told : Outcome ℕ) (last : List ℕ) → told ≡ tomiterOutcome input (length out) → last ≡ tomiterBuffer input out → BytesTell input told last
@@ -117,7 +115,7 @@ unfolding fitOutcome
 bytes-tell input out told last e l k s starts =
     let (t, q) = demanded (leb (length (tomiterText input)) (length out)) noRoom 0 (served (length (tomiterText input))) k (sym e ∙ s) in
     let long : length (tomiterText input) ≡ k = cc in
-    let same : take k last ≡ tomiterText input = ap (take k) (l ∙ call-leaves input out k (sym e ∙ s)) ∙ take-at (tomiterText input) _ k long in
+    let same : take k last ≡ tomiterText input = ap (take k) (l ∙ call input out .leaves k (sym e ∙ s)) ∙ take-at (tomiterText input) _ k long in
     let (n, a, b, f) = text-fitting input (subst StartsProblem same starts) in
     record {
       lines = n;

@@ -1,18 +1,22 @@
 -- The call that compares two files, by the rooms that are lent. Assumes nothing.
 use mathlib.Core.Path.{_≡_, refl, sym, ap, _∙_}
+use mathlib.Core.Bool.{Bool, true, _&&_}
 use mathlib.Core.List.{List}
 use Prim.Native.Nat.{ℕ, _≤_, _<_}
 use lib.IntN.{ℤ}
+use lib.Dec.{leb}
 use lib.ListN.{length}
-use borrow.Author.Tests.{le-leb, lt-leb}
+use borrow.Author.Tests.{le-leb, lt-leb, leb-true}
+use Rattle.bits.proofs.Bools.{and-parts, both}
 use Rattle.circuit.specs.declared.refusal.Refusal.{Refusal}
-use Rattle.circuit.specs.Outcome.{Outcome, refused, written, Yields}
+use Rattle.circuit.specs.Outcome.{Outcome, served, refused, demand, written, Yields}
 use Rattle.circuit.specs.Refusal.{refusal, noRoom}
 use Rattle.circuit.proofs.Promises.{demand-met, demand-failed, told, why}
 use Rattle.text.specs.declared.comparison.ComparedAnswer.{ComparedAnswer}
-use Rattle.text.specs.Answers.{fitOutcome, fitBuffer}
-use Rattle.text.specs.Compare.{maxList, fileWords, miterWords, comparison, comparisonText, compareText, Rooms, compareOutcome, compareBuffer}
+use Rattle.text.specs.Answers.{fitOutcome, fitBuffer, WritesWhere}
+use Rattle.text.specs.Compare.{maxList, fileWords, miterWords, comparison, comparisonText, compareText, Rooms, RoomsFit, compareOutcome, compareBuffer}
 use Rattle.text.specs.private.Comparing.{ofCompared, SaysCompared}
+use Rattle.text.proofs.Writes.{two-tests, writes-where}
 
 module _ (first second : List ℕ) (lent : Rooms) (out : List ℕ) where
   -- where the outcome is known
@@ -67,3 +71,38 @@ module _ (first second : List ℕ) (lent : Rooms) (good : fileWords ≤ lent .fi
         answer = y .answer ∙ g;
         buffer = y .buffer ∙ mathlib.Core.Path.ap₂ (λ (o : Outcome ℕ) (text : List ℕ). written o text out) g e;
       }
+
+-- ---- exactly where everything fits
+
+module _ (first second : List ℕ) (lent : Rooms) (out : List ℕ) where
+  abbrev text : List ℕ
+  text = compareText first second
+
+  abbrev fits : Bool
+  fits =
+      leb fileWords (lent .first) && (leb fileWords (lent .second) && (leb miterWords (lent .miter) && (leb maxList (lent .clauses) && leb (length text) (length out))))
+
+  one-test : compareOutcome first second lent (length out) ≡ demand fits noRoom 0 (served (length text))
+  unfolding compareOutcome fitOutcome
+  one-test =
+      ap (λ (o : Outcome ℕ). demand (leb fileWords (lent .first)) noRoom 0 o)
+      (ap (λ (o : Outcome ℕ). demand (leb fileWords (lent .second)) noRoom 0 o)
+      (ap (λ (o : Outcome ℕ). demand (leb miterWords (lent .miter)) noRoom 0 o) (two-tests (leb maxList (lent .clauses)) _ noRoom 0 _)
+      ∙ two-tests (leb miterWords (lent .miter)) _ noRoom 0 _)
+      ∙ two-tests (leb fileWords (lent .second)) _ noRoom 0 _)
+      ∙ two-tests (leb fileWords (lent .first)) _ noRoom 0 _
+
+  all-fit : fits ≡ true → RoomsFit lent × (length text ≤ length out)
+  all-fit e =
+      let (a, f) = and-parts (leb fileWords (lent .first)) _ e in
+      let (b, g) = and-parts (leb fileWords (lent .second)) _ f in
+      let (c, h) = and-parts (leb miterWords (lent .miter)) _ g in
+      let (d, i) = and-parts (leb maxList (lent .clauses)) _ h in
+      ((leb-true _ _ a, leb-true _ _ b, leb-true _ _ c, leb-true _ _ d), leb-true _ _ i)
+
+  fit-all : RoomsFit lent × (length text ≤ length out) → fits ≡ true
+  fit-all ((a, b, c, d), i) = both (le-leb _ _ a) (both (le-leb _ _ b) (both (le-leb _ _ c) (both (le-leb _ _ d) (le-leb _ _ i))))
+
+  pub call : WritesWhere (RoomsFit lent × (length text ≤ length out)) (compareOutcome first second lent (length out)) text out (compareBuffer first second lent out)
+  unfolding compareBuffer
+  call = writes-where (RoomsFit lent × (length text ≤ length out)) fits all-fit fit-all (compareOutcome first second lent (length out)) text out one-test

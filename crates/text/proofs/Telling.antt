@@ -120,6 +120,10 @@ module _ (input : List ℕ) (v : ℕ) (cs : List Clause) (e : verdict input ≡ 
 
 -- ---- what the program writes
 
+pub as-built : (input : List ℕ) (n : ℕ) (a b : List Gate) → Fitting input n a b → tomiterText input ≡ dimacsOf (variablesOf n (miterGates a b)) (clausesOf n (miterGates a b))
+unfolding tomiterText
+as-built input n a b f = ap verdictText (fitting-verdict input n a b f)
+
 pub text-starts : (input : List ℕ) (n : ℕ) (a b : List Gate) → Fitting input n a b → StartsProblem (tomiterText input)
 unfolding tomiterText
 text-starts input n a b f = subst (λ (w : Verdict). StartsProblem (verdictText w)) (sym (fitting-verdict input n a b f)) (dimacs-starts _ _)

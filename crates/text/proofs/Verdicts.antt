@@ -208,7 +208,7 @@ module _ (first second : List ℕ) (n : ℕ) (a b : List Gate) (t : TwoFiles fir
         either (leb (length (stored cs)) maxList)
         (λ u.
         let e : comparisonText (listAs n gl) ≡ dimacsOf (variablesOf n gl) (plainClauses cs) = ap comparisonText (cond-true (leb (length (stored cs)) maxList) _ _ u) in
-        asks n a b t (text-tells _ e) (plain-or cs) some h (leb-true (length (stored cs)) maxList u))
+        asks n a b t e (text-tells _ e) (plain-or cs) some h (leb-true (length (stored cs)) maxList u))
         (λ u.
         overflows n a b t (ap comparisonText (cond-false (leb (length (stored cs)) maxList) _ _ u)) some h (leb-false (length (stored cs)) maxList u))
 

@@ -1,10 +1,12 @@
 -- The answer of the calls that write a text, in document 01's numbers and values, and what they owe.
 use mathlib.Core.Path.{_≡_}
+use mathlib.Core.Logic.{_↔_}
 use mathlib.Core.List.{List}
 use Prim.Native.Nat.{ℕ}
 use lib.Dec.{leb}
 use lib.ListN.{length}
-use Rattle.circuit.specs.Outcome.{Outcome, served, refused, demand, written}
+use Rattle.bits.specs.Lists.{over}
+use Rattle.circuit.specs.Outcome.{Outcome, served, refused, demand, written, Untouched}
 use Rattle.circuit.specs.Refusal.{noRoom}
 use Rattle.text.specs.declared.TextAnswer.{TextAnswer}
 use Rattle.text.specs.declared.TextAnswer.the-variants as text
@@ -25,3 +27,10 @@ pub record Serves (told : Outcome ℕ) (last : List ℕ) (expected : Outcome ℕ
   pub answer : told ≡ expected
   pub buffer : last ≡ contents
   pub kept : Short → Kept
+
+-- a call that writes a text at its buffer's start exactly where it fits, and is else refused with 10 and leaves the buffer
+pub record WritesWhere (Fits : Type 0) (outcome : Outcome ℕ) (text out last : List ℕ) : Type 0 where
+  pub served-exactly : (k : ℕ) → (outcome ≡ served k) ↔ (Fits × (k ≡ length text))
+  pub refused-exactly : (number place : ℕ) → (outcome ≡ refused number place) ↔ ((Fits → ⊥) × (number ≡ noRoom) × (place ≡ 0))
+  pub leaves : (k : ℕ) → outcome ≡ served k → last ≡ over text out
+  pub untouched : Untouched outcome out last

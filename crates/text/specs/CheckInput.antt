@@ -66,9 +66,13 @@ checkedText (refusedAt number file place) = refusalText number file place
 unfoldable pub checkText : List ℕ → List ℕ → List ℕ → List ℕ
 checkText first second state = checkedText (checked first second state)
 
--- a room has fewer words than a cascade may have
+-- each room has as many words as a cascade may have
+abbrev pub InputRoomsFit : ℕ → ℕ → Type 0
+InputRoomsFit room-a room-b = (fileWords ≤ room-a) × (fileWords ≤ room-b)
+
+-- a room is too short
 abbrev pub InputRoomShort : ℕ → ℕ → Type 0
-InputRoomShort room-a room-b = fileWords ≤ room-a → fileWords ≤ room-b → ⊥
+InputRoomShort room-a room-b = InputRoomsFit room-a room-b → ⊥
 
 -- the call on slices: 10 where a room is too short, or the buffer is shorter than the text
 unfoldable pub inputOutcome : List ℕ → List ℕ → List ℕ → ℕ → ℕ → ℕ → Outcome ℕ

@@ -149,9 +149,13 @@ pub record Rooms : Type 0 where
 abbrev pub rooms : ℕ → ℕ → ℕ → ℕ → Rooms
 rooms first second miter clauses = record { first = first; second = second; miter = miter; clauses = clauses }
 
--- a room has fewer words than a cascade, a miter or a clause list may have
+-- each room has as many words as a cascade, a miter or a clause list may have
+abbrev pub RoomsFit : Rooms → Type 0
+RoomsFit lent = (fileWords ≤ lent .first) × (fileWords ≤ lent .second) × (miterWords ≤ lent .miter) × (maxList ≤ lent .clauses)
+
+-- a room is too short
 abbrev pub RoomShort : Rooms → Type 0
-RoomShort lent = fileWords ≤ lent .first → fileWords ≤ lent .second → miterWords ≤ lent .miter → maxList ≤ lent .clauses → ⊥
+RoomShort lent = RoomsFit lent → ⊥
 
 -- 10 where a room is too short, or the buffer is shorter than the text
 unfoldable pub compareOutcome : List ℕ → List ℕ → Rooms → ℕ → Outcome ℕ

@@ -1,7 +1,7 @@
 -- What is proved of the text that is written for two files, of any program of this kind.
 use mathlib.Core.Path.{_≡_}
 use mathlib.Core.Bool.{Bool}
-use mathlib.Core.List.{List, [], _∷_}
+use mathlib.Core.List.{List, [], _∷_, _++_}
 use mathlib.Core.Option.{some}
 use Prim.Native.Nat.{ℕ, _≤_, _<_}
 use lib.IntN.{ℤ, negℤ}
@@ -11,17 +11,19 @@ use Rattle.circuit.specs.Outcome.{served}
 use Rattle.circuit.specs.Refusal.{noRoom}
 use Rattle.circuit.specs.Run.{run, Equal, Differs}
 use Rattle.checking.specs.Compare.{maxSweepLines}
-use Rattle.checking.specs.Clauses.{Clause, OR, XOR, clausesOf}
+use Rattle.checking.specs.Clauses.{Clause, OR, XOR, clausesOf, variablesOf}
 use Rattle.checking.specs.Satisfaction.{satisfies, ClausesWithin}
 use Rattle.checking.specs.Stored.{stored}
-use Rattle.text.specs.Dimacs.{Dimacs, dimacsRead}
+use Rattle.text.specs.Answers.{WritesWhere}
+use Rattle.text.specs.Dimacs.{Dimacs, dimacsOf, dimacsRead}
 use Rattle.text.specs.Plain.{plainClause, plainClauses, AllOr}
 use Rattle.text.specs.Tomiter.{refusalText}
 use Rattle.text.specs.BytesTell.{TextTells}
-use Rattle.text.specs.Compare.{maxList, maxCompared, fileWords, miterWords, gatesLeft, reductionWord, sweepWord, equalText, differText, compareText, Rooms, compareOutcome}
+use Rattle.text.specs.Compare.{maxList, maxCompared, gatesLeft, reductionWord, sweepWord, equalText, differText, compareText, Rooms, RoomsFit, compareOutcome, compareBuffer}
+use Rattle.text.specs.Rows.{FilesHold, filesRows}
 use Rattle.text.specs.TwoFiles.{TwoFiles, FilesRefused}
 
--- THE CLAIM: what a text may be that is written for two files. The kinds of texts start with different bytes, and which kind is due is decided by the files alone.
+-- THE CLAIM: what a text may be that is written for two files. Which kind of text is due is decided by the files alone.
 pub data MayWrite (first second text : List ℕ) : Type 0 where
   -- a refusal: what is wrong with the files first
   refuses : (number file place : ℕ) → text ≡ refusalText number file place → FilesRefused first second number file place → MayWrite first second text
@@ -36,8 +38,9 @@ pub data MayWrite (first second text : List ℕ) : Type 0 where
   -- a state on which the cascades differ, the lowest, and their outputs on it
   differs : (n : ℕ) (a b : List Gate) → TwoFiles first second n a b → (x : ℕ) → text ≡ differText x (run a x) (run b x) → (gatesLeft a b ≡ [] → ⊥) → n ≤ maxSweepLines
       → Differs n a b x → ((y : ℕ) → y < x → run a y ≡ run b y) → MayWrite first second text
-  -- OR clauses that tell on which states the given cascades differ: no assignment satisfies them exactly where the cascades are equal, and each differing state is spelled by exactly one
-  asks : (n : ℕ) (a b : List Gate) → TwoFiles first second n a b → (tells : TextTells text n a b) → AllOr (tells .read .clauses) → (gatesLeft a b ≡ [] → ⊥)
+  -- the clauses of the gates that the reduction leaves, each XOR in its place as ORs, which tell on which states the given cascades differ: no assignment satisfies them exactly where the cascades are equal, and each differing state is spelled by exactly one
+  asks : (n : ℕ) (a b : List Gate) → TwoFiles first second n a b → text ≡ dimacsOf (variablesOf n (gatesLeft a b)) (plainClauses (clausesOf n (gatesLeft a b)))
+      → (tells : TextTells text n a b) → AllOr (tells .read .clauses) → (gatesLeft a b ≡ [] → ⊥)
       → maxSweepLines < n → length (stored (clausesOf n (gatesLeft a b))) ≤ maxList → MayWrite first second text
 
 -- a program that compares two files, by what it writes
@@ -49,7 +52,9 @@ pub record CompareLaws : Type 0 where
   pub plain-satisfied : (σ : List Bool) (variables : ℕ) (cs : List Clause) → ClausesWithin variables cs → satisfies σ (plainClauses cs) ≡ satisfies σ cs
   pub plain-within : (variables : ℕ) (cs : List Clause) → ClausesWithin variables cs → ClausesWithin variables (plainClauses cs)
   pub plain-or : (cs : List Clause) → AllOr (plainClauses cs)
-  -- an XOR of two literals, and of three
+  -- each clause in its place: an OR as it is, an XOR of two literals, and of three
+  pub plain-each : (c : Clause) (cs : List Clause) → plainClauses (c ∷ cs) ≡ plainClause c ++ plainClauses cs
+  pub plain-same : (ls : List ℤ) → plainClause (OR ls) ≡ OR ls ∷ []
   pub plain-two : (a b : ℤ) → plainClause (XOR (a ∷ b ∷ [])) ≡ OR (a ∷ b ∷ []) ∷ OR (negℤ a ∷ negℤ b ∷ []) ∷ []
   pub plain-three : (a b c : ℤ) → plainClause (XOR (a ∷ b ∷ c ∷ []))
       ≡ OR (a ∷ b ∷ c ∷ []) ∷ OR (a ∷ negℤ b ∷ negℤ c ∷ []) ∷ OR (negℤ a ∷ b ∷ negℤ c ∷ []) ∷ OR (negℤ a ∷ negℤ b ∷ c ∷ []) ∷ []
@@ -61,12 +66,18 @@ pub record CompareLaws : Type 0 where
   -- it says `equal` of equal cascades alone
   pub equal-only : (program : List ℕ → List ℕ → List ℕ) (first second word : List ℕ) (n : ℕ) (a b : List Gate) → TwoFiles first second n a b
       → program first second ≡ equalText word → Compares program → Equal n a b
-  -- it is no program that calls all pairs equal, that asks a solver always, or that says `differ` of a state on which two cascades of its files agree
-  pub always-equal : (program : List ℕ → List ℕ → List ℕ) (word : List ℕ) → ((first second : List ℕ) → program first second ≡ equalText word) → Compares program → ⊥
-  pub always-asks : (program : List ℕ → List ℕ → List ℕ) → ((first second : List ℕ) → (d : Dimacs) × (dimacsRead (program first second) ≡ some d)) → Compares program → ⊥
+  -- it is no program that calls the cascades of all good files equal, that always asks a solver of these, or that says `differ` of a state on which two cascades of its files agree
+  pub always-equal : (program : List ℕ → List ℕ → List ℕ) (word : List ℕ) → ((first second : List ℕ) (n : ℕ) (a b : List Gate) → TwoFiles first second n a b → program first second ≡ equalText word)
+      → Compares program → ⊥
+  pub always-asks : (program : List ℕ → List ℕ → List ℕ) → ((first second : List ℕ) (n : ℕ) (a b : List Gate) → TwoFiles first second n a b → (d : Dimacs) × (dimacsRead (program first second) ≡ some d))
+      → Compares program → ⊥
   pub no-difference : (program : List ℕ → List ℕ → List ℕ) (first second : List ℕ) (n : ℕ) (a b : List Gate) (x y z : ℕ) → TwoFiles first second n a b
       → program first second ≡ differText x y z → run a x ≡ run b x → Compares program → ⊥
+  -- the call writes the text exactly where the rooms and the buffer are long enough
+  pub call : (first second : List ℕ) (lent : Rooms) (out : List ℕ) → WritesWhere (RoomsFit lent × (length (compareText first second) ≤ length out))
+      (compareOutcome first second lent (length out)) (compareText first second) out (compareBuffer first second lent out)
   -- every text fits a buffer of 4,194,322 bytes
   pub text-fits : (first second : List ℕ) → length (compareText first second) ≤ maxCompared
-  pub room-enough : (first second : List ℕ) (lent : Rooms) (room : ℕ) → fileWords ≤ lent .first → fileWords ≤ lent .second → miterWords ≤ lent .miter → maxList ≤ lent .clauses → maxCompared ≤ room
+  pub room-enough : (first second : List ℕ) (lent : Rooms) (room : ℕ) → RoomsFit lent → maxCompared ≤ room
       → compareOutcome first second lent room ≡ served (length (compareText first second))
+  pub rows : FilesHold filesRows

@@ -1,9 +1,11 @@
--- Rows: inputs, byte by byte, and what the program writes for them.
+-- Rows: inputs, byte by byte, and what the programs write for them.
 use mathlib.Core.Path.{_≡_}
 use mathlib.Core.List.{List, [], _∷_}
 use Prim.Native.Nat.{ℕ}
 use Rattle.bits.specs.Lists.{All}
 use Rattle.text.specs.Tomiter.{tomiterText}
+use Rattle.text.specs.Compare.{compareText}
+use Rattle.text.specs.CheckInput.{checkText}
 
 pub record Row : Type 0 where
   pub input : List ℕ
@@ -62,3 +64,105 @@ textRows = example ∷ nothing ∷ onlyOne ∷ inSecond ∷ afterEnd ∷ otherLi
 
 abbrev pub RowsHold : List Row → Type 0
 RowsHold rs = All (λ (r : Row). tomiterText (r .input) ≡ r .text) rs
+
+-- ---- two files that are compared
+
+pub record FilesRow : Type 0 where
+  pub first : List ℕ
+  pub second : List ℕ
+  pub text : List ℕ
+
+-- t1+0 against nothing, on two lines: they differ on state 1, with the outputs 3 and 1
+abbrev pub differs : FilesRow
+differs =
+    record {
+      first = 108 ∷ 105 ∷ 110 ∷ 101 ∷ 115 ∷ 9 ∷ 50 ∷ 10 ∷ 103 ∷ 9 ∷ 49 ∷ 9 ∷ 43 ∷ 48 ∷ 10 ∷ 101 ∷ 110 ∷ 100 ∷ 10 ∷ [];
+      second = 108 ∷ 105 ∷ 110 ∷ 101 ∷ 115 ∷ 9 ∷ 50 ∷ 10 ∷ 101 ∷ 110 ∷ 100 ∷ 10 ∷ [];
+      text = 100 ∷ 105 ∷ 102 ∷ 102 ∷ 101 ∷ 114 ∷ 9 ∷ 49 ∷ 9 ∷ 51 ∷ 9 ∷ 49 ∷ 10 ∷ [];
+    }
+
+-- t0 t0 against nothing: the reduction leaves no gate
+abbrev pub cancels : FilesRow
+cancels =
+    record {
+      first = 108 ∷ 105 ∷ 110 ∷ 101 ∷ 115 ∷ 9 ∷ 49 ∷ 10 ∷ 103 ∷ 9 ∷ 48 ∷ 10 ∷ 103 ∷ 9 ∷ 48 ∷ 10 ∷ 101 ∷ 110 ∷ 100 ∷ 10 ∷ [];
+      second = 108 ∷ 105 ∷ 110 ∷ 101 ∷ 115 ∷ 9 ∷ 49 ∷ 10 ∷ 101 ∷ 110 ∷ 100 ∷ 10 ∷ [];
+      text = 101 ∷ 113 ∷ 117 ∷ 97 ∷ 108 ∷ 9 ∷ 114 ∷ 101 ∷ 100 ∷ 117 ∷ 99 ∷ 116 ∷ 105 ∷ 111 ∷ 110 ∷ 10 ∷ [];
+    }
+
+-- two lines exchanged in two ways: the reduction leaves six gates
+abbrev pub exchanges : FilesRow
+exchanges =
+    record {
+      first = 108 ∷ 105 ∷ 110 ∷ 101 ∷ 115 ∷ 9 ∷ 50 ∷ 10 ∷ 103 ∷ 9 ∷ 49 ∷ 9 ∷ 43 ∷ 48 ∷ 10 ∷ 103 ∷ 9 ∷ 48 ∷ 9 ∷ 43 ∷ 49 ∷ 10 ∷ 103 ∷ 9 ∷ 49 ∷ 9 ∷ 43 ∷ 48 ∷ 10 ∷ 101 ∷ 110 ∷ 100 ∷ 10 ∷ [];
+      second = 108 ∷ 105 ∷ 110 ∷ 101 ∷ 115 ∷ 9 ∷ 50 ∷ 10 ∷ 103 ∷ 9 ∷ 48 ∷ 9 ∷ 43 ∷ 49 ∷ 10 ∷ 103 ∷ 9 ∷ 49 ∷ 9 ∷ 43 ∷ 48 ∷ 10 ∷ 103 ∷ 9 ∷ 48 ∷ 9 ∷ 43 ∷ 49 ∷ 10 ∷ 101 ∷ 110 ∷ 100 ∷ 10 ∷ [];
+      text = 101 ∷ 113 ∷ 117 ∷ 97 ∷ 108 ∷ 9 ∷ 115 ∷ 119 ∷ 101 ∷ 101 ∷ 112 ∷ 10 ∷ [];
+    }
+
+-- a control of n or more, in line 1 of the second file
+abbrev pub secondWrong : FilesRow
+secondWrong =
+    record {
+      first = 108 ∷ 105 ∷ 110 ∷ 101 ∷ 115 ∷ 9 ∷ 49 ∷ 10 ∷ 101 ∷ 110 ∷ 100 ∷ 10 ∷ [];
+      second = 108 ∷ 105 ∷ 110 ∷ 101 ∷ 115 ∷ 9 ∷ 49 ∷ 10 ∷ 103 ∷ 9 ∷ 48 ∷ 9 ∷ 43 ∷ 49 ∷ 10 ∷ 101 ∷ 110 ∷ 100 ∷ 10 ∷ [];
+      text = 114 ∷ 101 ∷ 102 ∷ 117 ∷ 115 ∷ 101 ∷ 100 ∷ 9 ∷ 51 ∷ 9 ∷ 50 ∷ 9 ∷ 49 ∷ 10 ∷ [];
+    }
+
+-- a byte after the first `end`, in line 2 of the first file
+abbrev pub firstLonger : FilesRow
+firstLonger =
+    record {
+      first = 108 ∷ 105 ∷ 110 ∷ 101 ∷ 115 ∷ 9 ∷ 49 ∷ 10 ∷ 101 ∷ 110 ∷ 100 ∷ 10 ∷ 120 ∷ [];
+      second = 108 ∷ 105 ∷ 110 ∷ 101 ∷ 115 ∷ 9 ∷ 49 ∷ 10 ∷ 101 ∷ 110 ∷ 100 ∷ 10 ∷ [];
+      text = 114 ∷ 101 ∷ 102 ∷ 117 ∷ 115 ∷ 101 ∷ 100 ∷ 9 ∷ 49 ∷ 9 ∷ 49 ∷ 9 ∷ 50 ∷ 10 ∷ [];
+    }
+
+abbrev pub filesRows : List FilesRow
+filesRows = differs ∷ cancels ∷ exchanges ∷ secondWrong ∷ firstLonger ∷ []
+
+abbrev pub FilesHold : List FilesRow → Type 0
+FilesHold rs = All (λ (r : FilesRow). compareText (r .first) (r .second) ≡ r .text) rs
+
+-- ---- one input to two files
+
+pub record InputRow : Type 0 where
+  pub first : List ℕ
+  pub second : List ℕ
+  pub state : List ℕ
+  pub text : List ℕ
+
+-- the input with line 0 alone 1: the outputs are 1 1 and 1 0
+abbrev pub apart : InputRow
+apart =
+    record {
+      first = 108 ∷ 105 ∷ 110 ∷ 101 ∷ 115 ∷ 9 ∷ 50 ∷ 10 ∷ 103 ∷ 9 ∷ 49 ∷ 9 ∷ 43 ∷ 48 ∷ 10 ∷ 101 ∷ 110 ∷ 100 ∷ 10 ∷ [];
+      second = 108 ∷ 105 ∷ 110 ∷ 101 ∷ 115 ∷ 9 ∷ 50 ∷ 10 ∷ 101 ∷ 110 ∷ 100 ∷ 10 ∷ [];
+      state = 49 ∷ 48 ∷ [];
+      text = 100 ∷ 105 ∷ 102 ∷ 102 ∷ 101 ∷ 114 ∷ 9 ∷ 49 ∷ 49 ∷ 9 ∷ 49 ∷ 48 ∷ 10 ∷ [];
+    }
+
+-- the input with line 1 alone 1
+abbrev pub together : InputRow
+together =
+    record {
+      first = 108 ∷ 105 ∷ 110 ∷ 101 ∷ 115 ∷ 9 ∷ 50 ∷ 10 ∷ 103 ∷ 9 ∷ 49 ∷ 9 ∷ 43 ∷ 48 ∷ 10 ∷ 101 ∷ 110 ∷ 100 ∷ 10 ∷ [];
+      second = 108 ∷ 105 ∷ 110 ∷ 101 ∷ 115 ∷ 9 ∷ 50 ∷ 10 ∷ 101 ∷ 110 ∷ 100 ∷ 10 ∷ [];
+      state = 48 ∷ 49 ∷ [];
+      text = 97 ∷ 103 ∷ 114 ∷ 101 ∷ 101 ∷ 9 ∷ 48 ∷ 49 ∷ 9 ∷ 48 ∷ 49 ∷ 10 ∷ [];
+    }
+
+-- one character for two lines
+abbrev pub tooShort : InputRow
+tooShort =
+    record {
+      first = 108 ∷ 105 ∷ 110 ∷ 101 ∷ 115 ∷ 9 ∷ 50 ∷ 10 ∷ 103 ∷ 9 ∷ 49 ∷ 9 ∷ 43 ∷ 48 ∷ 10 ∷ 101 ∷ 110 ∷ 100 ∷ 10 ∷ [];
+      second = 108 ∷ 105 ∷ 110 ∷ 101 ∷ 115 ∷ 9 ∷ 50 ∷ 10 ∷ 101 ∷ 110 ∷ 100 ∷ 10 ∷ [];
+      state = 48 ∷ [];
+      text = 114 ∷ 101 ∷ 102 ∷ 117 ∷ 115 ∷ 101 ∷ 100 ∷ 9 ∷ 57 ∷ 9 ∷ 48 ∷ 9 ∷ 48 ∷ 10 ∷ [];
+    }
+
+abbrev pub inputRows : List InputRow
+inputRows = apart ∷ together ∷ tooShort ∷ []
+
+abbrev pub InputsHold : List InputRow → Type 0
+InputsHold rs = All (λ (r : InputRow). checkText (r .first) (r .second) (r .state) ≡ r .text) rs

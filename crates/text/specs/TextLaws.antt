@@ -5,18 +5,18 @@ use mathlib.Core.List.{List, [], _∷_, _++_}
 use mathlib.Core.Option.{some}
 use Prim.Native.Nat.{ℕ, _+_, _≤_, _<_}
 use lib.ListN.{length, drop}
-use Rattle.bits.specs.Lists.{over}
 use Rattle.circuit.specs.declared.gate.Gate.{Gate}
-use Rattle.circuit.specs.Outcome.{served, Untouched}
+use Rattle.circuit.specs.Outcome.{served}
 use Rattle.circuit.specs.Refusal.{wrongForm, lineCountsDiffer, noRoom}
 use Rattle.circuit.specs.Text.{textOf}
 use Rattle.circuit.specs.FileLaws.{FileCascade, FileRefused}
 use Rattle.checking.specs.Miter.{miterGates}
-use Rattle.checking.specs.Clauses.{Clause, OR, clausesOf}
+use Rattle.checking.specs.Clauses.{Clause, OR, clausesOf, variablesOf}
 use Rattle.checking.specs.Stored.{stored}
 use Rattle.checking.specs.Satisfaction.{ClausesWithin}
 use Rattle.text.specs.Dimacs.{clausesText, headerText, Dimacs, dimacsOf, dimacsRead}
 use Rattle.text.specs.BytesTell.{StartsProblem, TextTells}
+use Rattle.text.specs.Answers.{WritesWhere}
 use Rattle.text.specs.Rows.{RowsHold, textRows}
 use Rattle.text.specs.Tomiter.{maxInput, maxWords, maxText, Verdict, listed, refusedAt, verdict, refusalText, tomiterText, tomiterOutcome, tomiterBuffer}
 
@@ -91,9 +91,10 @@ pub record TextLaws : Type 0 where
   pub contradiction-fails : ProgramLaws contradiction → ⊥
   pub without-first-fails : ProgramLaws withoutFirst → ⊥
   pub refuses-all : (program : List ℕ → List ℕ) → ((input : List ℕ) → (number : ℕ) × (file : ℕ) × (place : ℕ) × (program input ≡ refusalText number file place)) → ProgramLaws program → ⊥
-  -- the call leaves the text at its buffer's start, and the buffer as it was where it is refused
-  pub call-leaves : (input out : List ℕ) (k : ℕ) → tomiterOutcome input (length out) ≡ served k → tomiterBuffer input out ≡ over (tomiterText input) out
-  pub call-untouched : (input out : List ℕ) → Untouched (tomiterOutcome input (length out)) out (tomiterBuffer input out)
+  -- the clauses are those of the miter as it is built
+  pub as-built : (input : List ℕ) (n : ℕ) (a b : List Gate) → Fitting input n a b → tomiterText input ≡ dimacsOf (variablesOf n (miterGates a b)) (clausesOf n (miterGates a b))
+  -- the call writes the text exactly where the buffer is long enough
+  pub call : (input out : List ℕ) → WritesWhere (length (tomiterText input) ≤ length out) (tomiterOutcome input (length out)) (tomiterText input) out (tomiterBuffer input out)
   -- every text fits a buffer of 98,321 bytes
   pub text-fits : (input : List ℕ) → length (tomiterText input) ≤ maxText
   pub room-enough : (input : List ℕ) (room : ℕ) → maxText ≤ room → tomiterOutcome input room ≡ served (length (tomiterText input))

@@ -33,7 +33,7 @@ unfolding inputBuffer
 returns c =
     let s = c .before .before .before .before .before .before .before .before .before .before .before .before .before .before .before .before .before .before .before in
     let t = c .before .before .before .before .before .before .before .before .before .check-input in
-    served-put (checkText (s .args .first .now) (s .args .second .now) (s .args .state .now)) (s .args .out .now) _ _ _ (room-enough (s .args .first .now) (s .args .second .now) (s .args .state .now) (length (s .args .a .now)) (length (s .args .b .now)) (length (s .args .out .now)) (s .pre .1 .0) (s .pre .1 .1) (s .pre .0)) (sym (t .ensures .answer) ∙ ap ofText (c .before .size .given .1)) (t .ensures .buffer)
+    served-put (checkText (s .args .first .now) (s .args .second .now) (s .args .state .now)) (s .args .out .now) _ _ _ (room-enough (s .args .first .now) (s .args .second .now) (s .args .state .now) (length (s .args .a .now)) (length (s .args .b .now)) (length (s .args .out .now)) (s .pre .1) (s .pre .0)) (sym (t .ensures .answer) ∙ ap ofText (c .before .size .given .1)) (t .ensures .buffer)
 
 same-length-4 : tie.Need-same-length-4
 same-length-4 c = search needs
@@ -48,7 +48,7 @@ returns-2 : tie.Need-returns-2
 returns-2 c =
     let s = c .before .before .before .before .before .before .before .before .before .before .before .before .before .before .before .before .before .before in
     let t = c .before .before .before .before .before .before .before .before .check-input in
-    absurd (never (room-enough (s .args .first .now) (s .args .second .now) (s .args .state .now) (length (s .args .a .now)) (length (s .args .b .now)) (length (s .args .out .now)) (s .pre .1 .0) (s .pre .1 .1) (s .pre .0)) (sym (t .ensures .answer) ∙ ap ofText (c .enum-told .given .1)))
+    absurd (never (room-enough (s .args .first .now) (s .args .second .now) (s .args .state .now) (length (s .args .a .now)) (length (s .args .b .now)) (length (s .args .out .now)) (s .pre .1) (s .pre .0)) (sym (t .ensures .answer) ∙ ap ofText (c .enum-told .given .1)))
 
 pub answer-spec : {M : Type 1} → statement M
 answer-spec =

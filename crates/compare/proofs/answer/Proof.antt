@@ -39,7 +39,7 @@ unfolding compareBuffer
 returns c =
     let s = c .before .before .before .before .before .before .before .before .before .before .before .before .before .before .before .before .before .before .before .before .before .before .before .before in
     let t = c .before .before .before .before .before .before .before .before .before .before .before .before .compare in
-    served-put (compareText (s .args .first .now) (s .args .second .now)) (s .args .out .now) _ _ _ (room-enough (s .args .first .now) (s .args .second .now) (rooms (length (s .args .a .now)) (length (s .args .b .now)) (length (s .args .miter .now)) (length (s .args .clauses .now))) (length (s .args .out .now)) (s .pre .1 .0) (s .pre .1 .1 .0) (s .pre .1 .1 .1 .0) (s .pre .1 .1 .1 .1) (s .pre .0)) (sym (t .ensures .answer) ∙ ap ofText (c .before .size .given .1)) (t .ensures .buffer)
+    served-put (compareText (s .args .first .now) (s .args .second .now)) (s .args .out .now) _ _ _ (room-enough (s .args .first .now) (s .args .second .now) (rooms (length (s .args .a .now)) (length (s .args .b .now)) (length (s .args .miter .now)) (length (s .args .clauses .now))) (length (s .args .out .now)) (s .pre .1 .0, s .pre .1 .1 .0, s .pre .1 .1 .1 .0, s .pre .1 .1 .1 .1) (s .pre .0)) (sym (t .ensures .answer) ∙ ap ofText (c .before .size .given .1)) (t .ensures .buffer)
 
 same-length-6 : tie.Need-same-length-6
 same-length-6 c = search needs
@@ -60,7 +60,7 @@ returns-2 : tie.Need-returns-2
 returns-2 c =
     let s = c .before .before .before .before .before .before .before .before .before .before .before .before .before .before .before .before .before .before .before .before .before .before .before in
     let t = c .before .before .before .before .before .before .before .before .before .before .before .compare in
-    absurd (never (room-enough (s .args .first .now) (s .args .second .now) (rooms (length (s .args .a .now)) (length (s .args .b .now)) (length (s .args .miter .now)) (length (s .args .clauses .now))) (length (s .args .out .now)) (s .pre .1 .0) (s .pre .1 .1 .0) (s .pre .1 .1 .1 .0) (s .pre .1 .1 .1 .1) (s .pre .0)) (sym (t .ensures .answer) ∙ ap ofText (c .enum-told .given .1)))
+    absurd (never (room-enough (s .args .first .now) (s .args .second .now) (rooms (length (s .args .a .now)) (length (s .args .b .now)) (length (s .args .miter .now)) (length (s .args .clauses .now))) (length (s .args .out .now)) (s .pre .1 .0, s .pre .1 .1 .0, s .pre .1 .1 .1 .0, s .pre .1 .1 .1 .1) (s .pre .0)) (sym (t .ensures .answer) ∙ ap ofText (c .enum-told .given .1)))
 
 pub answer-spec : {M : Type 1} → statement M
 answer-spec =

@@ -44,7 +44,7 @@ returns-3 : tie.Need-returns-3
 returns-3 c =
     let s = c .before .before .before .before .before .before .before .before .before .before .before .before .before .before .before .before .before .before .before in
     let y = checked-told (s .args .first .now) (s .args .second .now) (s .args .state .now) (length (s .args .a .now)) (length (s .args .b .now)) (s .args .out .now) (omega arith) (omega arith) _ (c .before .before .before .before .before .before .before .before .check-files .ensures) _ _ (c .before .before .fit-checked .ensures) in
-    record { answer = y .answer; buffer = y .buffer; kept = λ short. absurd (short (omega arith) (omega arith)) }
+    record { answer = y .answer; buffer = y .buffer; kept = λ short. absurd (short (omega arith, omega arith)) }
 
 pub check-input-spec : {M : Type 1} → statement M
 check-input-spec =

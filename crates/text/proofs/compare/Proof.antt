@@ -69,7 +69,7 @@ returns-5 : tie.Need-returns-5
 returns-5 c =
     let s = c .before .before .before .before .before .before .before .before .before .before .before .before .before .before .before .before .before .before .before .before .before .before .before .before .before .before .before in
     let y = compared-told (s .args .first .now) (s .args .second .now) (rooms (length (s .args .a .now)) (length (s .args .b .now)) (length (s .args .miter .now)) (length (s .args .clauses .now))) (omega arith) (omega arith) (omega arith) (omega arith) _ _ (c .before .before .before .before .before .before .before .before .before .before .before .before .compare-files .ensures) _ _ (s .args .out .now) (c .before .before .fit-answer .ensures) in
-    record { answer = y .answer; buffer = y .buffer; kept = λ short. absurd (short (omega arith) (omega arith) (omega arith) (omega arith)) }
+    record { answer = y .answer; buffer = y .buffer; kept = λ short. absurd (short (omega arith, omega arith, omega arith, omega arith)) }
 
 pub compare-spec : {M : Type 1} → statement M
 compare-spec =

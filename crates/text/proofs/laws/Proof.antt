@@ -2,15 +2,17 @@
 use Rattle.text.proofs.Reading.{text-back}
 use Rattle.text.proofs.Strict.{text-was}
 use Rattle.text.proofs.Sizes.{text-fits, room-enough}
-use Rattle.text.proofs.ProgramLaws.{refusal-apart, program-laws, call-leaves, call-untouched}
+use Rattle.text.proofs.Telling.{as-built}
+use Rattle.text.proofs.ProgramLaws.{refusal-apart, program-laws, call}
 use Rattle.text.proofs.StandIns.{contradiction-fails, without-first-fails, refuses-all}
-use Rattle.text.proofs.PlainClauses.{plain-satisfied, plain-within, plain-or}
+use Rattle.text.proofs.PlainClauses.{plain-satisfied, plain-within, plain-or, plain-each, plain-same}
 use Rattle.text.proofs.plain.Laws.{pair-parts, triple-is}
 use Rattle.text.proofs.Verdicts.{compares}
+use Rattle.text.proofs.Rooms.{call as compare-call}
 use Rattle.text.proofs.Longest.{text-fits as compared-fits, room-enough as compared-room}
-use Rattle.text.proofs.Inputs.{state-back, state-was, checks, checks-only, text-fits as checked-fits, room-enough as checked-room}
+use Rattle.text.proofs.Inputs.{state-size, state-line, state-back, state-was, checks, checks-only, call as input-call, text-fits as checked-fits, room-enough as checked-room}
 use Rattle.text.proofs.Others.{refused-only, equal-only, always-equal, always-asks, no-difference}
-use Rattle.text.proofs.Rows.{rows-hold}
+use Rattle.text.proofs.Rows.{rows-hold, files-hold, inputs-hold}
 use Rattle.text.proofs.laws.Statement.{statement}
 use Rattle.text.proofs.laws.Tie as tie
 
@@ -26,8 +28,8 @@ returns c =
             contradiction-fails = contradiction-fails;
             without-first-fails = without-first-fails;
             refuses-all = refuses-all;
-            call-leaves = call-leaves;
-            call-untouched = call-untouched;
+            as-built = as-built;
+            call = call;
             text-fits = text-fits;
             room-enough = room-enough;
             rows = rows-hold;
@@ -37,6 +39,8 @@ returns c =
             plain-satisfied = plain-satisfied;
             plain-within = plain-within;
             plain-or = plain-or;
+            plain-each = plain-each;
+            plain-same = plain-same;
             plain-two = pair-parts;
             plain-three = triple-is;
             compares = compares;
@@ -45,17 +49,23 @@ returns c =
             always-equal = always-equal;
             always-asks = always-asks;
             no-difference = no-difference;
+            call = compare-call;
             text-fits = compared-fits;
             room-enough = compared-room;
+            rows = files-hold;
           };
       input =
           record {
+            state-size = state-size;
+            state-line = state-line;
             state-back = state-back;
             state-was = state-was;
             checks = checks;
             checks-only = checks-only;
+            call = input-call;
             text-fits = checked-fits;
             room-enough = checked-room;
+            rows = inputs-hold;
           };
     }
 

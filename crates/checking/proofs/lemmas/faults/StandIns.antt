@@ -68,6 +68,7 @@ fault-laws =
       sweep = λ n a b. sweep-says a b n;
       untried = untried-fails;
       from-one = from-one-fails;
+      two-masks = refl;
       masks = masks-masking;
       nothing-struck = nothing-struck-fails;
       all-struck = all-struck-fails;
