@@ -28,7 +28,7 @@ use Rattle.text.proofs.Sizes.{variable-few, fault-small}
 use Rattle.text.proofs.Rooms.{rooms-good}
 use Rattle.text.proofs.Verdicts.{Judged, judged, lines, kept, left-few}
 use Rattle.text.proofs.plain.Laws.{plain-few}
-use Rattle.text.proofs.comparison.Laws.{list-short, list-within}
+use Rattle.text.proofs.plain.Short.{list-short, list-within}
 use Rattle.text.proofs.answer.Laws.{fit-fits, digits-few, differ-long, refusal-long, header-long}
 
 -- ---- refusals

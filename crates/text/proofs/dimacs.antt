@@ -1,3 +1,3 @@
--- `Signed`: what the code makes of a clause word. `Loops`: what the loops over literals and over stored clauses keep.
+-- `Signed`: what the code makes of a clause word. `Loops`: what the loop over literals keeps, and the next of stored clauses.
 pub mod Signed
 pub mod Loops

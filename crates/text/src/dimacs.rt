@@ -8,7 +8,7 @@ ghost use lib.ListN.{length};
 ghost use Rattle.bits.specs.Lists.{Put};
 ghost use Rattle.checking.specs.Satisfaction.{variableOf};
 ghost use Rattle.text.specs.Dimacs.{blank, literalText, literalsText, closing, headerText};
-ghost use Rattle.text.specs.private.Words.{signText, kindText, recordText, wordsText, Stores};
+ghost use Rattle.text.specs.private.Words.{signText, kindText, recordText, Plainable, StoresPlain, formedText, storedText};
 
 // The variable of a literal, and the number that a word holds.
 pub(crate) fn magnitude(word: ClauseWord) -> u64
@@ -92,25 +92,37 @@ fn put_clause(out: &mut [u8], kind: ClauseWord, literals: &[ClauseWord]) -> usiz
     at + put_closed(&mut out[at..], literals)
 }
 
-// Writes the clauses that words store.
-fn put_clauses(out: &mut [u8], words: &[ClauseWord]) -> usize
-    requires { ⌜ Stores (now words) ⌝ }
-    requires { ⌜ length (wordsText (now words)) ≤ length (now out) ⌝ }
-    ensures { λ r. ⌜ Put r (now (out .exit)) (wordsText (now (words .entry))) (now (out .entry)) ⌝ }
+// Writes a clause by its kind and its literals, where `plain` as OR clauses.
+fn put_formed(out: &mut [u8], plain: bool, kind: ClauseWord, literals: &[ClauseWord]) -> usize
+    requires { ⌜ Plainable kind (now literals) ⌝ }
+    requires { ⌜ length (formedText plain kind (now literals)) ≤ length (now out) ⌝ }
+    ensures { λ r. ⌜ Put r (now (out .exit)) (formedText plain kind (now (literals .entry))) (now (out .entry)) ⌝ }
+{
+    if plain {
+        return crate::plain::put_record(out, kind, literals);
+    }
+    put_clause(out, kind, literals)
+}
+
+// Writes the clauses that words store, where `plain` as OR clauses.
+fn put_clauses(out: &mut [u8], plain: bool, words: &[ClauseWord]) -> usize
+    requires { ⌜ StoresPlain (now words) ⌝ }
+    requires { ⌜ length (storedText plain (now words)) ≤ length (now out) ⌝ }
+    ensures { λ r. ⌜ Put r (now (out .exit)) (storedText plain (now (words .entry))) (now (out .entry)) ⌝ }
 {
     let mut at = 0;
     let mut i = 0;
     while i < words.len() {
         let from = i + 2;
         let to = from + magnitude(words[i + 1]) as usize;
-        at += put_clause(&mut out[at..], words[i], &words[from..to]);
+        at += put_formed(&mut out[at..], plain, words[i], &words[from..to]);
         i = to;
     }
     at
 }
 
 // Writes the header.
-pub(crate) fn put_header(out: &mut [u8], variables: u64, clauses: u64) -> usize
+fn put_header(out: &mut [u8], variables: u64, clauses: u64) -> usize
     requires { ⌜ length (headerText variables clauses) ≤ length (now out) ⌝ }
     ensures { λ r. ⌜ Put r (now (out .exit)) (headerText variables clauses) (now (out .entry)) ⌝ }
 {
@@ -118,12 +130,18 @@ pub(crate) fn put_header(out: &mut [u8], variables: u64, clauses: u64) -> usize
     at + crate::put::put_last(&mut out[at..], b" ", clauses)
 }
 
-// Writes the header and the clauses that words store.
-pub(crate) fn put_list(out: &mut [u8], variables: u64, clauses: u64, words: &[ClauseWord]) -> usize
-    requires { ⌜ Stores (now words) ⌝ }
-    requires { ⌜ length (headerText variables clauses ++ wordsText (now words)) ≤ length (now out) ⌝ }
-    ensures { λ r. ⌜ Put r (now (out .exit)) (headerText variables clauses ++ wordsText (now (words .entry))) (now (out .entry)) ⌝ }
+// Writes the header and the clauses that words store, where `plain` as OR clauses.
+pub(crate) fn put_list(
+    out: &mut [u8],
+    variables: u64,
+    clauses: u64,
+    plain: bool,
+    words: &[ClauseWord],
+) -> usize
+    requires { ⌜ StoresPlain (now words) ⌝ }
+    requires { ⌜ length (headerText variables clauses ++ storedText plain (now words)) ≤ length (now out) ⌝ }
+    ensures { λ r. ⌜ Put r (now (out .exit)) (headerText variables clauses ++ storedText plain (now (words .entry))) (now (out .entry)) ⌝ }
 {
     let at = put_header(&mut out[0..], variables, clauses);
-    at + put_clauses(&mut out[at..], words)
+    at + put_clauses(&mut out[at..], plain, words)
 }

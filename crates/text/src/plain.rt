@@ -1,4 +1,4 @@
-// A clause list as OR clauses alone: its sizes, and writing it at the start of a buffer. Each writing function tells how many bytes it wrote.
+// A clause list as OR clauses alone: its sizes, and writing one clause of it at the start of a buffer. Each writing function tells how many bytes it wrote.
 
 use checking::clauses::ClauseWord;
 ghost use mathlib.Core.Path.{_≡_};
@@ -10,10 +10,10 @@ ghost use Rattle.bits.specs.Lists.{Put};
 ghost use Rattle.checking.specs.Clauses.{OR, XOR, maxVariables};
 ghost use Rattle.checking.specs.Satisfaction.{variableOf, LiteralsWithin};
 ghost use Rattle.checking.specs.Stored.{wordLimit};
-ghost use Rattle.text.specs.Dimacs.{decimal, literalText, literalsText, closing, clausesText, headerText};
+ghost use Rattle.text.specs.Dimacs.{decimal, literalText, literalsText, closing, clausesText};
 ghost use Rattle.text.specs.Plain.{plainClause};
 ghost use Rattle.text.specs.Compare.{maxList};
-ghost use Rattle.text.specs.private.Words.{bothOrs, plainRecord, Plainable, StoresPlain, plainText, plainSizes};
+ghost use Rattle.text.specs.private.Words.{bothOrs, plainRecord, Plainable, StoresPlain, plainSizes};
 
 // The bytes of a text, and the clauses in it.
 pub struct PlainSizes {
@@ -165,7 +165,7 @@ fn put_triple(out: &mut [u8], a: ClauseWord, b: ClauseWord, c: ClauseWord) -> us
 }
 
 // Writes a clause's plain clauses.
-fn put_record(out: &mut [u8], kind: ClauseWord, literals: &[ClauseWord]) -> usize
+pub(crate) fn put_record(out: &mut [u8], kind: ClauseWord, literals: &[ClauseWord]) -> usize
     requires { ⌜ Plainable kind (now literals) ⌝ }
     requires { ⌜ length (clausesText (plainRecord kind (now literals))) ≤ length (now out) ⌝ }
     ensures { λ r. ⌜ Put r (now (out .exit)) (clausesText (plainRecord kind (now (literals .entry)))) (now (out .entry)) ⌝ }
@@ -177,31 +177,4 @@ fn put_record(out: &mut [u8], kind: ClauseWord, literals: &[ClauseWord]) -> usiz
         return put_triple(out, literals[0], literals[1], literals[2]);
     }
     crate::dimacs::put_closed(out, literals)
-}
-
-// Writes the plain clauses that words store.
-fn put_records(out: &mut [u8], words: &[ClauseWord]) -> usize
-    requires { ⌜ StoresPlain (now words) ⌝ }
-    requires { ⌜ length (plainText (now words)) ≤ length (now out) ⌝ }
-    ensures { λ r. ⌜ Put r (now (out .exit)) (plainText (now (words .entry))) (now (out .entry)) ⌝ }
-{
-    let mut at = 0;
-    let mut i = 0;
-    while i < words.len() {
-        let from = i + 2;
-        let to = from + crate::dimacs::magnitude(words[i + 1]) as usize;
-        at += put_record(&mut out[at..], words[i], &words[from..to]);
-        i = to;
-    }
-    at
-}
-
-// Writes the header and the plain clauses that words store.
-pub(crate) fn put_plain(out: &mut [u8], variables: u64, clauses: u64, words: &[ClauseWord]) -> usize
-    requires { ⌜ StoresPlain (now words) ⌝ }
-    requires { ⌜ length (headerText variables clauses ++ plainText (now words)) ≤ length (now out) ⌝ }
-    ensures { λ r. ⌜ Put r (now (out .exit)) (headerText variables clauses ++ plainText (now (words .entry))) (now (out .entry)) ⌝ }
-{
-    let at = crate::dimacs::put_header(&mut out[0..], variables, clauses);
-    at + put_records(&mut out[at..], words)
 }

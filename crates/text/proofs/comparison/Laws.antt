@@ -35,6 +35,7 @@ use Rattle.text.specs.Compare.{maxList, Comparison, reduced, unsolved, r
 use Rattle.text.specs.private.Comparing.{InRoom, MiterWords, MiterCascade, LeftIn, SaysFiles, SaysCompared, SaysAny}
 use Rattle.text.proofs.list.Laws.{emit-stands}
 use Rattle.text.proofs.plain.Laws.{stored-in}
+use Rattle.text.proofs.plain.Short.{stands-plain}
 
 -- ---- the reduction
 
@@ -87,50 +88,6 @@ module _ (n : ℕ) (a b : List ℕ) (wa : FileWords n a) (wb : FileWords n b) (f
   pub never-refused : {P : Type 0} (o : Outcome Difference) (number place : ℕ) → o ≡ refused number place → o ≡ differenceOutcome n a n b → P
   never-refused o number place e f = absurd (never difference-is (sym f ∙ e))
 
--- ---- every XOR of a clause list has two or three literals
-
-implied-short : (p : ℕ) (ls : List ℤ) → AllShort (implied p ls)
-implied-short p [] = tt
-implied-short p (l ∷ ls) = (tt, implied-short p ls)
-
-gate-short : (used v : ℕ) (ls : List ℤ) → AllShort (gateClauses used v ls)
-gate-short used v [] = (tt, tt)
-gate-short used v (c ∷ []) = (tt, tt)
-gate-short used v (c ∷ d ∷ ls) = (tt, all-append ShortClause (implied _ (c ∷ d ∷ ls)) _ (implied-short _ (c ∷ d ∷ ls)) (tt, tt))
-
-gates-short : (used : ℕ) (current : ℕ → ℕ) (gs : List Gate) → AllShort (gatesClauses used current gs)
-gates-short used current [] = subst AllShort (sym (clauses-none used current)) tt
-gates-short used current (g ∷ gs) =
-    subst AllShort (sym (clauses-next used current g gs))
-    (all-append ShortClause (gateClauses used (current (g .target)) (map (literalOf current) (controlsOf g))) (gatesClauses (usedBy used g) (moved used current g) gs)
-    (gate-short used (current (g .target)) (map (literalOf current) (controlsOf g))) (gates-short (usedBy used g) (moved used current g) gs))
-
-line-short : (hit : Bool) (d a b : ℕ) → ShortClause (differenceClause hit d a b)
-line-short true d a b = tt
-line-short false d a b = tt
-
-lines-short : (hit : ℕ → Bool) (left right : ℕ → ℕ) (used : ℕ) (lines : List ℕ) → AllShort (differenceClauses hit left right used lines)
-lines-short hit left right used [] = subst AllShort (sym (differences-none hit left right used)) tt
-lines-short hit left right used (line ∷ lines) =
-    subst AllShort (sym (differences-next hit left right used line lines))
-    (line-short (hit line) (suc used) (left line) (right line), lines-short hit left right (suc used) lines)
-
-pub list-short : (n : ℕ) (gs : List Gate) → AllShort (clausesOf n gs)
-list-short n gs =
-    subst AllShort (sym (list-parts n gs))
-    (all-append ShortClause (gatesClauses n inputOf gs) _ (gates-short n inputOf gs)
-    (all-append ShortClause (differenceClauses (targeted gs) inputOf (currentAfter n inputOf gs) (usedAfter n gs) (upFrom 0 n)) _
-    (lines-short (targeted gs) inputOf (currentAfter n inputOf gs) (usedAfter n gs) (upFrom 0 n)) (tt, tt)))
-
--- ---- and few variables
-
-within-more : (m k : ℕ) (cs : List Clause) → m ≤ k → ClausesWithin m cs → ClausesWithin k cs
-within-more m k cs h =
-    all-implies _ _ (λ c. all-implies (LiteralWithin m) (LiteralWithin k) (λ l w. (w .0, omega (arith, w .1))) (clauseLiterals c)) cs
-
-pub list-within : (n : ℕ) (gs : List Gate) → n ≤ maxLines → length gs ≤ maxMiterGates → allValid n gs ≡ true → ClausesWithin maxVariables (clausesOf n gs)
-list-within n gs h l v = within-more (variablesOf n gs) maxVariables (clausesOf n gs) (clause-laws .variables-few n gs h l) (clause-laws .list-tells n gs h v .within)
-
 -- ---- the clause list
 
 module _ (n : ℕ) (ws : List ℕ) (m : MiterCascade n ws) where
@@ -179,7 +136,6 @@ module _ (n : ℕ) (ws : List ℕ) (m : MiterCascade n ws) where
 
     pub list-listed : t .words ≤ maxList → SaysCompared (answer.Clauses t) buffer (listAs n gs)
     list-listed h =
-        let c = m .cascade in
         record {
           is =
               ap₂ unsolved (st .variables-are) (stored-in (take (t .words) buffer) cs (st .words))
@@ -187,14 +143,7 @@ module _ (n : ℕ) (ws : List ℕ) (m : MiterCascade n ws) where
           ready =
               record {
                 inside = st .inside;
-                stores =
-                    record {
-                      clauses = cs;
-                      words = st .words;
-                      short = list-short n gs;
-                      within = list-within n gs (c .lines-high) (omega (arith, gates-length ws, c .size, c .few)) (c .gates);
-                      few = omega (arith, length-take-le (t .words) buffer (st .inside));
-                    };
+                stores = stands-plain t buffer (variablesOf n gs) cs st h;
               };
         }
 

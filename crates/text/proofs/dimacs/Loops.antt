@@ -1,5 +1,5 @@
--- What the loops over literals and over stored clauses keep. Assumes nothing.
-use mathlib.Core.Path.{_≡_, refl, sym, ap, ap₂, _∙_}
+-- What the loop over literals keeps, and the next of stored clauses. Assumes nothing.
+use mathlib.Core.Path.{_≡_, refl, sym, ap, _∙_}
 use mathlib.Core.List.{List, [], _∷_, _++_, append-nil, append-assoc}
 use Prim.Native.Nat.{ℕ, _+_, _-_, _≤_, _<_}
 use native.Mathlib.Numerals.{add-one}
@@ -12,10 +12,10 @@ use Rattle.bits.specs.Lists.{Put}
 use Rattle.circuit.proofs.Promises.{Written, written-none, written-more, written-put, put-as}
 use Rattle.checking.specs.Clauses.{Clause, OR, XOR}
 use Rattle.checking.specs.Satisfaction.{clauseLiterals}
-use Rattle.checking.specs.Stored.{stored, clausesIn}
-use Rattle.checking.proofs.Promises.{read-back, stored-none, stored-next}
-use Rattle.text.specs.Dimacs.{blank, literalText, literalsText, clauseText, clausesText}
-use Rattle.text.specs.private.Words.{recordText, readText, wordsText, Stores}
+use Rattle.checking.specs.Stored.{stored}
+use Rattle.checking.proofs.Promises.{stored-none, stored-next}
+use Rattle.text.specs.Dimacs.{blank, literalText, literalsText, clauseText}
+use Rattle.text.specs.private.Words.{recordText}
 
 -- ---- literals
 
@@ -118,87 +118,3 @@ next ws i (XOR ls ∷ cs) e h =
 pub record-text : (c : Clause) → recordText (kindOf c) (clauseLiterals c) ≡ clauseText c
 record-text (OR ls) = refl
 record-text (XOR ls) = refl
-
-pub words-text : (ws : List ℤ) (cs : List Clause) → ws ≡ stored cs → wordsText ws ≡ clausesText cs
-unfolding wordsText
-words-text ws cs e =
-    ap (λ (l : List ℤ). readText (clausesIn l)) (e ∙ sym (take-append-seam (stored cs) [])) ∙ ap readText (read-back cs [])
-
--- the text of the clauses that were passed stands at the buffer's start, and the later ones are stored from place i on
-pub record Listing (ws : List ℤ) (first out : List ℕ) (at i : ℕ) : Type 0 where
-  pub front : List ℕ
-  pub clauses : List Clause
-  pub filled : Written first out at front
-  pub left : front ++ clausesText clauses ≡ wordsText ws
-  pub words : drop i ws ≡ stored clauses
-  pub room : length (wordsText ws) ≤ length first
-  pub within : i ≤ length ws
-
-pub listing-start : (ws : List ℤ) (out : List ℕ) → Stores ws → length (wordsText ws) ≤ length out → Listing ws out out 0 0
-listing-start ws out s h =
-    record { front = []; clauses = s .clauses; filled = written-none out; left = sym (words-text ws (s .clauses) (s .words)); words = s .words; room = h; within = omega arith }
-
-module _ (ws : List ℤ) (first out : List ℕ) (at i : ℕ) (t : Listing ws first out at i) where
-  listing-all : at + length (clausesText (t .clauses)) ≤ length out
-  listing-all =
-      omega (arith, ap length (t .left), length-append (t .front) (clausesText (t .clauses)), t .room, t .filled .long, t .filled .same)
-
-  pub listing-at : at ≤ length out
-  listing-at = omega (arith, listing-all)
-
-  module _ (h : i < length ws) where
-    pub listing-next : Next ws i (t .clauses)
-    listing-next = next ws i (t .clauses) (t .words) h
-
-    -- how many literals the next clause has
-    abbrev pub count : ℕ
-    count = length (clauseLiterals (listing-next .clause))
-
-    pub listing-inside : i + 2 + count ≤ length ws
-    listing-inside = listing-next .at-place .inside
-
-    pub listing-count : getD ws (i + 1) (pos 0) ≡ pos count
-    listing-count = listing-next .at-place .second
-
-    clauses-next : clausesText (t .clauses) ≡ clauseText (listing-next .clause) ++ clausesText (listing-next .later)
-    clauses-next = unfold clausesText in ap clausesText (listing-next .is)
-
-    module _ (n : ℕ) (counted : n ≡ count) (kind : ℤ) (ls : List ℤ) (is : kind ≡ getD ws i (pos 0)) (are : ls ≡ take (i + 2 + n - (i + 2)) (drop (i + 2) ws)) where
-      next-text : recordText kind ls ≡ clauseText (listing-next .clause)
-      next-text =
-          let e : i + 2 + n - (i + 2) ≡ count = omega arith in
-          ap₂ recordText (is ∙ listing-next .at-place .first) (are ∙ ap (λ (k : ℕ). take k (drop (i + 2) ws)) e ∙ listing-next .at-place .part)
-          ∙ record-text (listing-next .clause)
-
-      pub listing-room : at + length (recordText kind ls) ≤ length out
-      listing-room =
-          omega (arith, listing-all, ap length clauses-next, length-append (clauseText (listing-next .clause)) (clausesText (listing-next .later)), ap length next-text)
-
-      pub listing-on : (r : ℕ) (last : List ℕ) → Put r last (recordText kind ls) (take (length out - at) (drop at out)) → length last ≡ length (take (length out - at) (drop at out))
-          → Listing ws first (putMid at (length out - at) out last) (at + r) (i + 2 + n)
-      listing-on r last p k =
-          record {
-            front = t .front ++ recordText kind ls;
-            clauses = listing-next .later;
-            filled = written-more first out at (t .front) (t .filled) r last (recordText kind ls) listing-at p k;
-            left =
-                append-assoc (t .front) (recordText kind ls) (clausesText (listing-next .later))
-                ∙ ap (λ (l : List ℕ). t .front ++ l) (ap (λ (l : List ℕ). l ++ clausesText (listing-next .later)) next-text ∙ sym clauses-next)
-                ∙ t .left;
-            words = ap (λ (k : ℕ). drop (i + 2 + k) ws) counted ∙ listing-next .at-place .rest;
-            room = t .room;
-            within = omega (arith, listing-inside);
-          }
-
--- nothing is stored in no words
-none-stored : (cs : List Clause) → length (stored cs) ≡ 0 → clausesText cs ≡ []
-unfolding clausesText
-none-stored [] e = refl
-none-stored (OR ls ∷ cs) e = absurd (omega (arith, ap length (stored-next (OR ls) cs)))
-none-stored (XOR ls ∷ cs) e = absurd (omega (arith, ap length (stored-next (XOR ls) cs)))
-
-pub listing-done : (ws : List ℤ) (first out : List ℕ) (at i : ℕ) → Listing ws first out at i → length ws ≤ i → Put at out (wordsText ws) first
-listing-done ws first out at i t h =
-    let e = none-stored (t .clauses) (sym (ap length (t .words)) ∙ length-drop i ws ∙ omega arith) in
-    put-as _ _ _ _ _ (sym (append-nil (t .front)) ∙ ap (λ (l : List ℕ). t .front ++ l) (sym e) ∙ t .left)
-    (written-put _ _ _ _ (t .filled))

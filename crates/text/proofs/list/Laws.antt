@@ -18,7 +18,7 @@ use Rattle.circuit.specs.Gate.{maxGates, maxMiterGates}
 use Rattle.circuit.specs.Outcome.{Outcome, served, refused, demand, before, then, fails}
 use Rattle.circuit.specs.Refusal.{wrongForm, lineCountsDiffer, noRoom}
 use Rattle.circuit.specs.Words.{gatesOf, wordsOf, Cascade}
-use Rattle.circuit.proofs.Promises.{never, demand-met, demand-failed, gates-words, words-length, pair-refused, reader, read-served, read-refused, read-leaves}
+use Rattle.circuit.proofs.Promises.{never, demand-met, demand-failed, gates-length, gates-words, words-length, pair-refused, reader, read-served, read-refused, read-leaves}
 use Rattle.circuit.specs.Text.{textOf}
 use Rattle.circuit.specs.File.{Reading, reading, ReadCounts, readOutcome, readBuffer}
 use Rattle.circuit.specs.FileLaws.{ReadRefused}
@@ -34,6 +34,7 @@ use Rattle.text.specs.declared.list.ListAnswer.{ListAnswer}
 use Rattle.text.specs.declared.list.ListAnswer.the-variants as list
 use Rattle.text.specs.Tomiter.{maxInput, maxWords, Verdict, listed, refusedAt, ofFile, listVerdict, pairVerdict, secondVerdict, verdict}
 use Rattle.text.specs.private.Lists.{FileWords, ListStands, Delivers}
+use Rattle.text.proofs.plain.Short.{list-short, list-within}
 
 -- the same verdict, said in another way
 pub says-as : (r : ListAnswer) (buffer : List ℤ) (v w : Verdict) → v ≡ w → Delivers r buffer w → Delivers r buffer v
@@ -70,12 +71,14 @@ module _ (n : ℕ) (ws : List ℕ) (k : ℕ) (c : Cascade n ws maxMiterGates k) 
         count = ap (λ (y : Totals). y .clauses) f;
         inside = omega (arith, ap length is, over-length (stored cs) out r);
         words = ap₂ take w is ∙ take-append-seam (stored cs) (drop (length (stored cs)) out);
+        short = list-short n gs;
+        within = list-within n gs (c .lines-high) (omega (arith, gates-length ws, c .size, c .few)) (c .gates);
       })
       (λ x. absurd (never o (emit-cascade n ws k c (length out) ∙ demand-failed _ _ _ _ x)))
 
-  list-short : leb (length (stored cs)) maxWords ≡ false → listVerdict n gs ≡ refusedAt noRoom 0 0
+  list-over : leb (length (stored cs)) maxWords ≡ false → listVerdict n gs ≡ refusedAt noRoom 0 0
   unfolding listVerdict
-  list-short t = cond-false (leb (length (stored cs)) maxWords) _ _ t
+  list-over t = cond-false (leb (length (stored cs)) maxWords) _ _ t
 
   list-fits : leb (length (stored cs)) maxWords ≡ true → listVerdict n gs ≡ listed (variablesOf n gs) cs
   unfolding listVerdict
@@ -89,7 +92,7 @@ module _ (n : ℕ) (ws : List ℕ) (k : ℕ) (c : Cascade n ws maxMiterGates k) 
     list-bad why buffer e =
         either (leb (length (stored cs)) maxWords)
         (λ t. absurd (never (emit-at ∙ demand-met _ _ _ _ t) e))
-        (λ t. says-refusal why 0 buffer (listVerdict n gs) noRoom 0 (list-short t) (sym e ∙ emit-at ∙ demand-failed _ _ _ _ t))
+        (λ t. says-refusal why 0 buffer (listVerdict n gs) noRoom 0 (list-over t) (sym e ∙ emit-at ∙ demand-failed _ _ _ _ t))
 
     pub list-good : (t : Totals) (buffer out : List ℤ) → length out ≡ room → emitOutcome n ws (length out) ≡ served t → buffer ≡ emitBuffer n ws out → Delivers (list.Listed t) buffer (listVerdict n gs)
     list-good t buffer out size o b =

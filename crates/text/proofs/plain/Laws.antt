@@ -1,6 +1,6 @@
--- The plain clauses of one record and of the records that are left: their texts and how long these are. Assumes nothing.
+-- The clauses of one record and of the records that are left, as they are written: their texts and how long these are. Assumes nothing.
 use mathlib.Core.Path.{_≡_, refl, sym, ap, ap₂, subst, _∙_}
-use mathlib.Core.Bool.{true, false, true≢false}
+use mathlib.Core.Bool.{Bool, true, false, true≢false}
 use mathlib.Core.List.{List, [], _∷_, _++_, append-nil, append-assoc}
 use Prim.Native.Nat.{ℕ, zero, suc, _+_, _-_, _*_, _≤_, _<_}
 use native.Mathlib.Omega.{arith}
@@ -21,12 +21,12 @@ use Rattle.text.specs.declared.plain.PlainSizes.{PlainSizes}
 use Rattle.text.specs.Dimacs.{blank, decimal, literalText, literalsText, closing, clauseText, clausesText}
 use Rattle.text.specs.Plain.{negations, plainClause, plainClauses}
 use Rattle.text.specs.Compare.{maxList}
-use Rattle.text.specs.private.Words.{readClauses, storedIn, bothOrs, plainRecord, TwoOrThree, ShortRecord, ShortClause, AllShort, Plainable, StoresPlain, plainText, plainSizes}
+use Rattle.text.specs.private.Words.{recordText, readClauses, storedIn, bothOrs, plainRecord, TwoOrThree, ShortRecord, ShortClause, AllShort, Plainable, StoresPlain, formed, formedText, storedText, plainSizes}
 use Rattle.text.proofs.put.Laws.{two-put}
 use Rattle.text.proofs.Decimal.{decimal-few}
 use Rattle.text.proofs.Sizes.{literal-few, literals-few}
 use Rattle.text.proofs.dimacs.Signed.{word-is}
-use Rattle.text.proofs.dimacs.Loops.{literals-next, literals-end, kindOf, Next, next}
+use Rattle.text.proofs.dimacs.Loops.{literals-next, literals-end, kindOf, Next, next, record-text}
 
 -- ---- the opposite literal
 
@@ -336,14 +336,18 @@ clause-record (OR ls) = refl
 clause-record (XOR ls) = refl
 
 -- nothing is stored in no words
-pub left-none : (cs : List Clause) → length (stored cs) ≡ 0 → plainClauses cs ≡ []
-unfolding plainClauses
-left-none [] e = refl
-left-none (OR ls ∷ cs) e = absurd (omega (arith, ap length (stored-next (OR ls) cs)))
-left-none (XOR ls ∷ cs) e = absurd (omega (arith, ap length (stored-next (XOR ls) cs)))
+none-stored : (cs : List Clause) → length (stored cs) ≡ 0 → cs ≡ []
+none-stored [] e = refl
+none-stored (OR ls ∷ cs) e = absurd (omega (arith, ap length (stored-next (OR ls) cs)))
+none-stored (XOR ls ∷ cs) e = absurd (omega (arith, ap length (stored-next (XOR ls) cs)))
 
-pub left-done : (ws : List ℤ) (i : ℕ) (t : Left ws i) → length ws ≤ i → plainClauses (t .clauses) ≡ []
-left-done ws i t h = left-none (t .clauses) (sym (ap length (t .words)) ∙ length-drop i ws ∙ omega arith)
+formed-nil : (plain : Bool) → formed plain [] ≡ []
+unfolding plainClauses
+formed-nil false = refl
+formed-nil true = refl
+
+pub left-done : (plain : Bool) (ws : List ℤ) (i : ℕ) (t : Left ws i) → length ws ≤ i → formed plain (t .clauses) ≡ []
+left-done plain ws i t h = ap (formed plain) (none-stored (t .clauses) (sym (ap length (t .words)) ∙ length-drop i ws ∙ omega arith)) ∙ formed-nil plain
 
 module _ (ws : List ℤ) (i : ℕ) (t : Left ws i) (h : i < length ws) where
   pub left-next : Next ws i (t .clauses)
@@ -411,16 +415,20 @@ module _ (ws : List ℤ) (i : ℕ) (t : Left ws i) (h : i < length ws) where
       unfolding left-on left-next
       left-clauses = plain-next ∙ ap (λ (l : List Clause). l ++ plainClauses later) (sym record-next)
 
-      pub left-text : clausesText (plainClauses (t .clauses)) ≡ clausesText (plainRecord kind ls) ++ clausesText (plainClauses (left-on .clauses))
-      left-text = ap clausesText left-clauses ∙ clauses-append (plainRecord kind ls) (plainClauses (left-on .clauses))
+      pub left-text : (plain : Bool) → clausesText (formed plain (t .clauses)) ≡ formedText plain kind ls ++ clausesText (formed plain (left-on .clauses))
+      unfolding clausesText left-on left-next
+      left-text false =
+          ap clausesText (left-next .is)
+          ∙ ap (λ (l : List ℕ). l ++ clausesText later) (sym (ap₂ recordText kind-is literals-are ∙ record-text c))
+      left-text true = ap clausesText left-clauses ∙ clauses-append (plainRecord kind ls) (plainClauses (left-on .clauses))
 
 -- ---- what the loop over the sizes keeps
 
 pub record Sizing (ws : List ℤ) (bytes clauses i : ℕ) : Type 0 where
   pub left : Left ws i
-  pub bytes-sum : bytes + length (clausesText (plainClauses (left .clauses))) ≡ length (plainText ws)
+  pub bytes-sum : bytes + length (clausesText (plainClauses (left .clauses))) ≡ length (storedText true ws)
   pub clauses-sum : clauses + length (plainClauses (left .clauses)) ≡ length (plainClauses (storedIn ws))
-  pub bytes-few : length (plainText ws) ≤ 16 * maxList
+  pub bytes-few : length (storedText true ws) ≤ 16 * maxList
   pub clauses-few : length (plainClauses (storedIn ws)) ≤ maxList
 
 pub sizing-start : (ws : List ℤ) → StoresPlain ws → Sizing ws 0 0 0
@@ -444,7 +452,7 @@ module _ (ws : List ℤ) (bytes clauses i : ℕ) (t : Sizing ws bytes clauses i)
 
   bytes-next : length (clausesText (plainClauses (t .left .clauses))) ≡ length (clausesText (plainRecord kind ls)) + length (clausesText (plainClauses (on .clauses)))
   bytes-next =
-      ap length (left-text ws i (t .left) h n counted kind ls is are) ∙ length-append (clausesText (plainRecord kind ls)) (clausesText (plainClauses (on .clauses)))
+      ap length (left-text ws i (t .left) h n counted kind ls is are true) ∙ length-append (clausesText (plainRecord kind ls)) (clausesText (plainClauses (on .clauses)))
 
   clauses-next : length (plainClauses (t .left .clauses)) ≡ length (plainRecord kind ls) + length (plainClauses (on .clauses))
   clauses-next = ap length (left-clauses ws i (t .left) h n counted kind ls is are) ∙ length-append (plainRecord kind ls) (plainClauses (on .clauses))
@@ -471,43 +479,43 @@ none-text = refl
 
 pub sizing-done : (ws : List ℤ) (bytes clauses i : ℕ) → Sizing ws bytes clauses i → length ws ≤ i → _≡_ {A = PlainSizes} (record { bytes = bytes; clauses = clauses }) (plainSizes ws)
 sizing-done ws bytes clauses i t h =
-    let e = left-done ws i (t .left) h in
-    let a : bytes ≡ length (plainText ws) = omega (arith, t .bytes-sum, ap (λ (cs : List Clause). length (clausesText cs)) e, none-text) in
+    let e = left-done true ws i (t .left) h in
+    let a : bytes ≡ length (storedText true ws) = omega (arith, t .bytes-sum, ap (λ (cs : List Clause). length (clausesText cs)) e, none-text) in
     let b : clauses ≡ length (plainClauses (storedIn ws)) = omega (arith, t .clauses-sum, ap length e) in
     ap₂ (λ (x y : ℕ). record { bytes = x; clauses = y }) a b
 
 -- ---- what the loop over the text keeps
 
-pub record Plaining (ws : List ℤ) (first out : List ℕ) (at i : ℕ) : Type 0 where
+pub record Listing (plain : Bool) (ws : List ℤ) (first out : List ℕ) (at i : ℕ) : Type 0 where
   pub front : List ℕ
   pub left : Left ws i
   pub filled : Written first out at front
-  pub whole : front ++ clausesText (plainClauses (left .clauses)) ≡ plainText ws
-  pub room : length (plainText ws) ≤ length first
+  pub whole : front ++ clausesText (formed plain (left .clauses)) ≡ storedText plain ws
+  pub room : length (storedText plain ws) ≤ length first
 
-pub plaining-start : (ws : List ℤ) (out : List ℕ) → StoresPlain ws → length (plainText ws) ≤ length out → Plaining ws out out 0 0
+pub listing-start : (plain : Bool) (ws : List ℤ) (out : List ℕ) → StoresPlain ws → length (storedText plain ws) ≤ length out → Listing plain ws out out 0 0
 unfolding left-all
-plaining-start ws out s h =
+listing-start plain ws out s h =
     record {
       front = [];
       left = left-all ws s;
       filled = written-none out;
-      whole = ap (λ (cs : List Clause). clausesText (plainClauses cs)) (sym (stored-in ws (s .clauses) (s .words)));
+      whole = ap (λ (cs : List Clause). clausesText (formed plain cs)) (sym (stored-in ws (s .clauses) (s .words)));
       room = h;
     }
 
-module _ (ws : List ℤ) (first out : List ℕ) (at i : ℕ) (t : Plaining ws first out at i) where
-  plaining-all : at + length (clausesText (plainClauses (t .left .clauses))) ≤ length out
-  plaining-all =
-      omega (arith, ap length (t .whole), length-append (t .front) (clausesText (plainClauses (t .left .clauses))), t .room, t .filled .long, t .filled .same)
+module _ (plain : Bool) (ws : List ℤ) (first out : List ℕ) (at i : ℕ) (t : Listing plain ws first out at i) where
+  listing-all : at + length (clausesText (formed plain (t .left .clauses))) ≤ length out
+  listing-all =
+      omega (arith, ap length (t .whole), length-append (t .front) (clausesText (formed plain (t .left .clauses))), t .room, t .filled .long, t .filled .same)
 
-  pub plaining-at : at ≤ length out
-  plaining-at = omega (arith, plaining-all)
+  pub listing-at : at ≤ length out
+  listing-at = omega (arith, listing-all)
 
-  pub plaining-done : length ws ≤ i → Put at out (plainText ws) first
+  pub listing-done : length ws ≤ i → Put at out (storedText plain ws) first
   unfolding clausesText
-  plaining-done h =
-      put-as _ _ _ _ _ (sym (append-nil (t .front)) ∙ ap (λ (cs : List Clause). t .front ++ clausesText cs) (sym (left-done ws i (t .left) h)) ∙ t .whole)
+  listing-done h =
+      put-as _ _ _ _ _ (sym (append-nil (t .front)) ∙ ap (λ (cs : List Clause). t .front ++ clausesText cs) (sym (left-done plain ws i (t .left) h)) ∙ t .whole)
       (written-put _ _ _ _ (t .filled))
 
   module _ (h : i < length ws) (n : ℕ) (counted : n ≡ count ws i (t .left) h)
@@ -515,22 +523,22 @@ module _ (ws : List ℤ) (first out : List ℕ) (at i : ℕ) (t : Plaining ws fi
     abbrev next-left : Left ws (i + 2 + n)
     next-left = left-on ws i (t .left) h n counted
 
-    text-next : clausesText (plainClauses (t .left .clauses)) ≡ clausesText (plainRecord kind ls) ++ clausesText (plainClauses (next-left .clauses))
-    text-next = left-text ws i (t .left) h n counted kind ls is are
+    text-next : clausesText (formed plain (t .left .clauses)) ≡ formedText plain kind ls ++ clausesText (formed plain (next-left .clauses))
+    text-next = left-text ws i (t .left) h n counted kind ls is are plain
 
-    pub plaining-room : at + length (clausesText (plainRecord kind ls)) ≤ length out
-    plaining-room =
-        omega (arith, plaining-all, ap length text-next, length-append (clausesText (plainRecord kind ls)) (clausesText (plainClauses (next-left .clauses))))
+    pub listing-room : at + length (formedText plain kind ls) ≤ length out
+    listing-room =
+        omega (arith, listing-all, ap length text-next, length-append (formedText plain kind ls) (clausesText (formed plain (next-left .clauses))))
 
-    pub plaining-on : (r : ℕ) (last : List ℕ) → Put r last (clausesText (plainRecord kind ls)) (take (length out - at) (drop at out)) → length last ≡ length (take (length out - at) (drop at out))
-        → Plaining ws first (putMid at (length out - at) out last) (at + r) (i + 2 + n)
-    plaining-on r last p k =
+    pub listing-on : (r : ℕ) (last : List ℕ) → Put r last (formedText plain kind ls) (take (length out - at) (drop at out)) → length last ≡ length (take (length out - at) (drop at out))
+        → Listing plain ws first (putMid at (length out - at) out last) (at + r) (i + 2 + n)
+    listing-on r last p k =
         record {
-          front = t .front ++ clausesText (plainRecord kind ls);
+          front = t .front ++ formedText plain kind ls;
           left = next-left;
-          filled = written-more first out at (t .front) (t .filled) r last (clausesText (plainRecord kind ls)) plaining-at p k;
+          filled = written-more first out at (t .front) (t .filled) r last (formedText plain kind ls) listing-at p k;
           whole =
-              append-assoc (t .front) (clausesText (plainRecord kind ls)) (clausesText (plainClauses (next-left .clauses)))
+              append-assoc (t .front) (formedText plain kind ls) (clausesText (formed plain (next-left .clauses)))
               ∙ ap (λ (l : List ℕ). t .front ++ l) (sym text-next)
               ∙ t .whole;
           room = t .room;

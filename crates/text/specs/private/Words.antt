@@ -1,5 +1,6 @@
 -- For the contracts of the functions that write the clauses of stored words.
 use mathlib.Core.Path.{_≡_}
+use mathlib.Core.Bool.{Bool, true, false}
 use mathlib.Core.List.{List, [], _∷_, _++_}
 use Prim.Native.Nat.{ℕ, zero, suc, _≤_}
 use lib.IntN.{ℤ, pos, negsuc, negℤ}
@@ -29,19 +30,6 @@ kindText (negsuc i) = []
 -- a clause by its kind word and its literals
 abbrev pub recordText : ℤ → List ℤ → List ℕ
 recordText kind ls = kindText kind ++ (literalsText ls ++ closing)
-
--- the clauses that words store
-abbrev pub readText : ReadBack → List ℕ
-readText (clausesRead cs) = clausesText cs
-readText (badRecord i) = []
-
-unfoldable pub wordsText : List ℤ → List ℕ
-wordsText ws = readText (clausesIn ws)
-
--- the words store clauses
-pub record Stores (ws : List ℤ) : Type 0 where
-  pub clauses : List Clause
-  pub words : ws ≡ stored clauses
 
 -- ---- the same clauses as OR clauses alone
 
@@ -100,10 +88,22 @@ pub record StoresPlain (ws : List ℤ) : Type 0 where
   pub within : ClausesWithin maxVariables clauses
   pub few : length ws ≤ maxList
 
--- the text of the plain clauses that words store
-abbrev pub plainText : List ℤ → List ℕ
-plainText ws = clausesText (plainClauses (storedIn ws))
+-- ---- either
 
--- the bytes and the clauses of that text
+-- clauses as they are, or as OR clauses alone
+abbrev pub formed : Bool → List Clause → List Clause
+formed false cs = cs
+formed true cs = plainClauses cs
+
+-- the text of a kind word and literals
+abbrev pub formedText : Bool → ℤ → List ℤ → List ℕ
+formedText false kind ls = recordText kind ls
+formedText true kind ls = clausesText (plainRecord kind ls)
+
+-- the text of the clauses that words store
+abbrev pub storedText : Bool → List ℤ → List ℕ
+storedText plain ws = clausesText (formed plain (storedIn ws))
+
+-- the bytes and the clauses of the plain one
 abbrev pub plainSizes : List ℤ → PlainSizes
-plainSizes ws = record { bytes = length (plainText ws); clauses = length (plainClauses (storedIn ws)) }
+plainSizes ws = record { bytes = length (storedText true ws); clauses = length (plainClauses (storedIn ws)) }

@@ -1,5 +1,6 @@
 -- `text::answer::fit_clauses` meets its contract. Assumes nothing.
 use mathlib.Core.Path.{_≡_, ap, sym, _∙_}
+use mathlib.Core.Bool.{true}
 use mathlib.Core.List.{_++_}
 use Prim.Native.Nat.{ℕ, _+_, _≤_, _*_}
 use native.Mathlib.Omega.{arith}
@@ -8,14 +9,14 @@ use Rattle.circuit.proofs.Promises.{put-as}
 use Rattle.text.specs.declared.plain.PlainSizes.{PlainSizes}
 use Rattle.text.specs.Dimacs.{headerText, dimacsOf, decimal}
 use Rattle.text.specs.Plain.{plainClauses}
-use Rattle.text.specs.private.Words.{storedIn, plainText}
+use Rattle.text.specs.private.Words.{storedIn, storedText}
 use Rattle.text.proofs.plain.Laws.{sizing-start}
 use Rattle.text.proofs.answer.Laws.{fit-refused, fit-put, digits-few, header-long}
 use borrow.Author.Needs.{needs}
 use Rattle.text.proofs.answer.fit_clauses.Statement.{statement}
 use Rattle.text.proofs.answer.fit_clauses.Tie as tie
 
-bytes-are : (c : tie.After-list-sizes) → c .list-sizes .result .bytes ≡ length (plainText (c .before .before .args .words .now))
+bytes-are : (c : tie.After-list-sizes) → c .list-sizes .result .bytes ≡ length (storedText true (c .before .before .args .words .now))
 bytes-are c = ap (λ (r : PlainSizes). r .bytes) (c .list-sizes .ensures)
 
 clauses-are : (c : tie.After-list-sizes) → c .list-sizes .result .clauses ≡ length (plainClauses (storedIn (c .before .before .args .words .now)))
@@ -23,15 +24,15 @@ clauses-are c = ap (λ (r : PlainSizes). r .clauses) (c .list-sizes .ensures)
 
 -- the header has the number of the clauses
 text-is : (c : tie.After-list-sizes)
-    → headerText (c .before .before .args .variables) (c .list-sizes .result .clauses) ++ plainText (c .before .before .args .words .now) ≡ dimacsOf (c .before .before .args .variables) (plainClauses (storedIn (c .before .before .args .words .now)))
+    → headerText (c .before .before .args .variables) (c .list-sizes .result .clauses) ++ storedText true (c .before .before .args .words .now) ≡ dimacsOf (c .before .before .args .variables) (plainClauses (storedIn (c .before .before .args .words .now)))
 unfolding dimacsOf
-text-is c = ap (λ (k : ℕ). headerText (c .before .before .args .variables) k ++ plainText (c .before .before .args .words .now)) (clauses-are c)
+text-is c = ap (λ (k : ℕ). headerText (c .before .before .args .variables) k ++ storedText true (c .before .before .args .words .now)) (clauses-are c)
 
 long : (c : tie.After-list-sizes)
     → length (dimacsOf (c .before .before .args .variables) (plainClauses (storedIn (c .before .before .args .words .now)))) ≡ length (decimal (c .before .before .args .variables)) + length (decimal (c .list-sizes .result .clauses)) + length (decimal 0) + 7 + c .list-sizes .result .bytes
 long c =
     sym (ap length (text-is c))
-    ∙ length-append (headerText (c .before .before .args .variables) (c .list-sizes .result .clauses)) (plainText (c .before .before .args .words .now))
+    ∙ length-append (headerText (c .before .before .args .variables) (c .list-sizes .result .clauses)) (storedText true (c .before .before .args .words .now))
     ∙ omega (arith, header-long (c .before .before .args .variables) (c .list-sizes .result .clauses), bytes-are c)
 
 list-sizes-requires : tie.Need-list-sizes-requires
@@ -52,14 +53,14 @@ no-room-requires c κs = search needs
 returns : tie.Need-returns
 returns c = let s = c .before .before .before .before .before in fit-refused (dimacsOf (s .args .variables) (plainClauses (storedIn (s .args .words .now)))) (s .args .out .now) (c .no-room .result) (c .no-room .ensures) (omega (arith, long (c .before .before .before), c .before .before .three-digits .ensures, c .before .if1 .taken))
 
-put-plain-requires : tie.Need-put-plain-requires
-put-plain-requires c κs = let s = c .before .before .before .before .before in (s .pre, omega (arith, ap length (text-is (c .before .before .before)), long (c .before .before .before), c .before .before .three-digits .ensures, c .before .if1 .left))
+put-list-requires : tie.Need-put-list-requires
+put-list-requires c κs = let s = c .before .before .before .before .before in (s .pre, omega (arith, ap length (text-is (c .before .before .before)), long (c .before .before .before), c .before .before .three-digits .ensures, c .before .if1 .left))
 
 same-length : tie.Need-same-length
 same-length c = search needs
 
 returns-2 : tie.Need-returns-2
-returns-2 c = let s = c .before .before .before .before .before .before .before .before in fit-put (dimacsOf (s .args .variables) (plainClauses (storedIn (s .args .words .now)))) (s .args .out .now) _ _ (put-as _ _ _ _ _ (text-is (c .before .before .before .before .before .before)) (c .before .before .put-plain .ensures)) (omega (arith, long (c .before .before .before .before .before .before), c .before .before .before .before .before .three-digits .ensures, c .before .before .before .before .if1 .left))
+returns-2 c = let s = c .before .before .before .before .before .before .before .before in fit-put (dimacsOf (s .args .variables) (plainClauses (storedIn (s .args .words .now)))) (s .args .out .now) _ _ (put-as _ _ _ _ _ (text-is (c .before .before .before .before .before .before)) (c .before .before .put-list .ensures)) (omega (arith, long (c .before .before .before .before .before .before), c .before .before .before .before .before .three-digits .ensures, c .before .before .before .before .if1 .left))
 
 pub fit-clauses-spec : {M : Type 1} → statement M
 fit-clauses-spec =
@@ -71,6 +72,6 @@ fit-clauses-spec =
     add-if1-2
     no-room-requires
     returns
-    put-plain-requires
+    put-list-requires
     same-length
     returns-2)

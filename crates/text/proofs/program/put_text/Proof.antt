@@ -27,7 +27,7 @@ listed : (c : tie.After-totals) → Written (c .totals .given .0 .0) (c .before 
 unfolding tomiterText
 listed c =
     let l = c .before .before .before .list in
-    list-text _ (l .last .1 .0) (verdict (c .before .before .before .before .before .before .before .args .input .now)) (subst (λ (r : ListAnswer). Delivers r (l .last .1 .0) (verdict (c .before .before .before .before .before .before .before .args .input .now))) (c .totals .given .1) (l .ensures))
+    list-text _ (l .last .1 .0) (verdict (c .before .before .before .before .before .before .before .args .input .now)) (omega (arith, l .kept)) (subst (λ (r : ListAnswer). Delivers r (l .last .1 .0) (verdict (c .before .before .before .before .before .before .before .args .input .now))) (c .totals .given .1) (l .ensures))
 
 slice-aggregate-list : tie.Need-slice-aggregate-list
 slice-aggregate-list c = search needs
