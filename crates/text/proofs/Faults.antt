@@ -1,12 +1,10 @@
 -- An input is refused exactly for what is wrong with it first. Assumes nothing.
 use mathlib.Core.Path.{_≡_, refl, sym, ap, subst, _∙_}
 use mathlib.Core.Logic.{_↔_}
-use mathlib.Core.List.{List, [], _∷_, _++_, append-nil}
+use mathlib.Core.List.{List, _++_}
 use Prim.Native.Nat.{ℕ, _+_, _≤_, _<_}
-use native.Mathlib.Omega.{arith}
 use lib.Dec.{eqb, leb}
-use lib.ListN.{length, drop, take-append-drop, length-append}
-use lib.Seq.{take-all}
+use lib.ListN.{length, drop, take-append-drop}
 use borrow.Author.Tests.{eqb-true, eqb-false, ne-eqb, eq-eqb, leb-true, leb-false, lt-leb}
 use Rattle.bits.proofs.Bools.{either, cond-true, cond-false}
 use Rattle.circuit.specs.declared.gate.Gate.{Gate}
@@ -19,25 +17,20 @@ use Rattle.checking.specs.Miter.{miterGates}
 use Rattle.checking.specs.Clauses.{clausesOf}
 use Rattle.checking.specs.Stored.{stored}
 use Rattle.text.specs.Tomiter.{maxInput, maxWords, refusedAt, listVerdict, pairVerdict, secondVerdict, verdict}
-use Rattle.text.specs.TextLaws.{ProgramRefused, too-long, first-file, second-file, after-end, lines-differ, list-long}
+use Rattle.text.specs.WholeFile.{wholeFile}
+use Rattle.text.specs.TextLaws.{ProgramRefused, too-long, first-file, second-file, lines-differ, list-long}
 use Rattle.text.proofs.Telling.{after-first, after-second, not-refused}
-use Rattle.text.proofs.list.Laws.{input-long, first-bad, first-good, second-bad, second-more, second-pair}
+use Rattle.text.proofs.WholeFile.{WholeJudged, whole-judged, whole-refused}
+use Rattle.text.proofs.list.Laws.{input-long, first-bad, first-good, second-refused, second-served}
 
 -- ---- what is wrong is told
-
-nothing-left : (xs ys : List ℕ) → length xs ≡ length (xs ++ ys) → ys ≡ []
-nothing-left xs [] e = refl
-nothing-left xs (y ∷ ys) e = absurd (omega (arith, length-append xs (y ∷ ys)))
 
 told : (input : List ℕ) (number file place : ℕ) → ProgramRefused input number file place → verdict input ≡ refusedAt number file place
 unfolding pairVerdict listVerdict
 told input _ _ _ (too-long h) = input-long input h
 told input _ _ _ (first-file number place h f) = first-bad input h number place (reader .read-refused input number place .1 f)
-told input _ _ _ (second-file n a rest number place h good e f) =
-    after-first input n a rest h good e ∙ second-bad n a rest number place (reader .read-refused rest number place .1 f)
-told input _ _ _ (after-end n a m b rest h good-a good-b e more) =
-    after-first input n a (textOf m b ++ rest) h good-a e
-    ∙ second-more n a (textOf m b ++ rest) m (length (textOf m b)) b (reader .text-read m b rest good-b) (λ l. more (nothing-left (textOf m b) rest l))
+told input _ _ _ (second-file n a rest number place h good e w) =
+    after-first input n a rest h good e ∙ second-refused n a rest number place (whole-refused rest number place w)
 told input _ _ _ (lines-differ n a m b h good-a good-b e ne) =
     after-first input n a (textOf m b) h good-a e ∙ after-second n a m b good-b ∙ cond-false (eqb n m) _ _ (ne-eqb n m ne)
 told input _ _ _ (list-long n a b h good-a good-b e l) =
@@ -55,21 +48,6 @@ as-told input a b c number file place f e =
     let y : b ≡ file = cc in
     let z : c ≡ place = cc in
     subst (λ (k : ℕ). ProgramRefused input number file k) z (subst (λ (k : ℕ). ProgramRefused input number k c) y (subst (λ (k : ℕ). ProgramRefused input k b c) x f))
-
--- a text that was read is the cascade's text and what is left
-module _ (rest : List ℕ) (d : Reading) (r : reading rest ≡ served d) where
-  pub cut : rest ≡ textOf (d .lines) (d .gates) ++ drop (d .taken) rest
-  cut = sym (take-append-drop (d .taken) rest) ∙ ap (λ (l : List ℕ). l ++ drop (d .taken) rest) (reader .read-text rest d r .1)
-
-  -- nothing is left only where all was taken
-  pub taken-all : drop (d .taken) rest ≡ [] → d .taken ≡ length rest
-  taken-all z =
-      let text : List ℕ = textOf (d .lines) (d .gates) in
-      let s : served d ≡ served (record { lines = d .lines; gates = d .gates; taken = length text }) =
-      sym r ∙ ap reading cut ∙ reader .text-read (d .lines) (d .gates) (drop (d .taken) rest) (reader .read-text rest d r .0) in
-      let f : d ≡ record { lines = d .lines; gates = d .gates; taken = length text } = cc in
-      let t : d .taken ≡ length text = ap (λ (c : Reading). c .taken) f in
-      t ∙ sym (ap length (cut ∙ ap (λ (l : List ℕ). text ++ l) z ∙ append-nil text))
 
 module _ (input : List ℕ) (number file place : ℕ) (short : length input ≤ maxInput) where
   module _ (n : ℕ) (a : List Gate) (good-a : FileCascade n a) where
@@ -94,22 +72,12 @@ module _ (input : List ℕ) (number file place : ℕ) (short : length input ≤ 
         (λ t.
         as-told input 8 0 0 number file place (lines-differ n a m b short good-a good-b e (eqb-false n m t)) (sym (cond-false (eqb n m) _ _ t) ∙ v))
 
-    second-found : (rest : List ℕ) → input ≡ textOf n a ++ rest → (o : Outcome Reading) → reading rest ≡ o → secondVerdict n a rest ≡ refusedAt number file place
+    second-found : (rest : List ℕ) → input ≡ textOf n a ++ rest → (o : Outcome Reading) → wholeFile rest ≡ o → WholeJudged rest o → secondVerdict n a rest ≡ refusedAt number file place
         → ProgramRefused input number file place
-    second-found rest e (refused k p) r v =
-        as-told input k 2 p number file place (second-file n a rest k p short good-a e (reader .read-refused rest k p .0 r)) (sym (second-bad n a rest k p r) ∙ v)
-    second-found rest e (served d) r v =
-        let (good-b, text-b) = reader .read-text rest d r in
-        either (eqb (d .taken) (length rest))
-        (λ t.
-        let all : d .taken ≡ length rest = eqb-true (d .taken) (length rest) t in
-        pair-found (d .lines) (d .gates) good-b (e ∙ ap (λ (l : List ℕ). textOf n a ++ l) (sym (take-all (d .taken) rest (omega arith)) ∙ text-b))
-        (sym (second-pair n a rest (d .lines) (d .taken) (d .gates) r all) ∙ v))
-        (λ t.
-        let ne : d .taken ≡ length rest → ⊥ = eqb-false (d .taken) (length rest) t in
-        as-told input 1 2 (length (d .gates) + 2) number file place
-        (after-end n a (d .lines) (d .gates) (drop (d .taken) rest) short good-a good-b (e ∙ ap (λ (l : List ℕ). textOf n a ++ l) (cut rest d r)) (λ z. ne (taken-all rest d r z)))
-        (sym (second-more n a rest (d .lines) (d .taken) (d .gates) r ne) ∙ v))
+    second-found rest e (refused k p) r w v =
+        as-told input k 2 p number file place (second-file n a rest k p short good-a e w) (sym (second-refused n a rest k p r) ∙ v)
+    second-found rest e (served d) r (good-b, text-b) v =
+        pair-found (d .lines) (d .gates) good-b (e ∙ ap (λ (l : List ℕ). textOf n a ++ l) text-b) (sym (second-served n a rest d r) ∙ v)
 
   first-found : (o : Outcome Reading) → reading input ≡ o → verdict input ≡ refusedAt number file place → ProgramRefused input number file place
   first-found (refused k p) r v =
@@ -117,7 +85,7 @@ module _ (input : List ℕ) (number file place : ℕ) (short : length input ≤ 
   first-found (served c) r v =
       let (good, text) = reader .read-text input c r in
       let rest : List ℕ = drop (c .taken) input in
-      second-found (c .lines) (c .gates) good rest (sym (take-append-drop (c .taken) input) ∙ ap (λ (l : List ℕ). l ++ rest) text) (reading rest) refl
+      second-found (c .lines) (c .gates) good rest (sym (take-append-drop (c .taken) input) ∙ ap (λ (l : List ℕ). l ++ rest) text) (wholeFile rest) refl (whole-judged rest)
       (sym (first-good input short c r) ∙ v)
 
 found : (input : List ℕ) (number file place : ℕ) → verdict input ≡ refusedAt number file place → ProgramRefused input number file place

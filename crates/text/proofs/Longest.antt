@@ -22,9 +22,9 @@ use Rattle.text.specs.Dimacs.{headerText, clausesText, dimacsOf}
 use Rattle.text.specs.Plain.{plainClauses}
 use Rattle.text.specs.Tomiter.{refusalText}
 use Rattle.text.specs.Compare.{maxList, maxCompared, Files, cascades, faulty, filesOf, Comparison, gatesLeft, sweptAs, listAs, compared, comparedFiles, comparison, comparisonText, compareText, Rooms, RoomsFit, compareOutcome}
-use Rattle.text.specs.TwoFiles.{TwoFiles, WholeRefused, line, after, FilesRefused, first-long, second-long, first-file, second-file, lines-differ}
+use Rattle.text.specs.TwoFiles.{TwoFiles, FilesRefused, first-long, second-long, first-file, second-file, lines-differ}
 use Rattle.text.proofs.Decimal.{decimal-few}
-use Rattle.text.proofs.Sizes.{variable-few, fault-small}
+use Rattle.text.proofs.Sizes.{variable-few, whole-few}
 use Rattle.text.proofs.Rooms.{rooms-good}
 use Rattle.text.proofs.Verdicts.{Judged, judged, lines, kept, left-few}
 use Rattle.text.proofs.plain.Laws.{plain-few}
@@ -32,10 +32,6 @@ use Rattle.text.proofs.plain.Short.{list-short, list-within}
 use Rattle.text.proofs.answer.Laws.{fit-fits, digits-few, differ-long, refusal-long, header-long}
 
 -- ---- refusals
-
-whole-few : (text : List ℕ) (number place : ℕ) → WholeRefused text number place → (number < 100) × (place < 10000)
-whole-few text _ _ (line number place f) = fault-small text number place f
-whole-few text _ _ (after n a rest good _ _) = (omega arith, omega (arith, good .few))
 
 pub fault-few : (first second : List ℕ) (number file place : ℕ) → FilesRefused first second number file place → (number < 100) × (file < 10) × (place < 10000)
 fault-few first second _ _ _ (first-long _) = (omega arith, omega arith, omega arith)

@@ -11,13 +11,14 @@ use Rattle.checking.specs.Compare.{lowestFrom}
 use Rattle.checking.specs.Clauses.{moved, gatesClauses, usedAfter, currentAfter, targeted, upFrom, differenceClauses, clausesOf, variablesOf}
 use Rattle.checking.specs.Stored.{stored}
 use Rattle.text.specs.Dimacs.{decimalWithin, decimal, literalsText, clausesText, headerText, dimacsOf}
+use Rattle.text.specs.WholeFile.{wholeFile}
 use Rattle.text.specs.Tomiter.{listVerdict, pairVerdict, secondVerdict, verdict, refusalText, tomiterText}
-use Rattle.text.specs.Compare.{wholeFile, secondFile, filesOf, compared, comparison, differText, compareText}
+use Rattle.text.specs.Compare.{secondFile, filesOf, compared, comparison, differText, compareText}
 use Rattle.text.specs.CheckInput.{stateText, stateRead, checked, outputsText, checkText}
 use Rattle.text.specs.Rows.{RowsHold, textRows, FilesHold, filesRows, InputsHold, inputRows}
 
 pub rows-hold : RowsHold textRows
-unfolding bit controlsBelow linesOf partedBy same numberOf lineOf controlOf controlsFrom among risingFrom maskOf closedGate gateFields headerFields readFrom reading moved gatesClauses usedAfter currentAfter targeted upFrom differenceClauses clausesOf variablesOf stored decimalWithin decimal literalsText clausesText headerText dimacsOf listVerdict pairVerdict secondVerdict verdict refusalText tomiterText
+unfolding bit controlsBelow linesOf partedBy same numberOf lineOf controlOf controlsFrom among risingFrom maskOf closedGate gateFields headerFields readFrom reading moved gatesClauses usedAfter currentAfter targeted upFrom differenceClauses clausesOf variablesOf stored decimalWithin decimal literalsText clausesText headerText dimacsOf listVerdict pairVerdict wholeFile secondVerdict verdict refusalText tomiterText
 rows-hold = (refl, (refl, (refl, (refl, (refl, (refl, tt))))))
 
 pub files-hold : FilesHold filesRows

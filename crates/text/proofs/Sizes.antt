@@ -22,8 +22,10 @@ use Rattle.checking.specs.Satisfaction.{variableOf, LiteralsWithin, clauseLiter
 use Rattle.checking.specs.Stored.{storedClause, stored}
 use Rattle.checking.proofs.Promises.{clause-laws, stored-next}
 use Rattle.text.specs.Dimacs.{blank, decimal, literalText, literalsText, closing, clauseText, clausesText, headerText, dimacsOf}
+use Rattle.text.specs.WholeFile.{wholeFile, WholeRefused, line, after}
 use Rattle.text.specs.Tomiter.{maxInput, maxWords, maxText, Verdict, listed, refusedAt, ofFile, listVerdict, pairVerdict, secondVerdict, verdict, refusalText, verdictText, tomiterText, tomiterOutcome}
 use Rattle.text.proofs.Decimal.{decimal-few}
+use Rattle.text.proofs.WholeFile.{WholeJudged, whole-judged}
 use Rattle.text.proofs.Pairs.{Listable, listable}
 use Rattle.text.proofs.answer.Laws.{fit-fits}
 
@@ -104,6 +106,10 @@ pub fault-small : (text : List ℕ) (number place : ℕ) → FileRefused text nu
 fault-small text _ _ (header-line number o) = (header-number _ number o, omega arith)
 fault-small text _ _ (later-line n gs rest good starts number o) = (line-number n _ _ _ number o, omega (arith, good .few))
 
+pub whole-few : (text : List ℕ) (number place : ℕ) → WholeRefused text number place → (number < 100) × (place < 10000)
+whole-few text _ _ (line number place f) = fault-small text number place f
+whole-few text _ _ (after n a rest good _ _) = (omega arith, omega (arith, good .few))
+
 -- ---- every verdict
 
 list-small : (n : ℕ) (gs : List Gate) → Listable n gs → Small (listVerdict n gs)
@@ -133,13 +139,11 @@ file-small file text more h f (refused number place) e =
 
 second-small : (n : ℕ) (gs : List Gate) (text : List ℕ) → FileCascade n gs → Small (secondVerdict n gs text)
 unfolding secondVerdict
-second-small n gs text x =
-    file-small 2 text _ (omega arith)
-    (λ c e y.
-    either (eqb (c .taken) (length text))
-    (λ t. subst Small (sym (cond-true (eqb (c .taken) (length text)) _ _ t)) (pair-small n gs (c .lines) (c .gates) x y))
-    (λ t. subst Small (sym (cond-false (eqb (c .taken) (length text)) _ _ t)) (omega arith, omega arith, omega (arith, y .few))))
-    (reading text) refl
+second-small n gs text x = by (wholeFile text) (whole-judged text)
+  where
+    by : (o : Outcome Reading) → WholeJudged text o → Small (ofFile 2 o (λ c. pairVerdict n gs (c .lines) (c .gates)))
+    by (served c) w = pair-small n gs (c .lines) (c .gates) x (w .0)
+    by (refused number place) w = let (a, b) = whole-few text number place w in (a, omega arith, b)
 
 verdict-small : (input : List ℕ) → Small (verdict input)
 unfolding verdict

@@ -1,12 +1,12 @@
 -- The program's text tells on which states the cascades of two files differ. Assumes nothing.
 use mathlib.Core.Path.{_≡_, refl, sym, ap, ap₂, subst, _∙_}
 use mathlib.Core.Bool.{Bool, true, false}
-use mathlib.Core.List.{List, [], _++_, append-nil}
+use mathlib.Core.List.{List, [], _++_}
 use Prim.Native.Nat.{ℕ, _≤_}
 use native.Mathlib.Omega.{arith}
 use lib.Dec.{eqb, leb}
 use lib.ListN.{length, drop, take-append-drop}
-use lib.Seq.{take-all, drop-append-seam}
+use lib.Seq.{drop-append-seam}
 use borrow.Author.Tests.{eq-eqb, eqb-true, le-leb, leb-true}
 use Rattle.bits.proofs.Bools.{cond-true}
 use Rattle.circuit.specs.declared.gate.Gate.{Gate}
@@ -23,10 +23,12 @@ use Rattle.checking.proofs.Promises.{miter-laws, clause-laws, tells-same}
 use Rattle.text.specs.Dimacs.{headerText, dimacsOf, dimacsRead}
 use Rattle.text.specs.Tomiter.{maxInput, maxWords, Verdict, listed, refusedAt, unless, ofFile, listVerdict, pairVerdict, secondVerdict, verdict, refusalText, verdictText, tomiterText}
 use Rattle.text.specs.BytesTell.{StartsProblem, TextTells}
+use Rattle.text.specs.WholeFile.{wholeFile}
 use Rattle.text.specs.TextLaws.{Fitting}
 use Rattle.text.proofs.Pairs.{listable}
 use Rattle.text.proofs.Reading.{text-back}
-use Rattle.text.proofs.list.Laws.{first-good, second-pair}
+use Rattle.text.proofs.WholeFile.{WholeJudged, whole-judged, whole-is}
+use Rattle.text.proofs.list.Laws.{first-good, second-served}
 
 -- ---- good files
 
@@ -40,7 +42,7 @@ after-first input n a rest short good e =
 -- and after a good second one, to its last byte, the pair
 pub after-second : (n : ℕ) (a : List Gate) (m : ℕ) (b : List Gate) → FileCascade m b → secondVerdict n a (textOf m b) ≡ pairVerdict n a m b
 after-second n a m b good =
-    second-pair n a (textOf m b) m (length (textOf m b)) b (ap reading (sym (append-nil (textOf m b))) ∙ reader .text-read m b [] good) refl
+    second-served n a (textOf m b) _ (whole-is (textOf m b) m b good refl)
 
 -- ---- an input that fits
 
@@ -97,15 +99,14 @@ module _ (input : List ℕ) (v : ℕ) (cs : List Clause) (e : verdict input ≡ 
       let (short, e1) = passed (leb (length input) maxInput) _ 0 0 _ v cs e in
       let (c, first, e2) = file-passed 1 _ v cs (reading input) e1 in
       let rest : List ℕ = drop (c .taken) input in
-      let (d, second, e3) = file-passed 2 _ v cs (reading rest) e2 in
-      let (all, e4) = passed (eqb (d .taken) (length rest)) _ 2 _ _ v cs e3 in
+      let (d, second, e4) = file-passed 2 _ v cs (wholeFile rest) e2 in
       let (same, e5) = passed (eqb (c .lines) (d .lines)) _ 0 0 _ v cs e4 in
       let (words, e6) = passed (leb (length (stored (clausesOf (c .lines) (miterGates (c .gates) (d .gates))))) maxWords) _ 0 0 _ v cs e5 in
       let (good-a, text-a) = reader .read-text input c first in
-      let (good-b, text-b) = reader .read-text rest d second in
+      let (good-b, text-b) = subst (WholeJudged rest) second (whole-judged rest) in
       let lines : c .lines ≡ d .lines = eqb-true (c .lines) (d .lines) same in
       let whole : rest ≡ textOf (c .lines) (d .gates) =
-      sym (take-all (d .taken) rest (omega (arith, eqb-true (d .taken) (length rest) all))) ∙ text-b ∙ ap (λ (n : ℕ). textOf n (d .gates)) (sym lines) in (
+      text-b ∙ ap (λ (n : ℕ). textOf n (d .gates)) (sym lines) in (
         c .lines,
         c .gates,
         d .gates,

@@ -2,12 +2,11 @@
 use mathlib.Core.Path.{_≡_, refl, sym, ap, subst, _∙_}
 use mathlib.Core.Logic.{_↔_}
 use mathlib.Core.Bool.{true}
-use mathlib.Core.List.{List, [], _∷_, _++_, append-nil}
+use mathlib.Core.List.{List, []}
 use Prim.Native.Nat.{ℕ, _^_, _≤_, _<_}
 use native.Mathlib.Omega.{arith}
 use lib.Dec.{eqb, leb}
-use lib.ListN.{length, length-append, drop}
-use lib.Seq.{take-all}
+use lib.ListN.{length}
 use borrow.Author.Tests.{eqb-true, eqb-false, leb-true, leb-false}
 use Rattle.bits.proofs.Bools.{either, cond-true, cond-false}
 use Rattle.circuit.specs.declared.gate.Gate.{Gate}
@@ -16,9 +15,9 @@ use Rattle.circuit.specs.Outcome.{Outcome, served, refused}
 use Rattle.circuit.specs.Words.{allValid}
 use Rattle.circuit.specs.Run.{run, Equal}
 use Rattle.circuit.specs.Text.{textOf}
-use Rattle.circuit.specs.File.{Reading, reading}
+use Rattle.circuit.specs.File.{Reading}
 use Rattle.circuit.specs.FileLaws.{FileCascade}
-use Rattle.circuit.proofs.Promises.{reader, valid-all-more}
+use Rattle.circuit.proofs.Promises.{valid-all-more}
 use Rattle.checking.specs.Miter.{miterGates}
 use Rattle.checking.specs.StepLaws.{Keeps}
 use Rattle.checking.specs.Reduce.{reduceGates}
@@ -31,56 +30,15 @@ use Rattle.checking.proofs.Promises.{miter-laws, reduce-laws, sweep-says, claus
 use Rattle.text.specs.Dimacs.{dimacsOf, dimacsRead}
 use Rattle.text.specs.Plain.{plainClauses}
 use Rattle.text.specs.BytesTell.{TextTells}
-use Rattle.text.specs.Compare.{maxFile, maxList, Files, cascades, faulty, wholeFile, secondFile, filesOf, Comparison, gatesLeft, sweptAs, listAs, compared, comparedFiles, comparison, comparisonText, compareText}
-use Rattle.text.specs.TwoFiles.{TwoFiles, WholeRefused, line, after, FilesRefused, first-long, second-long, first-file, second-file, lines-differ}
+use Rattle.text.specs.Compare.{maxFile, maxList, Files, cascades, faulty, secondFile, filesOf, Comparison, gatesLeft, sweptAs, listAs, compared, comparedFiles, comparison, comparisonText, compareText}
+use Rattle.text.specs.WholeFile.{wholeFile}
+use Rattle.text.specs.TwoFiles.{TwoFiles, FilesRefused, first-long, second-long, first-file, second-file, lines-differ}
 use Rattle.text.specs.CompareLaws.{MayWrite, refuses, overflows, reduces, sweeps, differs, asks, Compares}
 use Rattle.text.proofs.Pairs.{listable}
 use Rattle.text.proofs.Reading.{text-back}
 use Rattle.text.proofs.PlainClauses.{plain-or, plain-tells}
-use Rattle.text.proofs.Faults.{cut, taken-all}
+use Rattle.text.proofs.WholeFile.{WholeJudged, whole-judged, empty, whole-is, whole-refused}
 use Rattle.text.proofs.pair.Laws as pair
-
--- ---- a file
-
-abbrev WholeJudged : List ℕ → Outcome Reading → Type 0
-WholeJudged text (served c) = (FileCascade (c .lines) (c .gates)) × (text ≡ textOf (c .lines) (c .gates))
-WholeJudged text (refused number place) = WholeRefused text number place
-
-whole-by : (text : List ℕ) (o : Outcome Reading) → reading text ≡ o → WholeJudged text (wholeFile text)
-whole-by text (refused k p) r = subst (WholeJudged text) (sym (pair.whole-bad text k p r)) (line k p (reader .read-refused text k p .0 r))
-whole-by text (served d) r =
-    let (good, is) = reader .read-text text d r in
-    either (eqb (d .taken) (length text))
-    (λ t.
-    let all : d .taken ≡ length text = eqb-true (d .taken) (length text) t in
-    subst (WholeJudged text) (sym (pair.whole-good text d r all)) (good, sym (take-all (d .taken) text (omega arith)) ∙ is))
-    (λ t.
-    let ne : d .taken ≡ length text → ⊥ = eqb-false (d .taken) (length text) t in
-    subst (WholeJudged text) (sym (pair.whole-after text d r ne)) (after (d .lines) (d .gates) (drop (d .taken) text) good (cut text d r) (λ z. ne (taken-all text d r z))))
-
-pub whole-judged : (text : List ℕ) → WholeJudged text (wholeFile text)
-whole-judged text = whole-by text (reading text) refl
-
-empty : {A : Type 0} (xs : List A) → length xs ≡ 0 → xs ≡ []
-empty [] e = refl
-empty (x ∷ xs) e = absurd (omega arith)
-
--- a file is read as what is said of it
-module _ (text : List ℕ) (n : ℕ) (a : List Gate) (good : FileCascade n a) where
-  abbrev whole : Reading
-  whole = record { lines = n; gates = a; taken = length (textOf n a) }
-
-  read-before : (rest : List ℕ) → text ≡ textOf n a ++ rest → reading text ≡ served whole
-  read-before rest e = ap reading e ∙ reader .text-read n a rest good
-
-  pub whole-is : text ≡ textOf n a → wholeFile text ≡ served whole
-  whole-is e = pair.whole-good text whole (read-before [] (e ∙ sym (append-nil (textOf n a)))) (sym (ap length e))
-
-whole-refused : (text : List ℕ) (number place : ℕ) → WholeRefused text number place → wholeFile text ≡ refused number place
-whole-refused text _ _ (line number place f) = pair.whole-bad text number place (reader .read-refused text number place .1 f)
-whole-refused text _ _ (after n a rest good e more) =
-    pair.whole-after text (whole text n a good) (read-before text n a good rest e)
-    (λ t. more (empty rest (omega (arith, t, ap length e, length-append (textOf n a) rest))))
 
 -- ---- two files
 

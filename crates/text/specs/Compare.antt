@@ -5,11 +5,11 @@ use Prim.Native.Nat.{ℕ, _+_, _^_, _≤_}
 use lib.Dec.{eqb, leb}
 use lib.ListN.{length}
 use Rattle.circuit.specs.declared.gate.Gate.{Gate}
-use Rattle.circuit.specs.Outcome.{Outcome, served, refused, demand, andThen, written}
-use Rattle.circuit.specs.Refusal.{wrongForm, lineCountsDiffer, noRoom}
+use Rattle.circuit.specs.Outcome.{Outcome, served, refused, demand, written}
+use Rattle.circuit.specs.Refusal.{lineCountsDiffer, noRoom}
 use Rattle.circuit.specs.Run.{run}
 use Rattle.circuit.specs.Text.{tab, lineFeed}
-use Rattle.circuit.specs.File.{Reading, reading}
+use Rattle.circuit.specs.File.{Reading}
 use Rattle.checking.specs.Miter.{miterGates}
 use Rattle.checking.specs.Reduce.{reduceGates}
 use Rattle.checking.specs.Compare.{maxSweepLines, Difference, none, lowest, lowestFrom}
@@ -19,6 +19,7 @@ use Rattle.text.specs.Answers.{fitOutcome}
 use Rattle.text.specs.Dimacs.{dimacsOf}
 use Rattle.text.specs.Plain.{plainClauses}
 use Rattle.text.specs.Tomiter.{numbersText, refusalText}
+use Rattle.text.specs.WholeFile.{wholeFile}
 
 -- a file has 262,144 bytes at most, and a clause list 262,144 words
 abbrev pub maxFile : ℕ
@@ -44,10 +45,6 @@ maxCompared = 4194322
 pub data Files : Type 0 where
   cascades : ℕ → List Gate → List Gate → Files
   faulty : ℕ → ℕ → ℕ → Files
-
--- a file, to its last byte: its own refusal, then 1 for bytes after its `end`, at the line index after that
-unfoldable pub wholeFile : List ℕ → Outcome Reading
-wholeFile text = andThen (reading text) (λ c. demand (eqb (c .taken) (length text)) wrongForm (length (c .gates) + 2) (served c))
 
 -- goes on with the cascade of a file; what is wrong with it is said of that file
 abbrev pub inFile : ℕ → Outcome Reading → (Reading → Files) → Files

@@ -7,7 +7,7 @@ use Prim.Native.Nat.{ℕ, _+_, _≤_, _<_}
 use lib.ListN.{length, drop}
 use Rattle.circuit.specs.declared.gate.Gate.{Gate}
 use Rattle.circuit.specs.Outcome.{served}
-use Rattle.circuit.specs.Refusal.{wrongForm, lineCountsDiffer, noRoom}
+use Rattle.circuit.specs.Refusal.{lineCountsDiffer, noRoom}
 use Rattle.circuit.specs.Text.{textOf}
 use Rattle.circuit.specs.FileLaws.{FileCascade, FileRefused}
 use Rattle.checking.specs.Miter.{miterGates}
@@ -17,6 +17,7 @@ use Rattle.checking.specs.Satisfaction.{ClausesWithin}
 use Rattle.text.specs.Dimacs.{clausesText, headerText, Dimacs, dimacsOf, dimacsRead}
 use Rattle.text.specs.BytesTell.{StartsProblem, TextTells}
 use Rattle.text.specs.Answers.{WritesWhere}
+use Rattle.text.specs.WholeFile.{WholeRefused}
 use Rattle.text.specs.Rows.{RowsHold, textRows}
 use Rattle.text.specs.Tomiter.{maxInput, maxWords, maxText, Verdict, listed, refusedAt, verdict, refusalText, tomiterText, tomiterOutcome, tomiterBuffer}
 
@@ -32,13 +33,10 @@ pub record Fitting (input : List ℕ) (n : ℕ) (a b : List Gate) : Type 0 where
 pub data ProgramRefused (input : List ℕ) : ℕ → ℕ → ℕ → Type 0 where
   -- more than 65,536 bytes
   too-long : maxInput < length input → ProgramRefused input noRoom 0 0
-  -- the first file; the second one, after a first that is good
+  -- the first file; the second one, to its last byte, after a first that is good
   first-file : (number place : ℕ) → length input ≤ maxInput → FileRefused input number place → ProgramRefused input number 1 place
   second-file : (n : ℕ) (a : List Gate) (rest : List ℕ) (number place : ℕ) → length input ≤ maxInput → FileCascade n a → input ≡ textOf n a ++ rest
-      → FileRefused rest number place → ProgramRefused input number 2 place
-  -- bytes after the second `end`: the lines of the second file are its header, its gates and `end`
-  after-end : (n : ℕ) (a : List Gate) (m : ℕ) (b : List Gate) (rest : List ℕ) → length input ≤ maxInput → FileCascade n a → FileCascade m b
-      → input ≡ textOf n a ++ (textOf m b ++ rest) → (rest ≡ [] → ⊥) → ProgramRefused input wrongForm 2 (length b + 2)
+      → WholeRefused rest number place → ProgramRefused input number 2 place
   -- line counts that differ
   lines-differ : (n : ℕ) (a : List Gate) (m : ℕ) (b : List Gate) → length input ≤ maxInput → FileCascade n a → FileCascade m b
       → input ≡ textOf n a ++ textOf m b → (n ≡ m → ⊥) → ProgramRefused input lineCountsDiffer 0 0

@@ -7,7 +7,7 @@ use lib.Dec.{eqb, leb}
 use lib.ListN.{length, drop}
 use Rattle.circuit.specs.declared.gate.Gate.{Gate}
 use Rattle.circuit.specs.Outcome.{Outcome, served, refused}
-use Rattle.circuit.specs.Refusal.{wrongForm, lineCountsDiffer, noRoom}
+use Rattle.circuit.specs.Refusal.{lineCountsDiffer, noRoom}
 use Rattle.circuit.specs.Text.{tab, lineFeed}
 use Rattle.circuit.specs.File.{Reading, reading}
 use Rattle.checking.specs.Miter.{miterGates}
@@ -16,6 +16,7 @@ use Rattle.checking.specs.Stored.{stored}
 use Rattle.text.specs.Answers.{fitOutcome, fitBuffer}
 use Rattle.text.specs.Dimacs.{decimal, dimacsOf}
 use Rattle.text.specs.BytesTell.{BytesTell}
+use Rattle.text.specs.WholeFile.{wholeFile}
 
 -- the input has 65,536 bytes at most, and the clause buffer 16,384 words
 abbrev pub maxInput : ℕ
@@ -51,11 +52,9 @@ listVerdict n gs =
 unfoldable pub pairVerdict : ℕ → List Gate → ℕ → List Gate → Verdict
 pairVerdict na a nb b = unless (eqb na nb) (refusedAt lineCountsDiffer 0 0) (listVerdict na (miterGates a b))
 
--- the second file: its own refusal, then 1 for bytes after its `end`, at the line index after that
+-- the second file, to its last byte
 unfoldable pub secondVerdict : ℕ → List Gate → List ℕ → Verdict
-secondVerdict n gs text =
-    ofFile 2 (reading text) (λ c.
-    unless (eqb (c .taken) (length text)) (refusedAt wrongForm 2 (length (c .gates) + 2)) (pairVerdict n gs (c .lines) (c .gates)))
+secondVerdict n gs text = ofFile 2 (wholeFile text) (λ c. pairVerdict n gs (c .lines) (c .gates))
 
 -- more than 65,536 bytes: 10; the first file; the second one, from where the first one's reading stops
 unfoldable pub verdict : List ℕ → Verdict

@@ -1,12 +1,13 @@
 -- Two cascade files, each to its last byte: what they are where both are good, and what is wrong with them otherwise.
 use mathlib.Core.Path.{_≡_}
-use mathlib.Core.List.{List, [], _++_}
-use Prim.Native.Nat.{ℕ, _+_, _≤_, _<_}
+use mathlib.Core.List.{List}
+use Prim.Native.Nat.{ℕ, _≤_, _<_}
 use lib.ListN.{length}
 use Rattle.circuit.specs.declared.gate.Gate.{Gate}
-use Rattle.circuit.specs.Refusal.{wrongForm, lineCountsDiffer, noRoom}
+use Rattle.circuit.specs.Refusal.{lineCountsDiffer, noRoom}
 use Rattle.circuit.specs.Text.{textOf}
-use Rattle.circuit.specs.FileLaws.{FileCascade, FileRefused}
+use Rattle.circuit.specs.FileLaws.{FileCascade}
+use Rattle.text.specs.WholeFile.{WholeRefused}
 use Rattle.text.specs.Compare.{maxFile}
 
 -- each file is that of a cascade on n lines, to its last byte, and is not too long
@@ -17,11 +18,6 @@ pub record TwoFiles (first second : List ℕ) (n : ℕ) (a b : List Gate) : Type
   pub second-text : second ≡ textOf n b
   pub first-bytes : length first ≤ maxFile
   pub second-bytes : length second ≤ maxFile
-
--- what is wrong with a file, by number and place: a line of it, or bytes after its `end`; its lines are its header, its gates and `end`
-pub data WholeRefused (text : List ℕ) : ℕ → ℕ → Type 0 where
-  line : (number place : ℕ) → FileRefused text number place → WholeRefused text number place
-  after : (n : ℕ) (a : List Gate) (rest : List ℕ) → FileCascade n a → text ≡ textOf n a ++ rest → (rest ≡ [] → ⊥) → WholeRefused text wrongForm (length a + 2)
 
 -- what is wrong with two files, by number, file and place, where nothing of an earlier kind is
 pub data FilesRefused (first second : List ℕ) : ℕ → ℕ → ℕ → Type 0 where

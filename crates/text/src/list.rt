@@ -1,5 +1,6 @@
 // From the bytes of two cascade files to the clause list of their miter.
 
+use crate::pair::WholeAnswer;
 use checking::clauses::ClauseWord;
 use checking::clauses::EmitAnswer;
 use checking::clauses::Totals;
@@ -39,19 +40,11 @@ fn list_second(n: u64, a: &[u64], text: &[u8], clauses: &mut [ClauseWord]) -> Li
     ensures { λ r. ⌜ Delivers r (now (clauses .exit)) (secondVerdict n (gatesOf (now (a .entry))) (now (text .entry))) ⌝ }
 {
     let mut b = [0u64; crate::FILE_WORDS];
-    match circuit::file::read(text, &mut b) {
-        ReadAnswer::Refused(why) => ListAnswer::Refused { why, file: 2 },
-        ReadAnswer::Cascade {
-            header,
-            gates,
-            taken,
-        } => {
-            if taken != text.len() {
-                let why = Refusal::wrong_form(gates as u64 + 2);
-                return ListAnswer::Refused { why, file: 2 };
-            }
+    match crate::pair::read_whole(text, &mut b) {
+        WholeAnswer::Refused(why) => ListAnswer::Refused { why, file: 2 },
+        WholeAnswer::Cascade { lines, gates } => {
             let end = Gate::WORDS * gates;
-            list_pair(n, a, header.lines, &b[..end], clauses)
+            list_pair(n, a, lines, &b[..end], clauses)
         }
     }
 }

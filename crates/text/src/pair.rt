@@ -5,7 +5,8 @@ use circuit::refusal::Refusal;
 ghost use Prim.Native.Nat.{_*_, _≤_};
 ghost use lib.ListN.{length, take};
 ghost use Rattle.circuit.specs.Words.{gatesOf};
-ghost use Rattle.text.specs.Compare.{fileWords, wholeFile, secondFile, filesOf};
+ghost use Rattle.text.specs.WholeFile.{wholeFile};
+ghost use Rattle.text.specs.Compare.{fileWords, secondFile, filesOf};
 ghost use Rattle.text.specs.private.Comparing.{InRoom, SaysWhole, SaysFiles};
 
 // The lines and the gates of a cascade whose words stand in the lent room; or a refusal.
@@ -28,7 +29,7 @@ pub enum FilesAnswer {
 }
 
 // The cascade of a file, which has no byte after its `end`.
-fn read_whole(text: &[u8], room: &mut [u64]) -> WholeAnswer
+pub(crate) fn read_whole(text: &[u8], room: &mut [u64]) -> WholeAnswer
     requires { ⌜ fileWords ≤ length (now room) ⌝ }
     ensures { λ r. ⌜ SaysWhole r (now (room .exit)) (length (now (text .entry))) (wholeFile (now (text .entry))) ⌝ }
 {

@@ -1,8 +1,7 @@
 -- What comparing two cascades owes, case by case. Assumes nothing.
 use mathlib.Core.Path.{_≡_, refl, sym, ap, ap₂, subst, _∙_}
-use mathlib.Core.Bool.{Bool, true, false}
-use mathlib.Core.List.{List, [], _∷_, _++_, map}
-use Prim.Native.Nat.{ℕ, suc, _*_, _^_, _≤_, _<_}
+use mathlib.Core.List.{List, _++_}
+use Prim.Native.Nat.{ℕ, _*_, _^_, _≤_, _<_}
 use native.Mathlib.Omega.{arith}
 use lib.Dec.{eqb, leb}
 use lib.IntN.{ℤ}
@@ -10,27 +9,24 @@ use lib.ListN.{length, take, drop, length-append}
 use lib.Seq.{length-take-le, take-append-le}
 use borrow.Author.Tests.{eq-eqb, ne-eqb, le-leb, lt-leb, leb-false}
 use Rattle.bits.proofs.Bools.{either, cond-true, cond-false}
-use Rattle.bits.proofs.Lists.{all-append, all-implies}
 use Rattle.circuit.specs.declared.gate.Gate.{Gate}
 use Rattle.circuit.specs.declared.refusal.Refusal.{Refusal}
-use Rattle.circuit.specs.Gate.{controlsOf, maxLines, maxMiterGates}
+use Rattle.circuit.specs.Gate.{maxMiterGates}
 use Rattle.circuit.specs.Outcome.{Outcome, served, refused}
 use Rattle.circuit.specs.Refusal.{refusal, noRoom}
-use Rattle.circuit.specs.Words.{gatesOf, allValid, Cascade}
+use Rattle.circuit.specs.Words.{gatesOf, Cascade}
 use Rattle.circuit.proofs.Promises.{never, demand-met, demand-failed, gates-length, served-pair}
 use Rattle.checking.specs.declared.clauses.Totals.{Totals}
 use Rattle.checking.specs.Reduce.{Reduced, reduceGates, numbered, reduceOutcome, reduceBuffer}
 use Rattle.checking.specs.Compare.{maxSweepLines, Difference, lowestFrom, differenceOutcome}
-use Rattle.checking.specs.Clauses.{Clause, inputOf, moved, usedBy, literalOf, implied, gateClauses, gatesClauses, usedAfter, currentAfter, targeted, upFrom, differenceClause, differenceClauses, clausesOf, variablesOf, maxVariables}
-use Rattle.checking.specs.Satisfaction.{LiteralWithin, clauseLiterals, ClausesWithin}
+use Rattle.checking.specs.Clauses.{Clause, clausesOf, variablesOf}
 use Rattle.checking.specs.Stored.{stored}
 use Rattle.checking.specs.Emit.{emitOutcome, emitBuffer}
-use Rattle.checking.proofs.Promises.{reduce-laws, difference-made, clause-laws, clauses-none, clauses-next, differences-none, differences-next, list-parts, emit-cascade}
+use Rattle.checking.proofs.Promises.{reduce-laws, difference-made, emit-cascade}
 use Rattle.text.specs.declared.comparison.ComparedAnswer.{ComparedAnswer}
 use Rattle.text.specs.declared.comparison.ComparedAnswer.the-variants as answer
 use Rattle.text.specs.declared.pair.FilesAnswer.the-variants as files
 use Rattle.text.specs.private.Lists.{FileWords, ListStands}
-use Rattle.text.specs.private.Words.{ShortClause, AllShort}
 use Rattle.text.specs.Compare.{maxList, Comparison, reduced, unsolved, refusedAt, gatesLeft, sweptAs, listAs, compared, filesOf, comparedFiles, comparison}
 use Rattle.text.specs.private.Comparing.{InRoom, MiterWords, MiterCascade, LeftIn, SaysFiles, SaysCompared, SaysAny}
 use Rattle.text.proofs.list.Laws.{emit-stands}

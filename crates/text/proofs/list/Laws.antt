@@ -16,7 +16,7 @@ use Rattle.circuit.specs.declared.gate.Gate.{Gate}
 use Rattle.circuit.specs.declared.refusal.Refusal.{Refusal}
 use Rattle.circuit.specs.Gate.{maxGates, maxMiterGates}
 use Rattle.circuit.specs.Outcome.{Outcome, served, refused, demand, before, then, fails}
-use Rattle.circuit.specs.Refusal.{wrongForm, lineCountsDiffer, noRoom}
+use Rattle.circuit.specs.Refusal.{lineCountsDiffer, noRoom}
 use Rattle.circuit.specs.Words.{gatesOf, wordsOf, Cascade}
 use Rattle.circuit.proofs.Promises.{never, demand-met, demand-failed, gates-length, gates-words, words-length, pair-refused, reader, read-served, read-refused, read-leaves}
 use Rattle.circuit.specs.Text.{textOf}
@@ -32,6 +32,7 @@ use Rattle.checking.specs.Check.{callsOf, checkedOutcome, clausesLeft}
 use Rattle.checking.proofs.Promises.{miter-laws, miter-refused, uncalled-refused, uncalled-served, uncalled-clauses, emit-laws, emit-cascade}
 use Rattle.text.specs.declared.list.ListAnswer.{ListAnswer}
 use Rattle.text.specs.declared.list.ListAnswer.the-variants as list
+use Rattle.text.specs.WholeFile.{wholeFile}
 use Rattle.text.specs.Tomiter.{maxInput, maxWords, Verdict, listed, refusedAt, ofFile, listVerdict, pairVerdict, secondVerdict, verdict}
 use Rattle.text.specs.private.Lists.{FileWords, ListStands, Delivers}
 use Rattle.text.proofs.plain.Short.{list-short, list-within}
@@ -257,18 +258,13 @@ module _ (file : ℕ) (o : Outcome Reading) (more : Reading → Verdict) where
 -- ---- the second file
 
 module _ (n : ℕ) (gs : List Gate) (text : List ℕ) where
-  pub second-bad : (number place : ℕ) → reading text ≡ refused number place → secondVerdict n gs text ≡ refusedAt number 2 place
+  pub second-refused : (number place : ℕ) → wholeFile text ≡ refused number place → secondVerdict n gs text ≡ refusedAt number 2 place
   unfolding secondVerdict
-  second-bad number place e = file-refused 2 (reading text) _ number place e
+  second-refused number place e = file-refused 2 (wholeFile text) _ number place e
 
-  module _ (lines taken : ℕ) (hs : List Gate) (e : reading text ≡ served (record { lines = lines; gates = hs; taken = taken })) where
-    pub second-more : (taken ≡ length text → ⊥) → secondVerdict n gs text ≡ refusedAt wrongForm 2 (length hs + 2)
-    unfolding secondVerdict
-    second-more h = file-served 2 (reading text) _ _ e ∙ cond-false (eqb taken (length text)) _ _ (ne-eqb taken (length text) h)
-
-    pub second-pair : taken ≡ length text → secondVerdict n gs text ≡ pairVerdict n gs lines hs
-    unfolding secondVerdict
-    second-pair h = file-served 2 (reading text) _ _ e ∙ cond-true (eqb taken (length text)) _ _ (eq-eqb taken (length text) h)
+  pub second-served : (c : Reading) → wholeFile text ≡ served c → secondVerdict n gs text ≡ pairVerdict n gs (c .lines) (c .gates)
+  unfolding secondVerdict
+  second-served c e = file-served 2 (wholeFile text) _ c e
 
 -- ---- the input
 

@@ -1,7 +1,7 @@
 -- What a file and two files say, case by case. Assumes nothing.
 use mathlib.Core.Path.{_≡_, sym, ap, ap₂, subst, _∙_}
 use mathlib.Core.List.{List}
-use Prim.Native.Nat.{ℕ, _+_, _*_, _≤_, _<_}
+use Prim.Native.Nat.{ℕ, _≤_, _<_}
 use lib.Dec.{eqb, leb}
 use lib.ListN.{length}
 use borrow.Author.Tests.{eq-eqb, ne-eqb, le-leb, lt-leb}
@@ -9,32 +9,20 @@ use Rattle.bits.proofs.Bools.{cond-true, cond-false}
 use Rattle.circuit.specs.declared.gate.Gate.{Gate}
 use Rattle.circuit.specs.declared.refusal.Refusal.{Refusal}
 use Rattle.circuit.specs.Outcome.{Outcome, served, refused}
-use Rattle.circuit.specs.Refusal.{refusal, wrongForm, lineCountsDiffer, noRoom}
-use Rattle.circuit.specs.File.{Reading, reading}
-use Rattle.circuit.proofs.Promises.{demand-met, demand-failed, then-served, then-refused}
+use Rattle.circuit.specs.Refusal.{refusal, lineCountsDiffer, noRoom}
+use Rattle.circuit.specs.File.{Reading}
 use Rattle.text.specs.declared.pair.WholeAnswer.{WholeAnswer}
 use Rattle.text.specs.declared.pair.WholeAnswer.the-variants as whole
 use Rattle.text.specs.declared.pair.FilesAnswer.the-variants as files
-use Rattle.text.specs.Compare.{maxFile, Files, cascades, faulty, wholeFile, inFile, secondFile, filesOf}
+use Rattle.text.specs.WholeFile.{wholeFile}
+use Rattle.text.specs.Compare.{maxFile, Files, cascades, faulty, inFile, secondFile, filesOf}
 use Rattle.text.specs.private.Comparing.{SaysWhole, SaysFiles}
+use Rattle.text.proofs.WholeFile.{whole-good}
 use Rattle.text.proofs.list.Laws.{FileRead}
 
 -- ---- a file
 
 module _ (text : List ℕ) where
-  pub whole-bad : (number place : ℕ) → reading text ≡ refused number place → wholeFile text ≡ refused number place
-  unfolding wholeFile
-  whole-bad number place e = then-refused _ _ number place e
-
-  module _ (c : Reading) (e : reading text ≡ served c) where
-    pub whole-after : (c .taken ≡ length text → ⊥) → wholeFile text ≡ refused wrongForm (length (c .gates) + 2)
-    unfolding wholeFile
-    whole-after h = then-served _ _ c e ∙ demand-failed _ _ _ _ (ne-eqb (c .taken) (length text) h)
-
-    pub whole-good : c .taken ≡ length text → wholeFile text ≡ served c
-    unfolding wholeFile
-    whole-good h = then-served _ _ c e ∙ demand-met _ _ _ _ (eq-eqb (c .taken) (length text) h)
-
   pub says-bad : (r : Refusal) (room : List ℕ) (bytes : ℕ) → wholeFile text ≡ refused (r .number) (r .place) → SaysWhole (whole.Refused r) room bytes (wholeFile text)
   says-bad r room bytes e = record { is = sym e; ready = tt }
 
@@ -43,7 +31,7 @@ module _ (text : List ℕ) where
       record {
         is =
             ap₂ (λ (gs : List Gate) (t : ℕ). served (record { lines = lines; gates = gs; taken = t })) (w .gates-are) (sym h)
-            ∙ sym (whole-good _ (w .is) h);
+            ∙ sym (whole-good text _ (w .is) h);
         ready = record { inside = w .inside; words = w .words };
       }
 

@@ -8,7 +8,8 @@ use Rattle.circuit.specs.Outcome.{refused}
 use Rattle.circuit.specs.Refusal.{wrongForm}
 use Rattle.circuit.proofs.Promises.{why}
 use Rattle.text.proofs.list.Laws.{FileRead, file-bad, file-read}
-use Rattle.text.proofs.pair.Laws.{whole-bad, whole-after, says-bad, says-good}
+use Rattle.text.proofs.WholeFile.{whole-bad, whole-after}
+use Rattle.text.proofs.pair.Laws.{says-bad, says-good}
 use borrow.Author.Needs.{needs}
 use Rattle.text.proofs.pair.read_whole.Statement.{statement}
 use Rattle.text.proofs.pair.read_whole.Tie as tie
