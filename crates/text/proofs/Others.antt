@@ -1,23 +1,31 @@
--- Of any program with the claim on two files: what `equal` says, and that it is none of the stand-ins. Assumes nothing.
+-- Of any program with the claim on two files: what `equal` and `differ` say, that it is none of the stand-ins, and that it writes our text. Assumes nothing.
 use mathlib.Core.Path.{_≡_, refl, sym, ap, ap₂, subst, _∙_}
 use mathlib.Core.List.{List, [], _∷_, _++_}
 use mathlib.Core.Option.{some}
-use Prim.Native.Nat.{ℕ, _<_, _^_}
+use Prim.Native.Nat.{ℕ, _<_, _≤_, _^_}
 use native.Mathlib.Omega.{arith}
+use lib.Dec.{eqb, leb}
+use lib.ListN.{length}
 use lib.Pow.{pow-pos}
-use Rattle.bits.proofs.Lists.{free}
+use borrow.Author.Tests.{eq-eqb, ne-eqb, eqb-true, eqb-false, le-leb, lt-leb, leb-true, leb-false}
+use Rattle.bits.proofs.Bools.{either, cond-true, cond-false}
 use Rattle.circuit.specs.declared.gate.Gate.{Gate}
-use Rattle.circuit.specs.Run.{run, Equal}
-use Rattle.circuit.specs.Text.{tab, lineFeed}
-use Rattle.circuit.specs.File.{partedBy}
-use Rattle.circuit.proofs.Promises.{run-none, parts-cut}
-use Rattle.text.specs.Dimacs.{Dimacs, decimal, numberRead, headerText, dimacsRead}
+use Rattle.circuit.specs.Outcome.{served}
+use Rattle.circuit.specs.Run.{run, Equal, Differs}
+use Rattle.circuit.proofs.Promises.{run-none}
+use Rattle.checking.specs.Compare.{maxSweepLines, Difference, none, lowest, lowestFrom}
+use Rattle.checking.specs.Compare as sweep
+use Rattle.checking.specs.Clauses.{clausesOf}
+use Rattle.checking.specs.Stored.{stored}
+use Rattle.checking.proofs.Promises.{sweep-says}
+use Rattle.text.specs.Dimacs.{Dimacs, headerText, dimacsRead}
 use Rattle.text.specs.Tomiter.{refusalText}
 use Rattle.text.specs.BytesTell.{TextTells}
-use Rattle.text.specs.Compare.{Files, cascades, faulty, equalText, differWord, differText}
+use Rattle.text.specs.Compare.{maxList, Files, cascades, faulty, filesOf, Comparison, reduced, gatesLeft, sweptAs, listAs, compared, comparedFiles, comparison, comparisonText, compareText, equalText, differText}
 use Rattle.text.specs.TwoFiles.{TwoFiles, FilesRefused}
 use Rattle.text.specs.CompareLaws.{MayWrite, refuses, overflows, reduces, sweeps, differs, asks, Compares}
-use Rattle.text.proofs.Reading.{decimal-free, number-back}
+use Rattle.text.proofs.Fields.{differ-apart}
+use Rattle.text.proofs.WholeFile.{empty}
 use Rattle.text.proofs.Strict.{text-was}
 use Rattle.text.proofs.Verdicts.{judged-is}
 use Rattle.text.proofs.StandIns.{once, once-runs, none-good, once-good, first, second, first-bytes, second-bytes}
@@ -93,9 +101,9 @@ module _ (one two : List ℕ) (number file place : ℕ) (r : FilesRefused one tw
   refused-case text (differs m c d s x f g h i j) = absurd (not-both one two m c d number file place s r)
   refused-case text (asks m c d s u f g h i j) = absurd (not-both one two m c d number file place s r)
 
-pub refused-only : (program : List ℕ → List ℕ → List ℕ) (first second : List ℕ) (number file place : ℕ) → FilesRefused first second number file place
+pub refused-told : (program : List ℕ → List ℕ → List ℕ) (first second : List ℕ) (number file place : ℕ) → FilesRefused first second number file place
     → Compares program → program first second ≡ refusalText number file place
-refused-only program one two number file place r laws = refused-case one two number file place r (program one two) (laws one two)
+refused-told program one two number file place r laws = refused-case one two number file place r (program one two) (laws one two)
 
 -- ---- NOT and nothing, on one line
 
@@ -130,13 +138,14 @@ module _ (one two : List ℕ) (n : ℕ) (a b : List Gate) (t : TwoFiles one two 
   equal-case text word e (differs m c d s x f g h i j) = absurd (omega (arith, differ-start x (run c x) (run d x), ap start (sym f ∙ e), equal-start word))
   equal-case text word e (asks m c d s u f g h i j) = absurd (omega (arith, tells-start text m c d f, ap start e, equal-start word))
 
-pub equal-only : (program : List ℕ → List ℕ → List ℕ) (first second word : List ℕ) (n : ℕ) (a b : List Gate) → TwoFiles first second n a b
+pub equal-told : (program : List ℕ → List ℕ → List ℕ) (first second word : List ℕ) (n : ℕ) (a b : List Gate) → TwoFiles first second n a b
     → program first second ≡ equalText word → Compares program → Equal n a b
-equal-only program one two word n a b t e laws = equal-case one two n a b t (program one two) word e (laws one two)
+equal-told program one two word n a b t e laws = equal-case one two n a b t (program one two) word e (laws one two)
 
-pub always-equal : (program : List ℕ → List ℕ → List ℕ) (word : List ℕ) → ((first second : List ℕ) (n : ℕ) (a b : List Gate) → TwoFiles first second n a b → program first second ≡ equalText word)
+pub always-equal : (program : List ℕ → List ℕ → List ℕ) → ((first second : List ℕ) (n : ℕ) (a b : List Gate) → TwoFiles first second n a b → (word : List ℕ) × (program first second ≡ equalText word))
     → Compares program → ⊥
-always-equal program word all laws = not-equal 1 once [] files (equal-only program first second word 1 once [] files (all first second 1 once [] files) laws)
+always-equal program all laws =
+    let (word, e) = all first second 1 once [] files in not-equal 1 once [] files (equal-told program first second word 1 once [] files e laws)
 
 asked-case : (text : List ℕ) → start text ≡ 112 → MayWrite first second text → ⊥
 asked-case text e (refuses number file place f g) = omega (arith, refusal-start number file place, ap start f)
@@ -150,38 +159,81 @@ pub always-asks : (program : List ℕ → List ℕ → List ℕ) → ((first sec
     → Compares program → ⊥
 always-asks program all laws = let (d, e) = all first second 1 once [] files in asked-case (program first second) (read-start _ d e) (laws first second)
 
--- the state of a difference is read off its text
-abbrev stateField : List (List ℕ) → List ℕ
-stateField [] = []
-stateField (f ∷ []) = []
-stateField (f ∷ g ∷ fs) = g
+-- ---- a difference
 
-state-field : (x y z : ℕ) → stateField (partedBy tab (differText x y z)) ≡ decimal x
-unfolding differText free
-state-field x y z =
-    ap stateField
-    (parts-cut tab differWord (decimal x ++ (tab ∷ (decimal y ++ (tab ∷ (decimal z ++ (lineFeed ∷ [])))))) refl
-    ∙ ap (λ (fs : List (List ℕ)). differWord ∷ fs) (parts-cut tab (decimal x) (decimal y ++ (tab ∷ (decimal z ++ (lineFeed ∷ [])))) (decimal-free tab x refl)))
+module _ (one two : List ℕ) (n : ℕ) (a b : List Gate) (x y z : ℕ) (t : TwoFiles one two n a b) where
+  abbrev Told : Type 0
+  Told = Differs n a b x × ((w : ℕ) → w < x → run a w ≡ run b w) × (y ≡ run a x) × (z ≡ run b x)
 
-same-state : (x y z k l m : ℕ) → differText x y z ≡ differText k l m → x ≡ k
-same-state x y z k l m e =
-    let f : decimal x ≡ decimal k = sym (state-field x y z) ∙ ap (λ (t : List ℕ). stateField (partedBy tab t)) e ∙ state-field k l m in
-    let g : some x ≡ some k = sym (number-back x) ∙ ap numberRead f ∙ number-back k in
-    cc
-
-module _ (one two : List ℕ) (n : ℕ) (a b : List Gate) (x y z : ℕ) (t : TwoFiles one two n a b) (agree : run a x ≡ run b x) where
-  difference-case : (text : List ℕ) → text ≡ differText x y z → MayWrite one two text → ⊥
-  difference-case text e (refuses number file place f g) = omega (arith, refusal-start number file place, ap start (sym f ∙ e), differ-start x y z)
-  difference-case text e (overflows m c d s f g h i) = omega (arith, refusal-start 10 0 0, ap start (sym f ∙ e), differ-start x y z)
-  difference-case text e (reduces m c d s f g h) = omega (arith, differ-start x y z, ap start (sym f ∙ e))
-  difference-case text e (sweeps m c d s f g h i) = omega (arith, differ-start x y z, ap start (sym f ∙ e))
+  difference-case : (text : List ℕ) → text ≡ differText x y z → MayWrite one two text → Told
+  difference-case text e (refuses number file place f g) = absurd (omega (arith, refusal-start number file place, ap start (sym f ∙ e), differ-start x y z))
+  difference-case text e (overflows m c d s f g h i) = absurd (omega (arith, refusal-start 10 0 0, ap start (sym f ∙ e), differ-start x y z))
+  difference-case text e (reduces m c d s f g h) = absurd (omega (arith, differ-start x y z, ap start (sym f ∙ e)))
+  difference-case text e (sweeps m c d s f g h i) = absurd (omega (arith, differ-start x y z, ap start (sym f ∙ e)))
   difference-case text e (differs m c d s k f g h i j) =
       let p = same one two m n c d a b s t in
-      let q : k ≡ x = same-state k (run c k) (run d k) x y z (sym f ∙ e) in
-      i .outputs
-      (ap₂ run (p .first) q ∙ agree ∙ sym (ap₂ run (p .second) q))
-  difference-case text e (asks m c d s u f g h i j) = omega (arith, tells-start text m c d f, differ-start x y z, ap start e)
+      let (q, u, v) = differ-apart k (run c k) (run d k) x y z (sym f ∙ e) in (
+        record {
+          state = subst (λ (l : ℕ). x < 2 ^ l) (p .lines) (subst (λ (w : ℕ). w < 2 ^ m) q (i .state));
+          outputs = λ r. i .outputs (ap₂ run (p .first) q ∙ r ∙ sym (ap₂ run (p .second) q));
+        },
+        λ w l. ap (λ (gs : List Gate). run gs w) (sym (p .first)) ∙ j w (omega (arith, q, l)) ∙ ap (λ (gs : List Gate). run gs w) (p .second),
+        sym u ∙ ap₂ run (p .first) q,
+        sym v ∙ ap₂ run (p .second) q,
+      )
+  difference-case text e (asks m c d s u f g h i j) = absurd (omega (arith, tells-start text m c d f, differ-start x y z, ap start e))
 
-pub no-difference : (program : List ℕ → List ℕ → List ℕ) (first second : List ℕ) (n : ℕ) (a b : List Gate) (x y z : ℕ) → TwoFiles first second n a b
-    → program first second ≡ differText x y z → run a x ≡ run b x → Compares program → ⊥
-no-difference program one two n a b x y z t e agree laws = difference-case one two n a b x y z t agree (program one two) e (laws one two)
+pub differ-told : (program : List ℕ → List ℕ → List ℕ) (first second : List ℕ) (n : ℕ) (a b : List Gate) (x y z : ℕ) → TwoFiles first second n a b
+    → program first second ≡ differText x y z → Compares program → Differs n a b x × ((w : ℕ) → w < x → run a w ≡ run b w) × (y ≡ run a x) × (z ≡ run b x)
+differ-told program one two n a b x y z t e laws = difference-case one two n a b x y z t (program one two) e (laws one two)
+
+-- ---- the files decide the text
+
+module _ (one two : List ℕ) where
+  text-at : (f : Files) → filesOf one two ≡ f → compareText one two ≡ comparisonText (comparedFiles f)
+  unfolding compareText comparison
+  text-at f e = ap (λ (g : Files). comparisonText (comparedFiles g)) e
+
+  module _ (n : ℕ) (a b : List Gate) (t : TwoFiles one two n a b) where
+    due : (c : Comparison) → compared n a b ≡ c → compareText one two ≡ comparisonText c
+    due c e = text-at (cascades n a b) (judged-is one two (cascades n a b) t) ∙ ap comparisonText e
+
+    by-none : gatesLeft a b ≡ [] → compared n a b ≡ reduced
+    unfolding compared
+    by-none e = cond-true (eqb (length (gatesLeft a b)) 0) _ _ (eq-eqb _ _ (ap length e))
+
+    module _ (some : gatesLeft a b ≡ [] → ⊥) where
+      by-swept : n ≤ maxSweepLines → compared n a b ≡ sweptAs a b (lowestFrom a b 0 (2 ^ n))
+      unfolding compared
+      by-swept h = cond-false (eqb (length (gatesLeft a b)) 0) _ _ (ne-eqb _ _ (λ z. some (empty (gatesLeft a b) z))) ∙ cond-true (leb n maxSweepLines) _ _ (le-leb n maxSweepLines h)
+
+      by-listed : maxSweepLines < n → compared n a b ≡ listAs n (gatesLeft a b)
+      unfolding compared
+      by-listed h = cond-false (eqb (length (gatesLeft a b)) 0) _ _ (ne-eqb _ _ (λ z. some (empty (gatesLeft a b) z))) ∙ cond-false (leb n maxSweepLines) _ _ (lt-leb n maxSweepLines h)
+
+    none-found : Equal n a b → (d : Difference) → sweep.Says n a b (served d) → d ≡ none
+    none-found e none s = refl
+    none-found e (lowest x) s = absurd (s .0 .outputs (e x (s .0 .state)))
+
+    lowest-found : (x : ℕ) → Differs n a b x → ((y : ℕ) → y < x → run a y ≡ run b y) → (d : Difference) → sweep.Says n a b (served d) → d ≡ lowest x
+    lowest-found x f low none s = absurd (f .outputs (s x (f .state)))
+    lowest-found x f low (lowest y) s =
+        either (eqb y x)
+        (λ u. ap lowest (eqb-true y x u))
+        (λ u.
+        let ne : y ≡ x → ⊥ = eqb-false y x u in
+        either (leb y x)
+        (λ v. let below = leb-true y x v in absurd (s .0 .outputs (low y (omega (arith, below, ne)))))
+        (λ v. let above = leb-false y x v in absurd (f .outputs (s .1 x (omega (arith, above))))))
+
+  decided : (text : List ℕ) → MayWrite one two text → text ≡ compareText one two
+  unfolding listAs
+  decided text (refuses k f p e s) = e ∙ sym (text-at (faulty k f p) (judged-is one two (faulty k f p) s))
+  decided text (overflows n a b t e g h i) = e ∙ sym (due n a b t _ (by-listed n a b t g h ∙ cond-false (leb (length (stored (clausesOf n (gatesLeft a b)))) maxList) _ _ (lt-leb _ _ i)))
+  decided text (reduces n a b t e g h) = e ∙ sym (due n a b t _ (by-none n a b t g))
+  decided text (sweeps n a b t e g h i) = e ∙ sym (due n a b t _ (by-swept n a b t g h ∙ ap (sweptAs a b) (none-found n a b t i (lowestFrom a b 0 (2 ^ n)) (sweep-says a b n))))
+  decided text (differs n a b t x e g h i j) = e ∙ sym (due n a b t _ (by-swept n a b t g h ∙ ap (sweptAs a b) (lowest-found n a b t x i j (lowestFrom a b 0 (2 ^ n)) (sweep-says a b n))))
+  decided text (asks n a b t e f g h i j) = e ∙ sym (due n a b t _ (by-listed n a b t h i ∙ cond-true (leb (length (stored (clausesOf n (gatesLeft a b)))) maxList) _ _ (le-leb _ _ j)))
+
+pub compares-only : (program : List ℕ → List ℕ → List ℕ) → Compares program → (first second : List ℕ) → program first second ≡ compareText first second
+compares-only program laws one two = decided one two (program one two) (laws one two)

@@ -19,53 +19,10 @@ use Rattle.text.specs.Answers.{fitOutcome, fitBuffer, WritesWhere}
 use Rattle.text.specs.Tomiter.{Verdict, listed, refusedAt, verdict, refusedWord, refusalText, verdictText, tomiterText, tomiterOutcome, tomiterBuffer, WritesText}
 use Rattle.text.specs.BytesTell.{StartsProblem, TextTells, BytesTell}
 use Rattle.text.specs.TextLaws.{ProgramRefused, RightText, clauses, refusal, ProgramLaws}
-use Rattle.text.proofs.Reading.{decimal-free, number-back}
-use Rattle.text.proofs.Telling.{refusal-starts, listed-fits, text-starts, text-fitting, text-told, dimacs-starts}
+use Rattle.text.proofs.Fields.{refusal-apart}
+use Rattle.text.proofs.Telling.{refusal-starts, listed-fits, text-starts, text-fitting, text-told, as-built, dimacs-starts}
 use Rattle.text.proofs.Faults.{refused-exactly}
 use Rattle.text.proofs.Writes.{writes-where}
-
--- ---- the text of a refusal by its fields
-
-decimal-apart : (j k : ℕ) → decimal j ≡ decimal k → j ≡ k
-decimal-apart j k e = let f : some j ≡ some k = sym (number-back j) ∙ ap numberRead e ∙ number-back k in cc
-
--- a number before an LF
-abbrev closed : ℕ → List ℕ
-closed k = decimal k ++ (lineFeed ∷ [])
-
-closed-apart : (j k : ℕ) → closed j ≡ closed k → j ≡ k
-closed-apart j k e =
-    let f : decimal j ∷ partedBy lineFeed [] ≡ decimal k ∷ partedBy lineFeed [] =
-    sym (parts-cut lineFeed (decimal j) [] (decimal-free lineFeed j refl)) ∙ ap (partedBy lineFeed) e ∙ parts-cut lineFeed (decimal k) [] (decimal-free lineFeed k refl) in
-    let g : decimal j ≡ decimal k = cc in
-    decimal-apart j k g
-
-refusal-fields : (number file place : ℕ) → partedBy tab (refusalText number file place) ≡ refusedWord ∷ decimal number ∷ decimal file ∷ closed place ∷ []
-unfolding refusalText
-refusal-fields number file place =
-    parts-cut tab refusedWord _ word-free
-    ∙ ap (λ (l : List (List ℕ)). refusedWord ∷ l)
-    (parts-cut tab (decimal number) _ (decimal-free tab number refl)
-    ∙ ap (λ (l : List (List ℕ)). decimal number ∷ l)
-    (parts-cut tab (decimal file) _ (decimal-free tab file refl)
-    ∙ ap (λ (l : List (List ℕ)). decimal file ∷ l)
-    (parts-one tab (closed place) (free-append tab (decimal place) (lineFeed ∷ []) (decimal-free tab place refl) end-free))))
-  where
-    word-free : free tab refusedWord ≡ true
-    word-free = unfold free in refl
-
-    end-free : free tab (lineFeed ∷ []) ≡ true
-    end-free = unfold free in refl
-
-pub refusal-apart : (number file place number′ file′ place′ : ℕ) → refusalText number file place ≡ refusalText number′ file′ place′
-    → (number ≡ number′) × (file ≡ file′) × (place ≡ place′)
-refusal-apart number file place number′ file′ place′ e =
-    let f : refusedWord ∷ decimal number ∷ decimal file ∷ closed place ∷ [] ≡ refusedWord ∷ decimal number′ ∷ decimal file′ ∷ closed place′ ∷ [] =
-    sym (refusal-fields number file place) ∙ ap (partedBy tab) e ∙ refusal-fields number′ file′ place′ in
-    let a : decimal number ≡ decimal number′ = cc in
-    let b : decimal file ≡ decimal file′ = cc in
-    let c : closed place ≡ closed place′ = cc in
-    (decimal-apart number number′ a, decimal-apart file file′ b, closed-apart place place′ c)
 
 -- ---- the program
 
@@ -99,8 +56,17 @@ program-laws =
       problem = text-starts;
       fitting = text-fitting;
       told = text-told;
+      as-built = as-built;
       refused = λ input number file place. (text-refused input number file place, refused-text input number file place);
     }
+
+-- every such program writes this text
+pub program-only : (program : List ℕ → List ℕ) → ProgramLaws program → (input : List ℕ) → program input ≡ tomiterText input
+program-only program laws input = go (laws .writes input)
+  where
+    go : RightText input (program input) → program input ≡ tomiterText input
+    go (clauses n a b f s t) = laws .as-built input n a b f ∙ sym (as-built input n a b f)
+    go (refusal number file place f e) = e ∙ sym (refused-text input number file place f)
 
 -- ---- the call
 

@@ -13,17 +13,18 @@ use Rattle.checking.specs.Stored.{stored}
 use Rattle.text.specs.Dimacs.{decimalWithin, decimal, literalsText, clausesText, headerText, dimacsOf}
 use Rattle.text.specs.WholeFile.{wholeFile}
 use Rattle.text.specs.Tomiter.{listVerdict, pairVerdict, secondVerdict, verdict, refusalText, tomiterText}
-use Rattle.text.specs.Compare.{secondFile, filesOf, compared, comparison, differText, compareText}
+use Rattle.text.specs.Plain.{negations, plainClauses}
+use Rattle.text.specs.Compare.{secondFile, filesOf, listAs, compared, comparison, differText, compareText}
 use Rattle.text.specs.CheckInput.{stateText, stateRead, checked, outputsText, checkText}
 use Rattle.text.specs.Rows.{RowsHold, textRows, FilesHold, filesRows, InputsHold, inputRows}
 
 pub rows-hold : RowsHold textRows
 unfolding bit controlsBelow linesOf partedBy same numberOf lineOf controlOf controlsFrom among risingFrom maskOf closedGate gateFields headerFields readFrom reading moved gatesClauses usedAfter currentAfter targeted upFrom differenceClauses clausesOf variablesOf stored decimalWithin decimal literalsText clausesText headerText dimacsOf listVerdict pairVerdict wholeFile secondVerdict verdict refusalText tomiterText
-rows-hold = (refl, (refl, (refl, (refl, (refl, (refl, tt))))))
+rows-hold = (refl, (refl, (refl, (refl, (refl, (refl, (refl, tt)))))))
 
 pub files-hold : FilesHold filesRows
-unfolding bit fold valid fires inverted apply linesOf partedBy same numberOf lineOf controlOf controlsFrom among risingFrom maskOf closedGate gateFields headerFields readFrom reading wholeFile secondFile filesOf controlLines mayPass controlRemoved controlInverted differing matchOf scanFrom searchFrom replaced stepGates reduceBy reduceGates lowestFrom decimalWithin decimal refusalText compared comparison differText compareText
-files-hold = (refl, (refl, (refl, (refl, (refl, tt)))))
+unfolding bit fold valid fires inverted apply linesOf partedBy same numberOf lineOf controlOf controlsFrom among risingFrom maskOf closedGate gateFields headerFields readFrom reading wholeFile secondFile filesOf controlLines mayPass controlRemoved controlInverted differing matchOf scanFrom searchFrom replaced stepGates reduceBy reduceGates lowestFrom controlsBelow moved gatesClauses usedAfter currentAfter targeted upFrom differenceClauses clausesOf variablesOf stored negations plainClauses decimalWithin decimal literalsText clausesText headerText dimacsOf refusalText listAs compared comparison differText compareText
+files-hold = (refl, (refl, (refl, (refl, (refl, (refl, tt))))))
 
 pub inputs-hold : InputsHold inputRows
 unfolding bit fold valid fires inverted apply linesOf partedBy same numberOf lineOf controlOf controlsFrom among risingFrom maskOf closedGate gateFields headerFields readFrom reading wholeFile secondFile filesOf decimalWithin decimal refusalText stateText stateRead checked outputsText checkText

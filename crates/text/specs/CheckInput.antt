@@ -66,7 +66,7 @@ checkedText (refusedAt number file place) = refusalText number file place
 unfoldable pub checkText : List ℕ → List ℕ → List ℕ → List ℕ
 checkText first second state = checkedText (checked first second state)
 
--- each room has as many words as a cascade may have
+-- each room has at least as many words as a cascade may have
 abbrev pub InputRoomsFit : ℕ → ℕ → Type 0
 InputRoomsFit room-a room-b = (fileWords ≤ room-a) × (fileWords ≤ room-b)
 

@@ -1,10 +1,11 @@
 -- Two cascade files compared: from their bytes to the bytes that are written.
 use mathlib.Core.Bool.{cond}
 use mathlib.Core.List.{List, [], _∷_, _++_}
-use Prim.Native.Nat.{ℕ, _+_, _^_, _≤_}
+use Prim.Native.Nat.{ℕ, _*_, _^_, _≤_}
 use lib.Dec.{eqb, leb}
 use lib.ListN.{length}
 use Rattle.circuit.specs.declared.gate.Gate.{Gate}
+use Rattle.circuit.specs.Gate.{maxGates, maxMiterGates}
 use Rattle.circuit.specs.Outcome.{Outcome, served, refused, demand, written}
 use Rattle.circuit.specs.Refusal.{lineCountsDiffer, noRoom}
 use Rattle.circuit.specs.Run.{run}
@@ -30,10 +31,10 @@ maxList = 262144
 
 -- the words that a file's cascade and a miter have at most
 abbrev pub fileWords : ℕ
-fileWords = 3072
+fileWords = 3 * maxGates
 
 abbrev pub miterWords : ℕ
-miterWords = 6144
+miterWords = 3 * maxMiterGates
 
 -- no text has more bytes: sixteen for each word of the clause list, and eighteen for the header
 abbrev pub maxCompared : ℕ
@@ -146,7 +147,7 @@ pub record Rooms : Type 0 where
 abbrev pub rooms : ℕ → ℕ → ℕ → ℕ → Rooms
 rooms first second miter clauses = record { first = first; second = second; miter = miter; clauses = clauses }
 
--- each room has as many words as a cascade, a miter or a clause list may have
+-- each room has at least as many words as a cascade, a miter or a clause list may have
 abbrev pub RoomsFit : Rooms → Type 0
 RoomsFit lent = (fileWords ≤ lent .first) × (fileWords ≤ lent .second) × (miterWords ≤ lent .miter) × (maxList ≤ lent .clauses)
 

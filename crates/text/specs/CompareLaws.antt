@@ -10,16 +10,18 @@ use Rattle.circuit.specs.declared.gate.Gate.{Gate}
 use Rattle.circuit.specs.Outcome.{served}
 use Rattle.circuit.specs.Refusal.{noRoom}
 use Rattle.circuit.specs.Run.{run, Equal, Differs}
+use Rattle.circuit.specs.Text.{tab, lineFeed}
+use Rattle.circuit.specs.File.{partedBy}
 use Rattle.checking.specs.Compare.{maxSweepLines}
 use Rattle.checking.specs.Clauses.{Clause, OR, XOR, clausesOf, variablesOf}
 use Rattle.checking.specs.Satisfaction.{satisfies, ClausesWithin}
 use Rattle.checking.specs.Stored.{stored}
 use Rattle.text.specs.Answers.{WritesWhere}
-use Rattle.text.specs.Dimacs.{Dimacs, dimacsOf, dimacsRead}
+use Rattle.text.specs.Dimacs.{decimal, Dimacs, dimacsOf, dimacsRead}
 use Rattle.text.specs.Plain.{plainClause, plainClauses, AllOr}
 use Rattle.text.specs.Tomiter.{refusalText}
 use Rattle.text.specs.BytesTell.{TextTells}
-use Rattle.text.specs.Compare.{maxList, maxCompared, gatesLeft, reductionWord, sweepWord, equalText, differText, compareText, Rooms, RoomsFit, compareOutcome, compareBuffer}
+use Rattle.text.specs.Compare.{maxList, maxCompared, gatesLeft, reductionWord, sweepWord, differWord, equalText, differText, compareText, Rooms, RoomsFit, compareOutcome, compareBuffer}
 use Rattle.text.specs.Rows.{FilesHold, filesRows}
 use Rattle.text.specs.TwoFiles.{TwoFiles, FilesRefused}
 
@@ -58,21 +60,25 @@ pub record CompareLaws : Type 0 where
   pub plain-two : (a b : ℤ) → plainClause (XOR (a ∷ b ∷ [])) ≡ OR (a ∷ b ∷ []) ∷ OR (negℤ a ∷ negℤ b ∷ []) ∷ []
   pub plain-three : (a b c : ℤ) → plainClause (XOR (a ∷ b ∷ c ∷ []))
       ≡ OR (a ∷ b ∷ c ∷ []) ∷ OR (a ∷ negℤ b ∷ negℤ c ∷ []) ∷ OR (negℤ a ∷ b ∷ negℤ c ∷ []) ∷ OR (negℤ a ∷ negℤ b ∷ c ∷ []) ∷ []
-  -- the claim, of our text
+  -- the fields of a difference's text
+  pub differ-fields : (state first second : ℕ) → partedBy tab (differText state first second) ≡ differWord ∷ decimal state ∷ decimal first ∷ (decimal second ++ (lineFeed ∷ [])) ∷ []
+  -- our text has the claim, and every program with the claim writes it
   pub compares : Compares compareText
+  pub compares-only : (program : List ℕ → List ℕ → List ℕ) → Compares program → (first second : List ℕ) → program first second ≡ compareText first second
   -- a program with the claim tells what is wrong with the files
-  pub refused-only : (program : List ℕ → List ℕ → List ℕ) (first second : List ℕ) (number file place : ℕ) → FilesRefused first second number file place
+  pub refused-told : (program : List ℕ → List ℕ → List ℕ) (first second : List ℕ) (number file place : ℕ) → FilesRefused first second number file place
       → Compares program → program first second ≡ refusalText number file place
   -- it says `equal` of equal cascades alone
-  pub equal-only : (program : List ℕ → List ℕ → List ℕ) (first second word : List ℕ) (n : ℕ) (a b : List Gate) → TwoFiles first second n a b
+  pub equal-told : (program : List ℕ → List ℕ → List ℕ) (first second word : List ℕ) (n : ℕ) (a b : List Gate) → TwoFiles first second n a b
       → program first second ≡ equalText word → Compares program → Equal n a b
-  -- it is no program that calls the cascades of all good files equal, that always asks a solver of these, or that says `differ` of a state on which two cascades of its files agree
-  pub always-equal : (program : List ℕ → List ℕ → List ℕ) (word : List ℕ) → ((first second : List ℕ) (n : ℕ) (a b : List Gate) → TwoFiles first second n a b → program first second ≡ equalText word)
+  -- and `differ` with the lowest state on which they differ and what each gives on it
+  pub differ-told : (program : List ℕ → List ℕ → List ℕ) (first second : List ℕ) (n : ℕ) (a b : List Gate) (x y z : ℕ) → TwoFiles first second n a b
+      → program first second ≡ differText x y z → Compares program → Differs n a b x × ((w : ℕ) → w < x → run a w ≡ run b w) × (y ≡ run a x) × (z ≡ run b x)
+  -- it is no program that calls the cascades of all good files equal, or that always asks a solver of these
+  pub always-equal : (program : List ℕ → List ℕ → List ℕ) → ((first second : List ℕ) (n : ℕ) (a b : List Gate) → TwoFiles first second n a b → (word : List ℕ) × (program first second ≡ equalText word))
       → Compares program → ⊥
   pub always-asks : (program : List ℕ → List ℕ → List ℕ) → ((first second : List ℕ) (n : ℕ) (a b : List Gate) → TwoFiles first second n a b → (d : Dimacs) × (dimacsRead (program first second) ≡ some d))
       → Compares program → ⊥
-  pub no-difference : (program : List ℕ → List ℕ → List ℕ) (first second : List ℕ) (n : ℕ) (a b : List Gate) (x y z : ℕ) → TwoFiles first second n a b
-      → program first second ≡ differText x y z → run a x ≡ run b x → Compares program → ⊥
   -- the call writes the text exactly where the rooms and the buffer are long enough
   pub call : (first second : List ℕ) (lent : Rooms) (out : List ℕ) → WritesWhere (RoomsFit lent × (length (compareText first second) ≤ length out))
       (compareOutcome first second lent (length out)) (compareText first second) out (compareBuffer first second lent out)

@@ -19,6 +19,14 @@ example =
       text = 112 ∷ 32 ∷ 99 ∷ 110 ∷ 102 ∷ 32 ∷ 53 ∷ 32 ∷ 52 ∷ 10 ∷ 120 ∷ 45 ∷ 51 ∷ 32 ∷ 50 ∷ 32 ∷ 49 ∷ 32 ∷ 48 ∷ 10 ∷ 45 ∷ 52 ∷ 32 ∷ 48 ∷ 10 ∷ 120 ∷ 45 ∷ 53 ∷ 32 ∷ 50 ∷ 32 ∷ 51 ∷ 32 ∷ 48 ∷ 10 ∷ 52 ∷ 32 ∷ 53 ∷ 32 ∷ 48 ∷ 10 ∷ [];
     }
 
+-- t0 against t1 t0+1, on two lines: the second cascade reversed after the first
+abbrev pub bothOrders : Row
+bothOrders =
+    record {
+      input = 108 ∷ 105 ∷ 110 ∷ 101 ∷ 115 ∷ 9 ∷ 50 ∷ 10 ∷ 103 ∷ 9 ∷ 48 ∷ 10 ∷ 101 ∷ 110 ∷ 100 ∷ 10 ∷ 108 ∷ 105 ∷ 110 ∷ 101 ∷ 115 ∷ 9 ∷ 50 ∷ 10 ∷ 103 ∷ 9 ∷ 49 ∷ 10 ∷ 103 ∷ 9 ∷ 48 ∷ 9 ∷ 43 ∷ 49 ∷ 10 ∷ 101 ∷ 110 ∷ 100 ∷ 10 ∷ [];
+      text = 112 ∷ 32 ∷ 99 ∷ 110 ∷ 102 ∷ 32 ∷ 55 ∷ 32 ∷ 54 ∷ 10 ∷ 120 ∷ 51 ∷ 32 ∷ 49 ∷ 32 ∷ 48 ∷ 10 ∷ 120 ∷ 45 ∷ 52 ∷ 32 ∷ 51 ∷ 32 ∷ 50 ∷ 32 ∷ 48 ∷ 10 ∷ 120 ∷ 53 ∷ 32 ∷ 50 ∷ 32 ∷ 48 ∷ 10 ∷ 120 ∷ 45 ∷ 54 ∷ 32 ∷ 49 ∷ 32 ∷ 52 ∷ 32 ∷ 48 ∷ 10 ∷ 120 ∷ 45 ∷ 55 ∷ 32 ∷ 50 ∷ 32 ∷ 53 ∷ 32 ∷ 48 ∷ 10 ∷ 54 ∷ 32 ∷ 55 ∷ 32 ∷ 48 ∷ 10 ∷ [];
+    }
+
 -- an empty input: the first line of the first file is missing
 abbrev pub nothing : Row
 nothing =
@@ -60,7 +68,7 @@ otherLines =
     }
 
 abbrev pub textRows : List Row
-textRows = example ∷ nothing ∷ onlyOne ∷ inSecond ∷ afterEnd ∷ otherLines ∷ []
+textRows = example ∷ bothOrders ∷ nothing ∷ onlyOne ∷ inSecond ∷ afterEnd ∷ otherLines ∷ []
 
 abbrev pub RowsHold : List Row → Type 0
 RowsHold rs = All (λ (r : Row). tomiterText (r .input) ≡ r .text) rs
@@ -72,13 +80,13 @@ pub record FilesRow : Type 0 where
   pub second : List ℕ
   pub text : List ℕ
 
--- t1+0 against nothing, on two lines: they differ on state 1, with the outputs 3 and 1
-abbrev pub differs : FilesRow
-differs =
+-- t0+1+3 against t2+1+3, on four lines: the lowest state on which they differ is 10, with the outputs 11 and 14
+abbrev pub differOnTen : FilesRow
+differOnTen =
     record {
-      first = 108 ∷ 105 ∷ 110 ∷ 101 ∷ 115 ∷ 9 ∷ 50 ∷ 10 ∷ 103 ∷ 9 ∷ 49 ∷ 9 ∷ 43 ∷ 48 ∷ 10 ∷ 101 ∷ 110 ∷ 100 ∷ 10 ∷ [];
-      second = 108 ∷ 105 ∷ 110 ∷ 101 ∷ 115 ∷ 9 ∷ 50 ∷ 10 ∷ 101 ∷ 110 ∷ 100 ∷ 10 ∷ [];
-      text = 100 ∷ 105 ∷ 102 ∷ 102 ∷ 101 ∷ 114 ∷ 9 ∷ 49 ∷ 9 ∷ 51 ∷ 9 ∷ 49 ∷ 10 ∷ [];
+      first = 108 ∷ 105 ∷ 110 ∷ 101 ∷ 115 ∷ 9 ∷ 52 ∷ 10 ∷ 103 ∷ 9 ∷ 48 ∷ 9 ∷ 43 ∷ 49 ∷ 9 ∷ 43 ∷ 51 ∷ 10 ∷ 101 ∷ 110 ∷ 100 ∷ 10 ∷ [];
+      second = 108 ∷ 105 ∷ 110 ∷ 101 ∷ 115 ∷ 9 ∷ 52 ∷ 10 ∷ 103 ∷ 9 ∷ 50 ∷ 9 ∷ 43 ∷ 49 ∷ 9 ∷ 43 ∷ 51 ∷ 10 ∷ 101 ∷ 110 ∷ 100 ∷ 10 ∷ [];
+      text = 100 ∷ 105 ∷ 102 ∷ 102 ∷ 101 ∷ 114 ∷ 9 ∷ 49 ∷ 48 ∷ 9 ∷ 49 ∷ 49 ∷ 9 ∷ 49 ∷ 52 ∷ 10 ∷ [];
     }
 
 -- t0 t0 against nothing: the reduction leaves no gate
@@ -108,17 +116,26 @@ secondWrong =
       text = 114 ∷ 101 ∷ 102 ∷ 117 ∷ 115 ∷ 101 ∷ 100 ∷ 9 ∷ 51 ∷ 9 ∷ 50 ∷ 9 ∷ 49 ∷ 10 ∷ [];
     }
 
--- a byte after the first `end`, in line 2 of the first file
+-- a byte after the first `end`, in line 3 of the first file
 abbrev pub firstLonger : FilesRow
 firstLonger =
     record {
-      first = 108 ∷ 105 ∷ 110 ∷ 101 ∷ 115 ∷ 9 ∷ 49 ∷ 10 ∷ 101 ∷ 110 ∷ 100 ∷ 10 ∷ 120 ∷ [];
+      first = 108 ∷ 105 ∷ 110 ∷ 101 ∷ 115 ∷ 9 ∷ 49 ∷ 10 ∷ 103 ∷ 9 ∷ 48 ∷ 10 ∷ 101 ∷ 110 ∷ 100 ∷ 10 ∷ 120 ∷ [];
       second = 108 ∷ 105 ∷ 110 ∷ 101 ∷ 115 ∷ 9 ∷ 49 ∷ 10 ∷ 101 ∷ 110 ∷ 100 ∷ 10 ∷ [];
-      text = 114 ∷ 101 ∷ 102 ∷ 117 ∷ 115 ∷ 101 ∷ 100 ∷ 9 ∷ 49 ∷ 9 ∷ 49 ∷ 9 ∷ 50 ∷ 10 ∷ [];
+      text = 114 ∷ 101 ∷ 102 ∷ 117 ∷ 115 ∷ 101 ∷ 100 ∷ 9 ∷ 49 ∷ 9 ∷ 49 ∷ 9 ∷ 51 ∷ 10 ∷ [];
+    }
+
+-- t0+1 against t1+0, on 17 lines: the clauses of t0+1 t1+0, each XOR as four ORs
+abbrev pub seventeenLines : FilesRow
+seventeenLines =
+    record {
+      first = 108 ∷ 105 ∷ 110 ∷ 101 ∷ 115 ∷ 9 ∷ 49 ∷ 55 ∷ 10 ∷ 103 ∷ 9 ∷ 48 ∷ 9 ∷ 43 ∷ 49 ∷ 10 ∷ 101 ∷ 110 ∷ 100 ∷ 10 ∷ [];
+      second = 108 ∷ 105 ∷ 110 ∷ 101 ∷ 115 ∷ 9 ∷ 49 ∷ 55 ∷ 10 ∷ 103 ∷ 9 ∷ 49 ∷ 9 ∷ 43 ∷ 48 ∷ 10 ∷ 101 ∷ 110 ∷ 100 ∷ 10 ∷ [];
+      text = 112 ∷ 32 ∷ 99 ∷ 110 ∷ 102 ∷ 32 ∷ 51 ∷ 54 ∷ 32 ∷ 51 ∷ 50 ∷ 10 ∷ 45 ∷ 49 ∷ 56 ∷ 32 ∷ 49 ∷ 32 ∷ 50 ∷ 32 ∷ 48 ∷ 10 ∷ 45 ∷ 49 ∷ 56 ∷ 32 ∷ 45 ∷ 49 ∷ 32 ∷ 45 ∷ 50 ∷ 32 ∷ 48 ∷ 10 ∷ 49 ∷ 56 ∷ 32 ∷ 49 ∷ 32 ∷ 45 ∷ 50 ∷ 32 ∷ 48 ∷ 10 ∷ 49 ∷ 56 ∷ 32 ∷ 45 ∷ 49 ∷ 32 ∷ 50 ∷ 32 ∷ 48 ∷ 10 ∷ 45 ∷ 49 ∷ 57 ∷ 32 ∷ 50 ∷ 32 ∷ 49 ∷ 56 ∷ 32 ∷ 48 ∷ 10 ∷ 45 ∷ 49 ∷ 57 ∷ 32 ∷ 45 ∷ 50 ∷ 32 ∷ 45 ∷ 49 ∷ 56 ∷ 32 ∷ 48 ∷ 10 ∷ 49 ∷ 57 ∷ 32 ∷ 50 ∷ 32 ∷ 45 ∷ 49 ∷ 56 ∷ 32 ∷ 48 ∷ 10 ∷ 49 ∷ 57 ∷ 32 ∷ 45 ∷ 50 ∷ 32 ∷ 49 ∷ 56 ∷ 32 ∷ 48 ∷ 10 ∷ 45 ∷ 50 ∷ 48 ∷ 32 ∷ 49 ∷ 32 ∷ 49 ∷ 56 ∷ 32 ∷ 48 ∷ 10 ∷ 45 ∷ 50 ∷ 48 ∷ 32 ∷ 45 ∷ 49 ∷ 32 ∷ 45 ∷ 49 ∷ 56 ∷ 32 ∷ 48 ∷ 10 ∷ 50 ∷ 48 ∷ 32 ∷ 49 ∷ 32 ∷ 45 ∷ 49 ∷ 56 ∷ 32 ∷ 48 ∷ 10 ∷ 50 ∷ 48 ∷ 32 ∷ 45 ∷ 49 ∷ 32 ∷ 49 ∷ 56 ∷ 32 ∷ 48 ∷ 10 ∷ 45 ∷ 50 ∷ 49 ∷ 32 ∷ 50 ∷ 32 ∷ 49 ∷ 57 ∷ 32 ∷ 48 ∷ 10 ∷ 45 ∷ 50 ∷ 49 ∷ 32 ∷ 45 ∷ 50 ∷ 32 ∷ 45 ∷ 49 ∷ 57 ∷ 32 ∷ 48 ∷ 10 ∷ 50 ∷ 49 ∷ 32 ∷ 50 ∷ 32 ∷ 45 ∷ 49 ∷ 57 ∷ 32 ∷ 48 ∷ 10 ∷ 50 ∷ 49 ∷ 32 ∷ 45 ∷ 50 ∷ 32 ∷ 49 ∷ 57 ∷ 32 ∷ 48 ∷ 10 ∷ 45 ∷ 50 ∷ 50 ∷ 32 ∷ 48 ∷ 10 ∷ 45 ∷ 50 ∷ 51 ∷ 32 ∷ 48 ∷ 10 ∷ 45 ∷ 50 ∷ 52 ∷ 32 ∷ 48 ∷ 10 ∷ 45 ∷ 50 ∷ 53 ∷ 32 ∷ 48 ∷ 10 ∷ 45 ∷ 50 ∷ 54 ∷ 32 ∷ 48 ∷ 10 ∷ 45 ∷ 50 ∷ 55 ∷ 32 ∷ 48 ∷ 10 ∷ 45 ∷ 50 ∷ 56 ∷ 32 ∷ 48 ∷ 10 ∷ 45 ∷ 50 ∷ 57 ∷ 32 ∷ 48 ∷ 10 ∷ 45 ∷ 51 ∷ 48 ∷ 32 ∷ 48 ∷ 10 ∷ 45 ∷ 51 ∷ 49 ∷ 32 ∷ 48 ∷ 10 ∷ 45 ∷ 51 ∷ 50 ∷ 32 ∷ 48 ∷ 10 ∷ 45 ∷ 51 ∷ 51 ∷ 32 ∷ 48 ∷ 10 ∷ 45 ∷ 51 ∷ 52 ∷ 32 ∷ 48 ∷ 10 ∷ 45 ∷ 51 ∷ 53 ∷ 32 ∷ 48 ∷ 10 ∷ 45 ∷ 51 ∷ 54 ∷ 32 ∷ 48 ∷ 10 ∷ 50 ∷ 48 ∷ 32 ∷ 50 ∷ 49 ∷ 32 ∷ 50 ∷ 50 ∷ 32 ∷ 50 ∷ 51 ∷ 32 ∷ 50 ∷ 52 ∷ 32 ∷ 50 ∷ 53 ∷ 32 ∷ 50 ∷ 54 ∷ 32 ∷ 50 ∷ 55 ∷ 32 ∷ 50 ∷ 56 ∷ 32 ∷ 50 ∷ 57 ∷ 32 ∷ 51 ∷ 48 ∷ 32 ∷ 51 ∷ 49 ∷ 32 ∷ 51 ∷ 50 ∷ 32 ∷ 51 ∷ 51 ∷ 32 ∷ 51 ∷ 52 ∷ 32 ∷ 51 ∷ 53 ∷ 32 ∷ 51 ∷ 54 ∷ 32 ∷ 48 ∷ 10 ∷ [];
     }
 
 abbrev pub filesRows : List FilesRow
-filesRows = differs ∷ cancels ∷ exchanges ∷ secondWrong ∷ firstLonger ∷ []
+filesRows = differOnTen ∷ cancels ∷ exchanges ∷ secondWrong ∷ firstLonger ∷ seventeenLines ∷ []
 
 abbrev pub FilesHold : List FilesRow → Type 0
 FilesHold rs = All (λ (r : FilesRow). compareText (r .first) (r .second) ≡ r .text) rs
@@ -131,19 +148,19 @@ pub record InputRow : Type 0 where
   pub state : List ℕ
   pub text : List ℕ
 
--- the input with line 0 alone 1: the outputs are 1 1 and 1 0
-abbrev pub apart : InputRow
-apart =
+-- t1 against t0, on both lines 0: the outputs are 0 1 and 1 0
+abbrev pub outputsDiffer : InputRow
+outputsDiffer =
     record {
-      first = 108 ∷ 105 ∷ 110 ∷ 101 ∷ 115 ∷ 9 ∷ 50 ∷ 10 ∷ 103 ∷ 9 ∷ 49 ∷ 9 ∷ 43 ∷ 48 ∷ 10 ∷ 101 ∷ 110 ∷ 100 ∷ 10 ∷ [];
-      second = 108 ∷ 105 ∷ 110 ∷ 101 ∷ 115 ∷ 9 ∷ 50 ∷ 10 ∷ 101 ∷ 110 ∷ 100 ∷ 10 ∷ [];
-      state = 49 ∷ 48 ∷ [];
-      text = 100 ∷ 105 ∷ 102 ∷ 102 ∷ 101 ∷ 114 ∷ 9 ∷ 49 ∷ 49 ∷ 9 ∷ 49 ∷ 48 ∷ 10 ∷ [];
+      first = 108 ∷ 105 ∷ 110 ∷ 101 ∷ 115 ∷ 9 ∷ 50 ∷ 10 ∷ 103 ∷ 9 ∷ 49 ∷ 10 ∷ 101 ∷ 110 ∷ 100 ∷ 10 ∷ [];
+      second = 108 ∷ 105 ∷ 110 ∷ 101 ∷ 115 ∷ 9 ∷ 50 ∷ 10 ∷ 103 ∷ 9 ∷ 48 ∷ 10 ∷ 101 ∷ 110 ∷ 100 ∷ 10 ∷ [];
+      state = 48 ∷ 48 ∷ [];
+      text = 100 ∷ 105 ∷ 102 ∷ 102 ∷ 101 ∷ 114 ∷ 9 ∷ 48 ∷ 49 ∷ 9 ∷ 49 ∷ 48 ∷ 10 ∷ [];
     }
 
--- the input with line 1 alone 1
-abbrev pub together : InputRow
-together =
+-- t1+0 against nothing, on line 1 alone 1
+abbrev pub outputsAgree : InputRow
+outputsAgree =
     record {
       first = 108 ∷ 105 ∷ 110 ∷ 101 ∷ 115 ∷ 9 ∷ 50 ∷ 10 ∷ 103 ∷ 9 ∷ 49 ∷ 9 ∷ 43 ∷ 48 ∷ 10 ∷ 101 ∷ 110 ∷ 100 ∷ 10 ∷ [];
       second = 108 ∷ 105 ∷ 110 ∷ 101 ∷ 115 ∷ 9 ∷ 50 ∷ 10 ∷ 101 ∷ 110 ∷ 100 ∷ 10 ∷ [];
@@ -151,9 +168,9 @@ together =
       text = 97 ∷ 103 ∷ 114 ∷ 101 ∷ 101 ∷ 9 ∷ 48 ∷ 49 ∷ 9 ∷ 48 ∷ 49 ∷ 10 ∷ [];
     }
 
--- one character for two lines
-abbrev pub tooShort : InputRow
-tooShort =
+-- the same on one character for two lines
+abbrev pub oneCharacter : InputRow
+oneCharacter =
     record {
       first = 108 ∷ 105 ∷ 110 ∷ 101 ∷ 115 ∷ 9 ∷ 50 ∷ 10 ∷ 103 ∷ 9 ∷ 49 ∷ 9 ∷ 43 ∷ 48 ∷ 10 ∷ 101 ∷ 110 ∷ 100 ∷ 10 ∷ [];
       second = 108 ∷ 105 ∷ 110 ∷ 101 ∷ 115 ∷ 9 ∷ 50 ∷ 10 ∷ 101 ∷ 110 ∷ 100 ∷ 10 ∷ [];
@@ -162,7 +179,7 @@ tooShort =
     }
 
 abbrev pub inputRows : List InputRow
-inputRows = apart ∷ together ∷ tooShort ∷ []
+inputRows = outputsDiffer ∷ outputsAgree ∷ oneCharacter ∷ []
 
 abbrev pub InputsHold : List InputRow → Type 0
 InputsHold rs = All (λ (r : InputRow). checkText (r .first) (r .second) (r .state) ≡ r .text) rs

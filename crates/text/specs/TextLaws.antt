@@ -8,18 +8,19 @@ use lib.ListN.{length, drop}
 use Rattle.circuit.specs.declared.gate.Gate.{Gate}
 use Rattle.circuit.specs.Outcome.{served}
 use Rattle.circuit.specs.Refusal.{lineCountsDiffer, noRoom}
-use Rattle.circuit.specs.Text.{textOf}
+use Rattle.circuit.specs.Text.{tab, lineFeed, textOf}
+use Rattle.circuit.specs.File.{partedBy}
 use Rattle.circuit.specs.FileLaws.{FileCascade, FileRefused}
 use Rattle.checking.specs.Miter.{miterGates}
 use Rattle.checking.specs.Clauses.{Clause, OR, clausesOf, variablesOf}
 use Rattle.checking.specs.Stored.{stored}
 use Rattle.checking.specs.Satisfaction.{ClausesWithin}
-use Rattle.text.specs.Dimacs.{clausesText, headerText, Dimacs, dimacsOf, dimacsRead}
+use Rattle.text.specs.Dimacs.{decimal, clausesText, headerText, Dimacs, dimacsOf, numberRead, dimacsRead}
 use Rattle.text.specs.BytesTell.{StartsProblem, TextTells}
 use Rattle.text.specs.Answers.{WritesWhere}
 use Rattle.text.specs.WholeFile.{WholeRefused}
 use Rattle.text.specs.Rows.{RowsHold, textRows}
-use Rattle.text.specs.Tomiter.{maxInput, maxWords, maxText, Verdict, listed, refusedAt, verdict, refusalText, tomiterText, tomiterOutcome, tomiterBuffer}
+use Rattle.text.specs.Tomiter.{maxInput, maxWords, maxText, Verdict, listed, refusedAt, verdict, refusedWord, refusalText, tomiterText, tomiterOutcome, tomiterBuffer}
 
 -- the input is the files of two cascades on n lines, and nothing is too long
 pub record Fitting (input : List ℕ) (n : ℕ) (a b : List Gate) : Type 0 where
@@ -57,6 +58,8 @@ pub record ProgramLaws (program : List ℕ → List ℕ) : Type 0 where
   pub problem : (input : List ℕ) (n : ℕ) (a b : List Gate) → Fitting input n a b → StartsProblem (program input)
   pub fitting : (input : List ℕ) → StartsProblem (program input) → (n : ℕ) × (a : List Gate) × (b : List Gate) × Fitting input n a b
   pub told : (input : List ℕ) (n : ℕ) (a b : List Gate) → Fitting input n a b → TextTells (program input) n a b
+  -- by the clauses of the miter as it is built
+  pub as-built : (input : List ℕ) (n : ℕ) (a b : List Gate) → Fitting input n a b → program input ≡ dimacsOf (variablesOf n (miterGates a b)) (clausesOf n (miterGates a b))
   -- it is the text of a refusal exactly for what is wrong first
   pub refused : (input : List ℕ) (number file place : ℕ) → (program input ≡ refusalText number file place) ↔ ProgramRefused input number file place
 
@@ -81,16 +84,19 @@ pub record TextLaws : Type 0 where
       → dimacsRead (dimacsOf variables cs) ≡ some (record { variables = variables; count = length cs; clauses = cs })
   -- and only such a text is read
   pub read-text : (text : List ℕ) (d : Dimacs) → dimacsRead text ≡ some d → text ≡ headerText (d .variables) (d .count) ++ clausesText (d .clauses)
-  -- the text of a refusal tells its number, its file and its place
+  -- a number is read back
+  pub number-back : (k : ℕ) → numberRead (decimal k) ≡ some k
+  -- the fields of a refusal's text; so it tells its number, its file and its place
+  pub refusal-fields : (number file place : ℕ) → partedBy tab (refusalText number file place) ≡ refusedWord ∷ decimal number ∷ decimal file ∷ (decimal place ++ (lineFeed ∷ [])) ∷ []
   pub refusal-apart : (number file place number′ file′ place′ : ℕ) → refusalText number file place ≡ refusalText number′ file′ place′
       → (number ≡ number′) × (file ≡ file′) × (place ≡ place′)
+  -- our text is that of such a program, and every such program writes it
   pub program : ProgramLaws tomiterText
+  pub program-only : (program : List ℕ → List ℕ) → ProgramLaws program → (input : List ℕ) → program input ≡ tomiterText input
   -- the stand-ins do not have these laws, and neither has a program that refuses all
   pub contradiction-fails : ProgramLaws contradiction → ⊥
   pub without-first-fails : ProgramLaws withoutFirst → ⊥
   pub refuses-all : (program : List ℕ → List ℕ) → ((input : List ℕ) → (number : ℕ) × (file : ℕ) × (place : ℕ) × (program input ≡ refusalText number file place)) → ProgramLaws program → ⊥
-  -- the clauses are those of the miter as it is built
-  pub as-built : (input : List ℕ) (n : ℕ) (a b : List Gate) → Fitting input n a b → tomiterText input ≡ dimacsOf (variablesOf n (miterGates a b)) (clausesOf n (miterGates a b))
   -- the call writes the text exactly where the buffer is long enough
   pub call : (input out : List ℕ) → WritesWhere (length (tomiterText input) ≤ length out) (tomiterOutcome input (length out)) (tomiterText input) out (tomiterBuffer input out)
   -- every text fits a buffer of 98,321 bytes

@@ -1,9 +1,9 @@
 -- `text::laws` meets its contract: the record of the laws. Assumes nothing.
-use Rattle.text.proofs.Reading.{text-back}
+use Rattle.text.proofs.Reading.{number-back, text-back}
+use Rattle.text.proofs.Fields.{refusal-fields, refusal-apart, differ-fields}
 use Rattle.text.proofs.Strict.{text-was}
 use Rattle.text.proofs.Sizes.{text-fits, room-enough}
-use Rattle.text.proofs.Telling.{as-built}
-use Rattle.text.proofs.ProgramLaws.{refusal-apart, program-laws, call}
+use Rattle.text.proofs.ProgramLaws.{program-laws, program-only, call}
 use Rattle.text.proofs.StandIns.{contradiction-fails, without-first-fails, refuses-all}
 use Rattle.text.proofs.PlainClauses.{plain-satisfied, plain-within, plain-or, plain-each, plain-same}
 use Rattle.text.proofs.plain.Laws.{pair-parts, triple-is}
@@ -11,7 +11,7 @@ use Rattle.text.proofs.Verdicts.{compares}
 use Rattle.text.proofs.Rooms.{call as compare-call}
 use Rattle.text.proofs.Longest.{text-fits as compared-fits, room-enough as compared-room}
 use Rattle.text.proofs.Inputs.{state-size, state-line, state-back, state-was, checks, checks-only, call as input-call, text-fits as checked-fits, room-enough as checked-room}
-use Rattle.text.proofs.Others.{refused-only, equal-only, always-equal, always-asks, no-difference}
+use Rattle.text.proofs.Others.{refused-told, equal-told, differ-told, always-equal, always-asks, compares-only}
 use Rattle.text.proofs.Rows.{rows-hold, files-hold, inputs-hold}
 use Rattle.text.proofs.laws.Statement.{statement}
 use Rattle.text.proofs.laws.Tie as tie
@@ -23,12 +23,14 @@ returns c =
           record {
             read-back = text-back;
             read-text = text-was;
+            number-back = number-back;
+            refusal-fields = refusal-fields;
             refusal-apart = refusal-apart;
             program = program-laws;
+            program-only = program-only;
             contradiction-fails = contradiction-fails;
             without-first-fails = without-first-fails;
             refuses-all = refuses-all;
-            as-built = as-built;
             call = call;
             text-fits = text-fits;
             room-enough = room-enough;
@@ -43,12 +45,14 @@ returns c =
             plain-same = plain-same;
             plain-two = pair-parts;
             plain-three = triple-is;
+            differ-fields = differ-fields;
             compares = compares;
-            refused-only = refused-only;
-            equal-only = equal-only;
+            compares-only = compares-only;
+            refused-told = refused-told;
+            equal-told = equal-told;
+            differ-told = differ-told;
             always-equal = always-equal;
             always-asks = always-asks;
-            no-difference = no-difference;
             call = compare-call;
             text-fits = compared-fits;
             room-enough = compared-room;
