@@ -36,7 +36,7 @@ pub record ClauseLaws : Type 0 where
   pub read-bad : (ws : List ℤ) (i : ℕ) → clausesIn ws ≡ badRecord i → BadAt ws i
   -- each variable is an input, a gate's w, a p or a d; there are two at most for each line and each gate, and every number of a list fits a word
   pub variables-counted : (n : ℕ) (gs : List Gate) → variablesOf n gs ≡ n + (length gs + countP gs) + n
-  pub variables-few : (n : ℕ) (gs : List Gate) → n ≤ maxLines → length gs ≤ maxMiterGates → variablesOf n gs ≤ 2 * maxLines + 2 * maxMiterGates
+  pub variables-few : (n : ℕ) (gs : List Gate) → variablesOf n gs ≤ 2 * n + 2 * length gs
   pub words-fit : (n : ℕ) (gs : List Gate) → n ≤ maxLines → length gs ≤ maxMiterGates → allValid n gs ≡ true → AllFit (stored (clausesOf n gs))
   -- the sums gate by gate are the variables, clauses and words of the list
   pub sizes-list : (n : ℕ) (gs : List Gate) → n ≤ maxLines → allValid n gs ≡ true

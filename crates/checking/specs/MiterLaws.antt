@@ -1,7 +1,7 @@
 -- What is proved of the miter.
 use mathlib.Core.Path.{_≡_}
 use mathlib.Core.Logic.{_↔_}
-use mathlib.Core.List.{List}
+use mathlib.Core.List.{List, reverse}
 use Prim.Native.Nat.{ℕ, _+_, _*_, _≤_, _<_}
 use lib.ListN.{length, take, drop}
 use Rattle.circuit.specs.declared.gate.Gate.{Gate}
@@ -26,9 +26,11 @@ pub record MiterServed (na : ℕ) (a : List ℕ) (nb : ℕ) (b : List ℕ) (room
 abbrev pub MiterRefused : ℕ → List ℕ → ℕ → List ℕ → ℕ → ℕ → ℕ → Type 0
 MiterRefused na a nb b room = Wrong (PairRefused na a nb b) (GoodPair na a nb b) (λ c. Fails (room < length a + length b) noRoom 0)
 
--- what stands in the buffer after a served miter of k gates: the miter, a cascade that steps and reductions take, and the rest as it was
+-- what stands in the buffer after a served miter of k gates: the miter, which is the first's words as they are and then the second's gates in reverse order; a cascade that steps and reductions take; and the rest as it was
 pub record MiterStands (na : ℕ) (a : List ℕ) (nb : ℕ) (b out : List ℕ) (k : ℕ) : Type 0 where
   pub gates : gatesOf (take (3 * k) (miterBuffer na a nb b out)) ≡ miterGates (gatesOf a) (gatesOf b)
+  pub first-words : take (length a) (miterBuffer na a nb b out) ≡ a
+  pub second-reversed : gatesOf (take (length b) (drop (length a) (miterBuffer na a nb b out))) ≡ reverse (gatesOf b)
   pub cascade : Cascade na (take (3 * k) (miterBuffer na a nb b out)) maxMiterGates k
   pub rest : drop (3 * k) (miterBuffer na a nb b out) ≡ drop (3 * k) out
 

@@ -76,7 +76,7 @@ module _ (first second : List ℕ) (n : ℕ) (a b : List Gate) (t : TwoFiles fir
       (λ u.
       let (x, y) = plain-few cs (list-short n gl) (list-within n gl (lines first second n a b t) (left-few first second n a b t) (kept first second n a b t .good)) in
       let few = leb-true (length (stored cs)) maxList u in
-      let v = clause-laws .variables-few n gl (lines first second n a b t) (left-few first second n a b t) in
+      let v : variablesOf n gl ≤ maxVariables = omega (arith, clause-laws .variables-few n gl, lines first second n a b t, left-few first second n a b t) in
       subst (λ (c : Comparison). length (comparisonText c) ≤ maxCompared) (sym (cond-true (leb (length (stored cs)) maxList) _ _ u))
       (omega (arith, x, few, header-few (variablesOf n gl) (length (plainClauses cs)) v (omega (arith, y)), dimacs-long (variablesOf n gl) (plainClauses cs))))
       (λ u.

@@ -118,7 +118,7 @@ list-small n gs g =
     either (leb (length (stored (clausesOf n gs))) maxWords)
     (λ t.
     subst Small (sym (cond-true (leb (length (stored (clausesOf n gs))) maxWords) _ _ t))
-    (clause-laws .variables-few n gs (g .lines) (g .few), clause-laws .list-tells n gs (g .lines) (g .valid) .within, leb-true _ _ t))
+    (omega (arith, clause-laws .variables-few n gs, g .lines, g .few), clause-laws .list-tells n gs (g .lines) (g .valid) .within, leb-true _ _ t))
     (λ t. subst Small (sym (cond-false (leb (length (stored (clausesOf n gs))) maxWords) _ _ t)) (omega arith, omega arith, omega arith))
 
 pair-small : (na : ℕ) (a : List Gate) (nb : ℕ) (b : List Gate) → FileCascade na a → FileCascade nb b → Small (pairVerdict na a nb b)

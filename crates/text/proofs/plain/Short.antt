@@ -61,7 +61,7 @@ within-more m k cs h =
     all-implies _ _ (λ c. all-implies (LiteralWithin m) (LiteralWithin k) (λ l w. (w .0, omega (arith, w .1))) (clauseLiterals c)) cs
 
 pub list-within : (n : ℕ) (gs : List Gate) → n ≤ maxLines → length gs ≤ maxMiterGates → allValid n gs ≡ true → ClausesWithin maxVariables (clausesOf n gs)
-list-within n gs h l v = within-more (variablesOf n gs) maxVariables (clausesOf n gs) (clause-laws .variables-few n gs h l) (clause-laws .list-tells n gs h v .within)
+list-within n gs h l v = within-more (variablesOf n gs) maxVariables (clausesOf n gs) (omega (arith, clause-laws .variables-few n gs)) (clause-laws .list-tells n gs h v .within)
 
 -- ---- stored at the start of a buffer
 

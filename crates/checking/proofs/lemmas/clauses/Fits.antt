@@ -15,7 +15,7 @@ use Rattle.circuit.specs.declared.gate.Gate.{Gate}
 use Rattle.circuit.specs.Gate.{maxLines, maxMiterGates, controlsOf}
 use Rattle.circuit.specs.Words.{allValid}
 use Rattle.circuit.proofs.Promises.{few-controls}
-use Rattle.checking.specs.Clauses.{Clause, OR, XOR, plus, inputOf, literalOf, implied, manyClauses, gateClauses, newVariable, usedBy, moved, clausesOfGate, gatesClauses, usedAfter, currentAfter, targeted, upFrom, differenceClause, differenceClauses, clausesOf, variablesOf, maxVariables, countP}
+use Rattle.checking.specs.Clauses.{Clause, OR, XOR, plus, inputOf, literalOf, implied, manyClauses, gateClauses, newVariable, usedBy, moved, clausesOfGate, gatesClauses, usedAfter, currentAfter, targeted, upFrom, differenceClause, differenceClauses, clausesOf, variablesOf, countP}
 use Rattle.checking.specs.Satisfaction.{variableOf, LiteralsWithin, clauseLiterals, ClausesWithin}
 use Rattle.checking.specs.Stored.{stored, FitsWord, AllFit, wordLimit}
 use Rattle.checking.proofs.lemmas.clauses.Forced.{length-upFrom}
@@ -32,12 +32,10 @@ unfolding usedAfter
 used-bound used [] = omega arith
 used-bound used (g ∷ gs) = omega (arith, new-bound used (length (controlsOf g)), used-bound (usedBy used g) gs)
 
-pub variables-bound : (n : ℕ) (gs : List Gate) → variablesOf n gs ≤ 2 * n + 2 * length gs
+-- two at most for each line and each gate
+pub variables-few : (n : ℕ) (gs : List Gate) → variablesOf n gs ≤ 2 * n + 2 * length gs
 unfolding variablesOf
-variables-bound n gs = omega (arith, used-bound n gs)
-
-pub variables-few : (n : ℕ) (gs : List Gate) → n ≤ maxLines → length gs ≤ maxMiterGates → variablesOf n gs ≤ maxVariables
-variables-few n gs few short = omega (arith, variables-bound n gs)
+variables-few n gs = omega (arith, used-bound n gs)
 
 -- a w for each gate, and a p for each with two controls or more
 used-counted : (used : ℕ) (gs : List Gate) → usedAfter used gs ≡ used + (length gs + countP gs)
@@ -115,4 +113,4 @@ stored-fits m k (XOR ls ∷ cs) h l a b = (omega arith, (omega (arith, b .0), li
 -- every number of a list fits a word
 pub words-fit : (n : ℕ) (gs : List Gate) → n ≤ maxLines → length gs ≤ maxMiterGates → allValid n gs ≡ true → AllFit (stored (clausesOf n gs))
 words-fit n gs few short v =
-    stored-fits (variablesOf n gs) (maxLines + 3) (clausesOf n gs) (omega (arith, variables-bound n gs)) (omega arith) (clauses-within n gs few v) (counts-small n gs few)
+    stored-fits (variablesOf n gs) (maxLines + 3) (clausesOf n gs) (omega (arith, variables-few n gs)) (omega arith) (clauses-within n gs few v) (counts-small n gs few)

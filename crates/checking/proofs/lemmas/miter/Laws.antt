@@ -2,7 +2,7 @@
 use mathlib.Core.Path.{_≡_, refl, sym, ap, _∙_}
 use mathlib.Core.Logic.{_↔_}
 use mathlib.Core.Bool.{true}
-use mathlib.Core.List.{List, _++_}
+use mathlib.Core.List.{List, _++_, reverse, append-assoc}
 use Prim.Native.Nat.{ℕ, _+_, _-_, _*_, _%_, _≤_, _<_}
 use native.Mathlib.Omega.{arith}
 use lib.Dec.{leb}
@@ -37,6 +37,13 @@ module _ (na : ℕ) (a : List ℕ) (nb : ℕ) (b : List ℕ) where
   abbrev front : List ℕ
   front = wordsOf (miterGates (gatesOf a) (gatesOf b))
 
+  abbrev back : List ℕ
+  back = wordsOf (inverse (gatesOf b))
+
+  -- the words of the first, then those of the second's inverse
+  front-parts : length a % 3 ≡ 0 → front ≡ a ++ back
+  front-parts w = words-append (gatesOf a) (inverse (gatesOf b)) ∙ ap (λ (x : List ℕ). x ++ back) (words-gates a w)
+
   pub miter-told : (out : List ℕ) (r o : Outcome ℕ) (last : List ℕ) → r ≡ o → miterOutcome na a nb b (length out) ≡ o → last ≡ written o front out
       → Yields r last (miterOutcome na a nb b (length out)) (miterBuffer na a nb b out)
   unfolding miterBuffer
@@ -67,11 +74,9 @@ module _ (na : ℕ) (a : List ℕ) (nb : ℕ) (b : List ℕ) where
       let z = pair-served na a nb b c good .first-good .size in
       let n : length mid ≡ length out = ap length e ∙ over-length a out (omega arith) in
       let r : length (take (length mid - length a) (drop (length a) mid)) ≡ length mid - length a = ap length (rest-lent mid (length a)) ∙ length-drop (length a) mid in
-      let w : length a % 3 ≡ 0 = omega arith in
-      let f : a ++ wordsOf (inverse (gatesOf b)) ≡ front = sym (words-append (gatesOf a) (inverse (gatesOf b)) ∙ ap (λ (x : List ℕ). x ++ wordsOf (inverse (gatesOf b))) (words-gates a w)) in
-      lent-over a (wordsOf (inverse (gatesOf b))) out mid last (length a) e refl (omega arith)
+      lent-over a back out mid last (length a) e refl (omega arith)
       (l ∙ inverse-fits b (take (length mid - length a) (drop (length a) mid)) (omega arith))
-      ∙ ap (λ (x : List ℕ). over x out) f
+      ∙ ap (λ (x : List ℕ). over x out) (sym (front-parts (omega arith)))
 
   -- served exactly for valid pairs with room
   pub served-miter : (room k : ℕ) → MiterServed na a nb b room k → miterOutcome na a nb b room ≡ served k
@@ -119,6 +124,29 @@ module _ (na : ℕ) (a : List ℕ) (nb : ℕ) (b : List ℕ) where
     taken : take (3 * k) (miterBuffer na a nb b out) ≡ front
     taken = ap (take (3 * k)) written-out ∙ take-at front _ (3 * k) front-length
 
+    -- the two parts, and the rest
+    buffer-parts : miterBuffer na a nb b out ≡ a ++ (back ++ drop (length front) out)
+    buffer-parts =
+        let x = m .first-good .size in
+        written-out ∙ ap (λ (l : List ℕ). l ++ drop (length front) out) (front-parts (omega arith)) ∙ append-assoc a back _
+
+    back-length : length back ≡ length b
+    back-length =
+        let y = m .second-good .size in
+        let q = gates-length b in
+        let r = lib.ListN.length-reverse (gatesOf b) in
+        words-length (inverse (gatesOf b)) ∙ omega arith
+
+    first-words : take (length a) (miterBuffer na a nb b out) ≡ a
+    first-words = ap (take (length a)) buffer-parts ∙ take-at a _ (length a) refl
+
+    second-reversed : gatesOf (take (length b) (drop (length a) (miterBuffer na a nb b out))) ≡ reverse (gatesOf b)
+    second-reversed =
+        ap (λ (l : List ℕ). gatesOf (take (length b) (drop (length a) l))) buffer-parts
+        ∙ ap (λ (l : List ℕ). gatesOf (take (length b) l)) (drop-at a _ (length a) refl)
+        ∙ ap gatesOf (take-at back _ (length b) back-length)
+        ∙ gates-words (inverse (gatesOf b))
+
     pub miter-stands : MiterStands na a nb b out k
     miter-stands =
         let g : gatesOf (take (3 * k) (miterBuffer na a nb b out)) ≡ miterGates (gatesOf a) (gatesOf b) = ap gatesOf taken ∙ gates-words (miterGates (gatesOf a) (gatesOf b)) in
@@ -130,6 +158,8 @@ module _ (na : ℕ) (a : List ℕ) (nb : ℕ) (b : List ℕ) where
         let c = m .count in
         record {
           gates = g;
+          first-words = first-words;
+          second-reversed = second-reversed;
           cascade =
               record {
                 lines-low = p .lines-low;
