@@ -2,7 +2,7 @@
 use mathlib.Core.Path.{_≡_}
 use mathlib.Core.Logic.{_↔_}
 use mathlib.Core.Bool.{true, false, xor, _&&_}
-use mathlib.Core.List.{List, _++_}
+use mathlib.Core.List.{List, _++_, reverse}
 use Prim.Native.Nat.{ℕ, _*_, _%_, _^_, _<_, _≤_}
 use lib.Dec.{eqb}
 use lib.Bits.{bitOr, bitXor}
@@ -71,9 +71,9 @@ RunRefused n ws s = Wrong (WordsRefused n ws maxGates) (Cascade n ws maxGates) (
 abbrev pub InverseRefused : ℕ → List ℕ → ℕ → ℕ → ℕ → Type 0
 InverseRefused n ws room = Wrong (WordsRefused n ws maxGates) (Cascade n ws maxGates) (λ k. Fails (room < length ws) noRoom 0)
 
--- what stands in the buffer after a served call of the inverse of k gates: the inverse, a cascade whose own inverse is the words given, in any buffer with room; and the rest as it was
+-- what stands in the buffer after a served call of the inverse of k gates: the gates in reverse order, a cascade whose own inverse is the words given, in any buffer with room; and the rest as it was
 pub record InverseStands (n : ℕ) (ws out : List ℕ) (k : ℕ) : Type 0 where
-  pub gates : gatesOf (take (3 * k) (inverseBuffer n ws out)) ≡ inverse (gatesOf ws)
+  pub gates : gatesOf (take (3 * k) (inverseBuffer n ws out)) ≡ reverse (gatesOf ws)
   pub cascade : Cascade n (take (3 * k) (inverseBuffer n ws out)) maxGates k
   pub rest : drop (3 * k) (inverseBuffer n ws out) ≡ drop (3 * k) out
   pub back : (into : List ℕ) → length ws ≤ length into
