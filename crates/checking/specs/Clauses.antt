@@ -102,7 +102,7 @@ clausesOf n gs =
 unfoldable pub variablesOf : ℕ → List Gate → ℕ
 variablesOf n gs = usedAfter n gs + n
 
--- no list of a miter has more
+-- no list of a miter has more, by the law `variables-few`
 abbrev pub maxVariables : ℕ
 maxVariables = 2 * maxLines + 2 * maxMiterGates
 

@@ -21,7 +21,7 @@ use Rattle.text.specs.WholeFile.{wholeFile}
 use Rattle.text.specs.TextLaws.{ProgramRefused, too-long, first-file, second-file, lines-differ, list-long}
 use Rattle.text.proofs.Telling.{after-first, after-second, not-refused}
 use Rattle.text.proofs.WholeFile.{WholeJudged, whole-judged, whole-refused}
-use Rattle.text.proofs.list.Laws.{input-long, first-bad, first-good, second-refused, second-served}
+use Rattle.text.proofs.list.Laws.{input-long, first-bad, first-good, verdict-refused, verdict-served}
 
 -- ---- what is wrong is told
 
@@ -30,7 +30,7 @@ unfolding pairVerdict listVerdict
 told input _ _ _ (too-long h) = input-long input h
 told input _ _ _ (first-file number place h f) = first-bad input h number place (reader .read-refused input number place .1 f)
 told input _ _ _ (second-file n a rest number place h good e w) =
-    after-first input n a rest h good e ∙ second-refused n a rest number place (whole-refused rest number place w)
+    after-first input n a rest h good e ∙ verdict-refused n a rest number place (whole-refused rest number place w)
 told input _ _ _ (lines-differ n a m b h good-a good-b e ne) =
     after-first input n a (textOf m b) h good-a e ∙ after-second n a m b good-b ∙ cond-false (eqb n m) _ _ (ne-eqb n m ne)
 told input _ _ _ (list-long n a b h good-a good-b e l) =
@@ -75,9 +75,9 @@ module _ (input : List ℕ) (number file place : ℕ) (short : length input ≤ 
     second-found : (rest : List ℕ) → input ≡ textOf n a ++ rest → (o : Outcome Reading) → wholeFile rest ≡ o → WholeJudged rest o → secondVerdict n a rest ≡ refusedAt number file place
         → ProgramRefused input number file place
     second-found rest e (refused k p) r w v =
-        as-told input k 2 p number file place (second-file n a rest k p short good-a e w) (sym (second-refused n a rest k p r) ∙ v)
+        as-told input k 2 p number file place (second-file n a rest k p short good-a e w) (sym (verdict-refused n a rest k p r) ∙ v)
     second-found rest e (served d) r (good-b, text-b) v =
-        pair-found (d .lines) (d .gates) good-b (e ∙ ap (λ (l : List ℕ). textOf n a ++ l) text-b) (sym (second-served n a rest d r) ∙ v)
+        pair-found (d .lines) (d .gates) good-b (e ∙ ap (λ (l : List ℕ). textOf n a ++ l) text-b) (sym (verdict-served n a rest d r) ∙ v)
 
   first-found : (o : Outcome Reading) → reading input ≡ o → verdict input ≡ refusedAt number file place → ProgramRefused input number file place
   first-found (refused k p) r v =

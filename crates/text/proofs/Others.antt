@@ -1,6 +1,6 @@
 -- Of any program with the claim on two files: what `equal` and `differ` say, that it is none of the stand-ins, and that it writes our text. Assumes nothing.
 use mathlib.Core.Path.{_≡_, refl, sym, ap, ap₂, subst, _∙_}
-use mathlib.Core.List.{List, [], _∷_, _++_}
+use mathlib.Core.List.{List, [], _∷_}
 use mathlib.Core.Option.{some}
 use Prim.Native.Nat.{ℕ, _<_, _≤_, _^_}
 use native.Mathlib.Omega.{arith}
@@ -138,14 +138,14 @@ module _ (one two : List ℕ) (n : ℕ) (a b : List Gate) (t : TwoFiles one two 
   equal-case text word e (differs m c d s x f g h i j) = absurd (omega (arith, differ-start x (run c x) (run d x), ap start (sym f ∙ e), equal-start word))
   equal-case text word e (asks m c d s u f g h i j) = absurd (omega (arith, tells-start text m c d f, ap start e, equal-start word))
 
-pub equal-told : (program : List ℕ → List ℕ → List ℕ) (first second word : List ℕ) (n : ℕ) (a b : List Gate) → TwoFiles first second n a b
+pub equal-true : (program : List ℕ → List ℕ → List ℕ) (first second word : List ℕ) (n : ℕ) (a b : List Gate) → TwoFiles first second n a b
     → program first second ≡ equalText word → Compares program → Equal n a b
-equal-told program one two word n a b t e laws = equal-case one two n a b t (program one two) word e (laws one two)
+equal-true program one two word n a b t e laws = equal-case one two n a b t (program one two) word e (laws one two)
 
 pub always-equal : (program : List ℕ → List ℕ → List ℕ) → ((first second : List ℕ) (n : ℕ) (a b : List Gate) → TwoFiles first second n a b → (word : List ℕ) × (program first second ≡ equalText word))
     → Compares program → ⊥
 always-equal program all laws =
-    let (word, e) = all first second 1 once [] files in not-equal 1 once [] files (equal-told program first second word 1 once [] files e laws)
+    let (word, e) = all first second 1 once [] files in not-equal 1 once [] files (equal-true program first second word 1 once [] files e laws)
 
 asked-case : (text : List ℕ) → start text ≡ 112 → MayWrite first second text → ⊥
 asked-case text e (refuses number file place f g) = omega (arith, refusal-start number file place, ap start f)
@@ -162,10 +162,10 @@ always-asks program all laws = let (d, e) = all first second 1 once [] files in 
 -- ---- a difference
 
 module _ (one two : List ℕ) (n : ℕ) (a b : List Gate) (x y z : ℕ) (t : TwoFiles one two n a b) where
-  abbrev Told : Type 0
-  Told = Differs n a b x × ((w : ℕ) → w < x → run a w ≡ run b w) × (y ≡ run a x) × (z ≡ run b x)
+  abbrev Said : Type 0
+  Said = Differs n a b x × ((w : ℕ) → w < x → run a w ≡ run b w) × (y ≡ run a x) × (z ≡ run b x)
 
-  difference-case : (text : List ℕ) → text ≡ differText x y z → MayWrite one two text → Told
+  difference-case : (text : List ℕ) → text ≡ differText x y z → MayWrite one two text → Said
   difference-case text e (refuses number file place f g) = absurd (omega (arith, refusal-start number file place, ap start (sym f ∙ e), differ-start x y z))
   difference-case text e (overflows m c d s f g h i) = absurd (omega (arith, refusal-start 10 0 0, ap start (sym f ∙ e), differ-start x y z))
   difference-case text e (reduces m c d s f g h) = absurd (omega (arith, differ-start x y z, ap start (sym f ∙ e)))
@@ -183,9 +183,9 @@ module _ (one two : List ℕ) (n : ℕ) (a b : List Gate) (x y z : ℕ) (t : Two
       )
   difference-case text e (asks m c d s u f g h i j) = absurd (omega (arith, tells-start text m c d f, differ-start x y z, ap start e))
 
-pub differ-told : (program : List ℕ → List ℕ → List ℕ) (first second : List ℕ) (n : ℕ) (a b : List Gate) (x y z : ℕ) → TwoFiles first second n a b
+pub differ-true : (program : List ℕ → List ℕ → List ℕ) (first second : List ℕ) (n : ℕ) (a b : List Gate) (x y z : ℕ) → TwoFiles first second n a b
     → program first second ≡ differText x y z → Compares program → Differs n a b x × ((w : ℕ) → w < x → run a w ≡ run b w) × (y ≡ run a x) × (z ≡ run b x)
-differ-told program one two n a b x y z t e laws = difference-case one two n a b x y z t (program one two) e (laws one two)
+differ-true program one two n a b x y z t e laws = difference-case one two n a b x y z t (program one two) e (laws one two)
 
 -- ---- the files decide the text
 
@@ -202,14 +202,14 @@ module _ (one two : List ℕ) where
     unfolding compared
     by-none e = cond-true (eqb (length (gatesLeft a b)) 0) _ _ (eq-eqb _ _ (ap length e))
 
-    module _ (some : gatesLeft a b ≡ [] → ⊥) where
+    module _ (more : gatesLeft a b ≡ [] → ⊥) where
       by-swept : n ≤ maxSweepLines → compared n a b ≡ sweptAs a b (lowestFrom a b 0 (2 ^ n))
       unfolding compared
-      by-swept h = cond-false (eqb (length (gatesLeft a b)) 0) _ _ (ne-eqb _ _ (λ z. some (empty (gatesLeft a b) z))) ∙ cond-true (leb n maxSweepLines) _ _ (le-leb n maxSweepLines h)
+      by-swept h = cond-false (eqb (length (gatesLeft a b)) 0) _ _ (ne-eqb _ _ (λ z. more (empty (gatesLeft a b) z))) ∙ cond-true (leb n maxSweepLines) _ _ (le-leb n maxSweepLines h)
 
       by-listed : maxSweepLines < n → compared n a b ≡ listAs n (gatesLeft a b)
       unfolding compared
-      by-listed h = cond-false (eqb (length (gatesLeft a b)) 0) _ _ (ne-eqb _ _ (λ z. some (empty (gatesLeft a b) z))) ∙ cond-false (leb n maxSweepLines) _ _ (lt-leb n maxSweepLines h)
+      by-listed h = cond-false (eqb (length (gatesLeft a b)) 0) _ _ (ne-eqb _ _ (λ z. more (empty (gatesLeft a b) z))) ∙ cond-false (leb n maxSweepLines) _ _ (lt-leb n maxSweepLines h)
 
     none-found : Equal n a b → (d : Difference) → sweep.Says n a b (served d) → d ≡ none
     none-found e none s = refl

@@ -1,24 +1,18 @@
 -- What the program writes: clauses or a refusal, each told by its bytes. Assumes nothing.
 use mathlib.Core.Path.{_≡_, refl, sym, ap, subst, _∙_}
-use mathlib.Core.Bool.{true}
-use mathlib.Core.List.{List, [], _∷_, _++_}
-use mathlib.Core.Option.{some}
+use mathlib.Core.List.{List}
 use Prim.Native.Nat.{ℕ, _≤_}
 use lib.Dec.{leb}
 use lib.ListN.{length, take}
 use lib.Seq.{take-at}
 use borrow.Author.Tests.{leb-true, le-leb}
-use Rattle.bits.proofs.Lists.{free, free-append}
 use Rattle.circuit.specs.Outcome.{Outcome, served, Yields}
-use Rattle.circuit.specs.File.{partedBy}
-use Rattle.circuit.proofs.Promises.{demanded, parts-cut, parts-one}
+use Rattle.circuit.proofs.Promises.{demanded}
 use Rattle.circuit.specs.Refusal.{noRoom}
-use Rattle.circuit.specs.Text.{tab, lineFeed}
-use Rattle.text.specs.Dimacs.{decimal, numberRead}
 use Rattle.text.specs.Answers.{fitOutcome, fitBuffer, WritesWhere}
-use Rattle.text.specs.Tomiter.{Verdict, listed, refusedAt, verdict, refusedWord, refusalText, verdictText, tomiterText, tomiterOutcome, tomiterBuffer, WritesText}
+use Rattle.text.specs.Tomiter.{Verdict, listed, refusedAt, verdict, refusalText, verdictText, tomiterText, tomiterOutcome, tomiterBuffer, WritesText}
 use Rattle.text.specs.BytesTell.{StartsProblem, TextTells, BytesTell}
-use Rattle.text.specs.TextLaws.{ProgramRefused, RightText, clauses, refusal, ProgramLaws}
+use Rattle.text.specs.TextLaws.{ProgramRefused, RightText, clauses, refusal, ProgramLaws, AsBuilt}
 use Rattle.text.proofs.Fields.{refusal-apart}
 use Rattle.text.proofs.Telling.{refusal-starts, listed-fits, text-starts, text-fitting, text-told, as-built, dimacs-starts}
 use Rattle.text.proofs.Faults.{refused-exactly}
@@ -56,16 +50,15 @@ program-laws =
       problem = text-starts;
       fitting = text-fitting;
       told = text-told;
-      as-built = as-built;
       refused = λ input number file place. (text-refused input number file place, refused-text input number file place);
     }
 
 -- every such program writes this text
-pub program-only : (program : List ℕ → List ℕ) → ProgramLaws program → (input : List ℕ) → program input ≡ tomiterText input
-program-only program laws input = go (laws .writes input)
+pub program-only : (program : List ℕ → List ℕ) → ProgramLaws program → AsBuilt program → (input : List ℕ) → program input ≡ tomiterText input
+program-only program laws built input = go (laws .writes input)
   where
     go : RightText input (program input) → program input ≡ tomiterText input
-    go (clauses n a b f s t) = laws .as-built input n a b f ∙ sym (as-built input n a b f)
+    go (clauses n a b f s t) = built input n a b f ∙ sym (as-built input n a b f)
     go (refusal number file place f e) = e ∙ sym (refused-text input number file place f)
 
 -- ---- the call

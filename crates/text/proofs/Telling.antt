@@ -28,7 +28,7 @@ use Rattle.text.specs.TextLaws.{Fitting}
 use Rattle.text.proofs.Pairs.{listable}
 use Rattle.text.proofs.Reading.{text-back}
 use Rattle.text.proofs.WholeFile.{WholeJudged, whole-judged, whole-is}
-use Rattle.text.proofs.list.Laws.{first-good, second-served}
+use Rattle.text.proofs.list.Laws.{first-good, verdict-served}
 
 -- ---- good files
 
@@ -42,7 +42,7 @@ after-first input n a rest short good e =
 -- and after a good second one, to its last byte, the pair
 pub after-second : (n : ℕ) (a : List Gate) (m : ℕ) (b : List Gate) → FileCascade m b → secondVerdict n a (textOf m b) ≡ pairVerdict n a m b
 after-second n a m b good =
-    second-served n a (textOf m b) _ (whole-is (textOf m b) m b good refl)
+    verdict-served n a (textOf m b) _ (whole-is (textOf m b) m b good refl)
 
 -- ---- an input that fits
 

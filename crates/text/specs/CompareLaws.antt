@@ -61,7 +61,7 @@ pub record CompareLaws : Type 0 where
   pub plain-three : (a b c : ℤ) → plainClause (XOR (a ∷ b ∷ c ∷ []))
       ≡ OR (a ∷ b ∷ c ∷ []) ∷ OR (a ∷ negℤ b ∷ negℤ c ∷ []) ∷ OR (negℤ a ∷ b ∷ negℤ c ∷ []) ∷ OR (negℤ a ∷ negℤ b ∷ c ∷ []) ∷ []
   -- the fields of a difference's text
-  pub differ-fields : (state first second : ℕ) → partedBy tab (differText state first second) ≡ differWord ∷ decimal state ∷ decimal first ∷ (decimal second ++ (lineFeed ∷ [])) ∷ []
+  pub differ-fields : (x y z : ℕ) → partedBy tab (differText x y z) ≡ differWord ∷ decimal x ∷ decimal y ∷ (decimal z ++ (lineFeed ∷ [])) ∷ []
   -- our text has the claim, and every program with the claim writes it
   pub compares : Compares compareText
   pub compares-only : (program : List ℕ → List ℕ → List ℕ) → Compares program → (first second : List ℕ) → program first second ≡ compareText first second
@@ -69,10 +69,10 @@ pub record CompareLaws : Type 0 where
   pub refused-told : (program : List ℕ → List ℕ → List ℕ) (first second : List ℕ) (number file place : ℕ) → FilesRefused first second number file place
       → Compares program → program first second ≡ refusalText number file place
   -- it says `equal` of equal cascades alone
-  pub equal-told : (program : List ℕ → List ℕ → List ℕ) (first second word : List ℕ) (n : ℕ) (a b : List Gate) → TwoFiles first second n a b
+  pub equal-true : (program : List ℕ → List ℕ → List ℕ) (first second word : List ℕ) (n : ℕ) (a b : List Gate) → TwoFiles first second n a b
       → program first second ≡ equalText word → Compares program → Equal n a b
   -- and `differ` with the lowest state on which they differ and what each gives on it
-  pub differ-told : (program : List ℕ → List ℕ → List ℕ) (first second : List ℕ) (n : ℕ) (a b : List Gate) (x y z : ℕ) → TwoFiles first second n a b
+  pub differ-true : (program : List ℕ → List ℕ → List ℕ) (first second : List ℕ) (n : ℕ) (a b : List Gate) (x y z : ℕ) → TwoFiles first second n a b
       → program first second ≡ differText x y z → Compares program → Differs n a b x × ((w : ℕ) → w < x → run a w ≡ run b w) × (y ≡ run a x) × (z ≡ run b x)
   -- it is no program that calls the cascades of all good files equal, or that always asks a solver of these
   pub always-equal : (program : List ℕ → List ℕ → List ℕ) → ((first second : List ℕ) (n : ℕ) (a b : List Gate) → TwoFiles first second n a b → (word : List ℕ) × (program first second ≡ equalText word))

@@ -3,7 +3,7 @@ use mathlib.Core.Path.{_≡_}
 use mathlib.Core.Logic.{_↔_}
 use mathlib.Core.List.{List, [], _∷_, _++_}
 use mathlib.Core.Option.{some}
-use Prim.Native.Nat.{ℕ, _+_, _≤_, _<_}
+use Prim.Native.Nat.{ℕ, _≤_, _<_}
 use lib.ListN.{length, drop}
 use Rattle.circuit.specs.declared.gate.Gate.{Gate}
 use Rattle.circuit.specs.Outcome.{served}
@@ -58,10 +58,13 @@ pub record ProgramLaws (program : List ℕ → List ℕ) : Type 0 where
   pub problem : (input : List ℕ) (n : ℕ) (a b : List Gate) → Fitting input n a b → StartsProblem (program input)
   pub fitting : (input : List ℕ) → StartsProblem (program input) → (n : ℕ) × (a : List Gate) × (b : List Gate) × Fitting input n a b
   pub told : (input : List ℕ) (n : ℕ) (a b : List Gate) → Fitting input n a b → TextTells (program input) n a b
-  -- by the clauses of the miter as it is built
-  pub as-built : (input : List ℕ) (n : ℕ) (a b : List Gate) → Fitting input n a b → program input ≡ dimacsOf (variablesOf n (miterGates a b)) (clausesOf n (miterGates a b))
   -- it is the text of a refusal exactly for what is wrong first
   pub refused : (input : List ℕ) (number file place : ℕ) → (program input ≡ refusalText number file place) ↔ ProgramRefused input number file place
+
+-- of a program whose clauses are those of the miter as it is built
+abbrev pub AsBuilt : (List ℕ → List ℕ) → Type 0
+AsBuilt program =
+    (input : List ℕ) (n : ℕ) (a b : List Gate) → Fitting input n a b → program input ≡ dimacsOf (variablesOf n (miterGates a b)) (clausesOf n (miterGates a b))
 
 -- stand-ins, as programs: one fixed contradiction in place of every clause list, and the first clause left out
 abbrev pub contradictionText : Verdict → List ℕ
@@ -90,9 +93,10 @@ pub record TextLaws : Type 0 where
   pub refusal-fields : (number file place : ℕ) → partedBy tab (refusalText number file place) ≡ refusedWord ∷ decimal number ∷ decimal file ∷ (decimal place ++ (lineFeed ∷ [])) ∷ []
   pub refusal-apart : (number file place number′ file′ place′ : ℕ) → refusalText number file place ≡ refusalText number′ file′ place′
       → (number ≡ number′) × (file ≡ file′) × (place ≡ place′)
-  -- our text is that of such a program, and every such program writes it
+  -- our text is that of such a program, by the miter as it is built, and every such program writes it
   pub program : ProgramLaws tomiterText
-  pub program-only : (program : List ℕ → List ℕ) → ProgramLaws program → (input : List ℕ) → program input ≡ tomiterText input
+  pub as-built : AsBuilt tomiterText
+  pub program-only : (program : List ℕ → List ℕ) → ProgramLaws program → AsBuilt program → (input : List ℕ) → program input ≡ tomiterText input
   -- the stand-ins do not have these laws, and neither has a program that refuses all
   pub contradiction-fails : ProgramLaws contradiction → ⊥
   pub without-first-fails : ProgramLaws withoutFirst → ⊥

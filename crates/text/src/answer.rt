@@ -62,7 +62,7 @@ fn fit_clauses(out: &mut [u8], variables: u64, words: &[ClauseWord]) -> TextAnsw
     if out.len() < three_digits(variables, clauses, 0) + 7 + bytes {
         return TextAnswer::Refused(Refusal::no_room());
     }
-    TextAnswer::Bytes(crate::dimacs::put_list(out, variables, clauses, true, words))
+    TextAnswer::Bytes(crate::stored::put_list(out, variables, clauses, true, words))
 }
 
 // Writes what a comparison answers.

@@ -1,4 +1,4 @@
-// Writing the text of a clause list at the start of a buffer. Each function tells how many bytes it wrote.
+// Writing a clause and the header of a clause list at the start of a buffer. Each writing function tells how many bytes it wrote.
 
 use checking::clauses::ClauseWord;
 ghost use mathlib.Core.Path.{_≡_};
@@ -8,7 +8,7 @@ ghost use lib.ListN.{length};
 ghost use Rattle.bits.specs.Lists.{Put};
 ghost use Rattle.checking.specs.Satisfaction.{variableOf};
 ghost use Rattle.text.specs.Dimacs.{blank, literalText, literalsText, closing, headerText};
-ghost use Rattle.text.specs.private.Words.{signText, kindText, recordText, Plainable, StoresPlain, formedText, storedText};
+ghost use Rattle.text.specs.private.Words.{signText, kindText, recordText};
 
 // The variable of a literal, and the number that a word holds.
 pub(crate) fn magnitude(word: ClauseWord) -> u64
@@ -84,7 +84,7 @@ pub(crate) fn put_closed(out: &mut [u8], literals: &[ClauseWord]) -> usize
 }
 
 // Writes a clause by its kind and its literals.
-fn put_clause(out: &mut [u8], kind: ClauseWord, literals: &[ClauseWord]) -> usize
+pub(crate) fn put_clause(out: &mut [u8], kind: ClauseWord, literals: &[ClauseWord]) -> usize
     requires { ⌜ length (recordText kind (now literals)) ≤ length (now out) ⌝ }
     ensures { λ r. ⌜ Put r (now (out .exit)) (recordText kind (now (literals .entry))) (now (out .entry)) ⌝ }
 {
@@ -92,56 +92,11 @@ fn put_clause(out: &mut [u8], kind: ClauseWord, literals: &[ClauseWord]) -> usiz
     at + put_closed(&mut out[at..], literals)
 }
 
-// Writes a clause by its kind and its literals, where `plain` as OR clauses.
-fn put_formed(out: &mut [u8], plain: bool, kind: ClauseWord, literals: &[ClauseWord]) -> usize
-    requires { ⌜ Plainable kind (now literals) ⌝ }
-    requires { ⌜ length (formedText plain kind (now literals)) ≤ length (now out) ⌝ }
-    ensures { λ r. ⌜ Put r (now (out .exit)) (formedText plain kind (now (literals .entry))) (now (out .entry)) ⌝ }
-{
-    if plain {
-        return crate::plain::put_record(out, kind, literals);
-    }
-    put_clause(out, kind, literals)
-}
-
-// Writes the clauses that words store, where `plain` as OR clauses.
-fn put_clauses(out: &mut [u8], plain: bool, words: &[ClauseWord]) -> usize
-    requires { ⌜ StoresPlain (now words) ⌝ }
-    requires { ⌜ length (storedText plain (now words)) ≤ length (now out) ⌝ }
-    ensures { λ r. ⌜ Put r (now (out .exit)) (storedText plain (now (words .entry))) (now (out .entry)) ⌝ }
-{
-    let mut at = 0;
-    let mut i = 0;
-    while i < words.len() {
-        let from = i + 2;
-        let to = from + magnitude(words[i + 1]) as usize;
-        at += put_formed(&mut out[at..], plain, words[i], &words[from..to]);
-        i = to;
-    }
-    at
-}
-
 // Writes the header.
-fn put_header(out: &mut [u8], variables: u64, clauses: u64) -> usize
+pub(crate) fn put_header(out: &mut [u8], variables: u64, clauses: u64) -> usize
     requires { ⌜ length (headerText variables clauses) ≤ length (now out) ⌝ }
     ensures { λ r. ⌜ Put r (now (out .exit)) (headerText variables clauses) (now (out .entry)) ⌝ }
 {
     let at = crate::put::put_numbered(&mut out[0..], b"p cnf ", variables);
     at + crate::put::put_last(&mut out[at..], b" ", clauses)
-}
-
-// Writes the header and the clauses that words store, where `plain` as OR clauses.
-pub(crate) fn put_list(
-    out: &mut [u8],
-    variables: u64,
-    clauses: u64,
-    plain: bool,
-    words: &[ClauseWord],
-) -> usize
-    requires { ⌜ StoresPlain (now words) ⌝ }
-    requires { ⌜ length (headerText variables clauses ++ storedText plain (now words)) ≤ length (now out) ⌝ }
-    ensures { λ r. ⌜ Put r (now (out .exit)) (headerText variables clauses ++ storedText plain (now (words .entry))) (now (out .entry)) ⌝ }
-{
-    let at = put_header(&mut out[0..], variables, clauses);
-    at + put_clauses(&mut out[at..], plain, words)
 }

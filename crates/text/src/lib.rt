@@ -19,6 +19,7 @@ mod pair;
 mod plain;
 mod program;
 mod put;
+mod stored;
 
 // The number of bytes that were written, or a refusal.
 pub enum TextAnswer {

@@ -22,7 +22,7 @@ pub(crate) fn put_text(out: &mut [u8], input: &[u8]) -> usize
         }
         ListAnswer::Listed(totals) => {
             let end = totals.words as usize;
-            crate::dimacs::put_list(
+            crate::stored::put_list(
                 out,
                 totals.variables,
                 totals.clauses,

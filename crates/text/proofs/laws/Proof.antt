@@ -3,6 +3,7 @@ use Rattle.text.proofs.Reading.{number-back, text-back}
 use Rattle.text.proofs.Fields.{refusal-fields, refusal-apart, differ-fields}
 use Rattle.text.proofs.Strict.{text-was}
 use Rattle.text.proofs.Sizes.{text-fits, room-enough}
+use Rattle.text.proofs.Telling.{as-built}
 use Rattle.text.proofs.ProgramLaws.{program-laws, program-only, call}
 use Rattle.text.proofs.StandIns.{contradiction-fails, without-first-fails, refuses-all}
 use Rattle.text.proofs.PlainClauses.{plain-satisfied, plain-within, plain-or, plain-each, plain-same}
@@ -11,7 +12,7 @@ use Rattle.text.proofs.Verdicts.{compares}
 use Rattle.text.proofs.Rooms.{call as compare-call}
 use Rattle.text.proofs.Longest.{text-fits as compared-fits, room-enough as compared-room}
 use Rattle.text.proofs.Inputs.{state-size, state-line, state-back, state-was, checks, checks-only, call as input-call, text-fits as checked-fits, room-enough as checked-room}
-use Rattle.text.proofs.Others.{refused-told, equal-told, differ-told, always-equal, always-asks, compares-only}
+use Rattle.text.proofs.Others.{refused-told, equal-true, differ-true, always-equal, always-asks, compares-only}
 use Rattle.text.proofs.Rows.{rows-hold, files-hold, inputs-hold}
 use Rattle.text.proofs.laws.Statement.{statement}
 use Rattle.text.proofs.laws.Tie as tie
@@ -27,6 +28,7 @@ returns c =
             refusal-fields = refusal-fields;
             refusal-apart = refusal-apart;
             program = program-laws;
+            as-built = as-built;
             program-only = program-only;
             contradiction-fails = contradiction-fails;
             without-first-fails = without-first-fails;
@@ -49,8 +51,8 @@ returns c =
             compares = compares;
             compares-only = compares-only;
             refused-told = refused-told;
-            equal-told = equal-told;
-            differ-told = differ-told;
+            equal-true = equal-true;
+            differ-true = differ-true;
             always-equal = always-equal;
             always-asks = always-asks;
             call = compare-call;

@@ -258,13 +258,13 @@ module _ (file : ℕ) (o : Outcome Reading) (more : Reading → Verdict) where
 -- ---- the second file
 
 module _ (n : ℕ) (gs : List Gate) (text : List ℕ) where
-  pub second-refused : (number place : ℕ) → wholeFile text ≡ refused number place → secondVerdict n gs text ≡ refusedAt number 2 place
+  pub verdict-refused : (number place : ℕ) → wholeFile text ≡ refused number place → secondVerdict n gs text ≡ refusedAt number 2 place
   unfolding secondVerdict
-  second-refused number place e = file-refused 2 (wholeFile text) _ number place e
+  verdict-refused number place e = file-refused 2 (wholeFile text) _ number place e
 
-  pub second-served : (c : Reading) → wholeFile text ≡ served c → secondVerdict n gs text ≡ pairVerdict n gs (c .lines) (c .gates)
+  pub verdict-served : (c : Reading) → wholeFile text ≡ served c → secondVerdict n gs text ≡ pairVerdict n gs (c .lines) (c .gates)
   unfolding secondVerdict
-  second-served c e = file-served 2 (wholeFile text) _ c e
+  verdict-served c e = file-served 2 (wholeFile text) _ c e
 
 -- ---- the input
 

@@ -31,8 +31,6 @@ kindText (negsuc i) = []
 abbrev pub recordText : ℤ → List ℤ → List ℕ
 recordText kind ls = kindText kind ++ (literalsText ls ++ closing)
 
--- ---- the same clauses as OR clauses alone
-
 -- the clauses that words store, in a list
 abbrev pub readClauses : ReadBack → List Clause
 readClauses (clausesRead cs) = cs
@@ -40,6 +38,8 @@ readClauses (badRecord i) = []
 
 unfoldable pub storedIn : List ℤ → List Clause
 storedIn ws = readClauses (clausesIn ws)
+
+-- ---- the same clauses as OR clauses alone
 
 -- the plain clauses of a kind word and literals
 abbrev pub plainRecord : ℤ → List ℤ → List Clause
@@ -74,13 +74,13 @@ ShortClause (XOR ls) = TwoOrThree ls
 abbrev pub AllShort : List Clause → Type 0
 AllShort cs = All ShortClause cs
 
--- a record whose plain clauses are written
+-- a record whose plain clauses can be written
 pub record Plainable (kind : ℤ) (ls : List ℤ) : Type 0 where
   pub short : ShortRecord kind ls
   pub few : length ls ≤ maxList
   pub within : LiteralsWithin maxVariables ls
 
--- the words store such clauses, and are no more than a list may have
+-- the words store clauses that can be written so, and are no more than a list may have
 pub record StoresPlain (ws : List ℤ) : Type 0 where
   pub clauses : List Clause
   pub words : ws ≡ stored clauses

@@ -1,6 +1,6 @@
 -- `checking::faults::kept_negative` meets its contract. Assumes nothing.
 use mathlib.Core.Path.{sym, _∙_}
-use mathlib.Core.Bool.{true, false}
+use mathlib.Core.Bool.{false}
 use borrow.Author.Needs.{needs}
 use Rattle.checking.proofs.lemmas.faults.Masks.{kept-fired, kept-idle}
 use Rattle.checking.proofs.faults.kept_negative.Statement.{statement}

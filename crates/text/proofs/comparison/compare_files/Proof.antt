@@ -1,5 +1,5 @@
 -- `text::comparison::compare_files` meets its contract. Assumes nothing.
-use mathlib.Core.Path.{sym, subst, _∙_}
+use mathlib.Core.Path.{sym, subst}
 use native.Mathlib.Omega.{arith}
 use lib.Seq.{length-take-le}
 use Rattle.text.specs.declared.pair.FilesAnswer.{FilesAnswer}

@@ -1,6 +1,4 @@
 -- `text::input::put_line` meets its contract. Assumes nothing.
-use mathlib.Core.Path.{_≡_, _∙_}
-use mathlib.Core.List.{_∷_, _++_}
 use native.Mathlib.Omega.{arith}
 use Rattle.text.proofs.put.Laws.{two-put}
 use Rattle.text.proofs.input.Laws.{state-long}

@@ -1,6 +1,5 @@
 -- `text::input::put_outputs` meets its contract. Assumes nothing.
-use mathlib.Core.Path.{_≡_, _∙_}
-use mathlib.Core.List.{[], _∷_, _++_}
+use mathlib.Core.List.{[], _∷_}
 use native.Mathlib.Omega.{arith}
 use lib.ListN.{length-append}
 use Rattle.circuit.specs.Text.{lineFeed}

@@ -1,5 +1,5 @@
 -- `text::input::read_state` meets its contract. The loop's invariant: the characters that were passed spell the state so far. Assumes nothing.
-use mathlib.Core.Path.{_≡_, sym}
+use mathlib.Core.Path.{sym}
 use native.Mathlib.Omega.{arith}
 use Rattle.text.proofs.input.Laws.{other-length, Spelling, spelling-start, spelled-low, spelled-high, spelled-fits, spelling-on, spelling-done}
 use Rattle.text.proofs.input.read_state.Statement.{statement}

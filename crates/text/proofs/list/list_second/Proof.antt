@@ -7,7 +7,7 @@ use lib.Seq.{length-take-le}
 use Rattle.text.specs.declared.pair.WholeAnswer.the-variants as whole
 use Rattle.text.specs.WholeFile.{wholeFile}
 use Rattle.text.specs.private.Comparing.{SaysWhole}
-use Rattle.text.proofs.list.Laws.{says-as, says-refusal, second-refused, second-served}
+use Rattle.text.proofs.list.Laws.{says-as, says-refusal, verdict-refused, verdict-served}
 use Rattle.text.proofs.pair.Laws.{told-whole}
 use Rattle.text.proofs.comparison.Laws.{room-few}
 use borrow.Author.Needs.{needs}
@@ -51,7 +51,7 @@ returns c =
     let s = c .before .before .before .before .before .before .before .before in
     let w = told-whole _ _ _ _ _ (c .before .before .before .before .read-whole .ensures) (c .before .why .given .1) in
     let x = c .before .why .given .0 .0 in
-    says-refusal {A = ℕ} x 2 _ _ (x .number) (x .place) (second-refused _ _ (s .args .text .now) (x .number) (x .place) (sym (w .is))) refl
+    says-refusal {A = ℕ} x 2 _ _ (x .number) (x .place) (verdict-refused _ _ (s .args .text .now) (x .number) (x .place) (sym (w .is))) refl
 
 same-length : tie.Need-same-length
 same-length c = search needs
@@ -60,7 +60,7 @@ returns-2 : tie.Need-returns-2
 returns-2 c =
     let s = c .before .before .before .before .before .before .before .before .before .before .before .before in
     let p = c .before .list-pair in
-    says-as (p .result) (p .last .1 .1 .1 .1 .0) _ _ (second-served _ _ (s .args .text .now) _ (sym (good (c .before .before .before .before .before) .is))) (p .ensures)
+    says-as (p .result) (p .last .1 .1 .1 .1 .0) _ _ (verdict-served _ _ (s .args .text .now) _ (sym (good (c .before .before .before .before .before) .is))) (p .ensures)
 
 pub list-second-spec : {M : Type 1} → statement M
 list-second-spec =

@@ -1,5 +1,5 @@
 -- `text::pair::read_second` meets its contract. Assumes nothing.
-use mathlib.Core.Path.{refl, sym, subst, _∙_}
+use mathlib.Core.Path.{refl, sym, subst}
 use Prim.Native.Nat.{ℕ}
 use Rattle.text.specs.private.Comparing.{InRoom}
 use Rattle.text.proofs.pair.Laws.{second-refused, second-differs, second-same, says-fault, told-whole}

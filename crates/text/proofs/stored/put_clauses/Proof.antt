@@ -1,4 +1,4 @@
--- `text::dimacs::put_clauses` meets its contract. The loop's invariant: the clauses that were passed stand at the buffer's start. Assumes nothing.
+-- `text::stored::put_clauses` meets its contract. The loop's invariant: the clauses that were passed stand at the buffer's start. Assumes nothing.
 use mathlib.Core.Path.{_≡_, refl, ap, _∙_}
 use Prim.Native.Nat.{_-_, _<_}
 use native.Mathlib.Omega.{arith}
@@ -8,8 +8,8 @@ use Rattle.checking.specs.Satisfaction.{variableOf}
 use Rattle.circuit.proofs.Promises.{rest-length}
 use Rattle.text.proofs.dimacs.Signed.{word-is}
 use Rattle.text.proofs.plain.Laws.{count, left-inside, left-count, left-plainable, Listing, listing-start, listing-at, listing-room, listing-on, listing-done}
-use Rattle.text.proofs.dimacs.put_clauses.Statement.{statement}
-use Rattle.text.proofs.dimacs.put_clauses.Tie as tie
+use Rattle.text.proofs.stored.put_clauses.Statement.{statement}
+use Rattle.text.proofs.stored.put_clauses.Tie as tie
 
 abbrev Inv-loop : tie.InvT-loop
 Inv-loop out₀ plain words at₀ i₀ out at i = Listing plain words out₀ out at i

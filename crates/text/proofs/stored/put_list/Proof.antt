@@ -1,12 +1,12 @@
--- `text::dimacs::put_list` meets its contract. Assumes nothing.
+-- `text::stored::put_list` meets its contract. Assumes nothing.
 use native.Mathlib.Omega.{arith}
 use lib.ListN.{length-append}
 use Rattle.text.specs.Dimacs.{headerText}
 use Rattle.text.specs.private.Words.{storedText}
 use Rattle.text.proofs.put.Laws.{two-put}
 use borrow.Author.Needs.{needs}
-use Rattle.text.proofs.dimacs.put_list.Statement.{statement}
-use Rattle.text.proofs.dimacs.put_list.Tie as tie
+use Rattle.text.proofs.stored.put_list.Statement.{statement}
+use Rattle.text.proofs.stored.put_list.Tie as tie
 
 sub-put-header : tie.Need-sub-put-header
 sub-put-header c = search needs

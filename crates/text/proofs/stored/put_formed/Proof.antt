@@ -1,4 +1,4 @@
--- `text::dimacs::put_formed` meets its contract. Assumes nothing.
+-- `text::stored::put_formed` meets its contract. Assumes nothing.
 use mathlib.Core.Path.{sym, ap, subst, _∙_}
 use mathlib.Core.Bool.{Bool, true, false}
 use native.Mathlib.Omega.{arith}
@@ -8,8 +8,8 @@ use Rattle.circuit.proofs.Promises.{put-as}
 use Rattle.text.specs.private.Words.{Plainable, formedText}
 use Rattle.text.proofs.dimacs.Signed.{word-is}
 use borrow.Author.Needs.{needs}
-use Rattle.text.proofs.dimacs.put_formed.Statement.{statement}
-use Rattle.text.proofs.dimacs.put_formed.Tie as tie
+use Rattle.text.proofs.stored.put_formed.Statement.{statement}
+use Rattle.text.proofs.stored.put_formed.Tie as tie
 
 put-record-requires : tie.Need-put-record-requires
 put-record-requires c κs =
