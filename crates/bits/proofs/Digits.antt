@@ -12,7 +12,7 @@ use lib.Pow.{pow-mono, pow-pos, shr-shr, split, field, mod-mod-pow}
 use lib.Count.{ones, ones-step, ones-cat, ones-ones}
 use lib.ListN.{length, length-append}
 use mathlib.Core.List.{List, [], _∷_, _++_}
-use lib.Bits.{bitAnd, bitOr, bitXor, differ, and-step, or-step, xor-step, and-zero-l, or-zero-l, or-disjoint}
+use lib.Bits.{bitAnd, bitOr, bitXor, differ, and-step, or-step, xor-step, and-zero-l, or-zero-l, or-disjoint, or-add-and, and-le-l, and-le-r}
 use Rattle.bits.specs.Digits.{bit, linesIn}
 use Rattle.bits.proofs.Bools.{and-apart}
 
@@ -166,6 +166,10 @@ lines-low n (suc m) x h =
 top-one : (q n : ℕ) → q < 2 → length (cond (eqb (q % 2) 1) (n ∷ []) []) ≡ ones q
 unfolding ones
 top-one q n h = two (λ (q : ℕ). length (cond (eqb (q % 2) 1) (n ∷ []) []) ≡ ones q) refl refl q h
+
+-- two masks are 0 where both together are
+pub or-parts : (a b : ℕ) → bitOr a b ≡ 0 → (a ≡ 0) × (b ≡ 0)
+or-parts a b z = (omega (arith, or-add-and a b, and-le-l a b, and-le-r a b), omega (arith, or-add-and a b, and-le-l a b, and-le-r a b))
 
 -- 0 has no set digit
 ones-none : ones 0 ≡ 0

@@ -55,7 +55,7 @@ fn put_gates(n: u64, words: &[u64], current: &mut [u64], out: &mut [ClauseWord])
     while i < gates {
         let g = circuit::words::gate_at(words, i);
         let target = g.target;
-        let k = g.control_count();
+        let k = crate::emitter::control_count(g);
         at += crate::emitter::put_gate(g, n, current, used, &mut out[at..]);
         used = new_variable(used, k);
         current[target as usize] = used;

@@ -3,11 +3,13 @@
 use crate::clauses::ClauseWord;
 use circuit::gate::Gate;
 ghost use mathlib.Core.Path.{_≡_};
+ghost use mathlib.Core.Bool.{true};
 ghost use mathlib.Core.List.{[], _∷_};
 ghost use Prim.Native.Nat.{_+_, _*_, _≤_, _<_};
 ghost use lib.IntN.{pos};
 ghost use lib.ListN.{length};
 ghost use Rattle.bits.specs.Lists.{over};
+ghost use Rattle.circuit.specs.Gate.{maxLines, valid, controlCount};
 ghost use Rattle.circuit.specs.Outcome.{Yields};
 ghost use Rattle.checking.specs.Stored.{wordLimit};
 ghost use Rattle.checking.specs.private.Emitter.{literalWord, literalsIn, controlsStored, Currents, Lines, Many, manyStored, gateStored, Ready};
@@ -135,6 +137,23 @@ fn put_many(
     end + 5
 }
 
+// How many controls a gate has; bits are counted only where there are two or more.
+pub(crate) fn control_count(g: Gate) -> u64
+    requires { ⌜ valid maxLines g ≡ true ⌝ }
+    ensures { λ r. ⌜ r ≡ controlCount g ⌝ }
+{
+    let positive = g.positive;
+    let negative = g.negative;
+    let lines = positive | negative;
+    if lines == 0 {
+        return 0;
+    }
+    if (lines & (lines - 1)) == 0 {
+        return 1;
+    }
+    g.control_count()
+}
+
 // The gate's clauses at the buffer's start, with `used` variables numbered so far; how many words.
 pub(crate) fn put_gate(g: Gate, n: u64, current: &[u64], used: u64, out: &mut [ClauseWord]) -> usize
     requires { ⌜ Ready n used (now current) g (length (now out)) ⌝ }
@@ -145,7 +164,7 @@ pub(crate) fn put_gate(g: Gate, n: u64, current: &[u64], used: u64, out: &mut [C
     let lines = positive | negative;
     let target = g.target;
     let v = current[target as usize];
-    let k = g.control_count();
+    let k = control_count(g);
     if k == 0 {
         put_4(out, 1, 2, literal(used + 1, true), literal(v, true));
         return 4;

@@ -4,7 +4,7 @@ use circuit::gate::Gate;
 use circuit::refusal::Refusal;
 use circuit::words::CountAnswer;
 use circuit::words::PairAnswer;
-ghost use mathlib.Core.Bool.{true, false};
+ghost use mathlib.Core.Bool.{true};
 ghost use mathlib.Core.List.{[]};
 ghost use mathlib.Core.Path.{_≡_};
 ghost use Prim.Native.Nat.{_*_, _-_, _≤_, _^_};
@@ -46,24 +46,18 @@ fn free_lines(g: Gate, n: u64) -> u64
     lines_below(n) & (used ^ u64::MAX)
 }
 
-// The lines that a state leaves in the mask of missing positive controls.
-fn kept_positive(g: Gate, state: u64) -> u64
-    ensures { λ r. ⌜ r ≡ kept (missingControl true) g state ⌝ }
+// The lines that a state leaves in the mask of missing positive or negative controls.
+fn kept_lines(g: Gate, state: u64, positive: bool) -> u64
+    requires { ⌜ valid maxLines g ≡ true ⌝ }
+    ensures { λ r. ⌜ r ≡ kept (missingControl positive) g state ⌝ }
 {
-    if g.fires(state) {
-        return state ^ u64::MAX;
+    if g.missed(state) != 0 {
+        return 0;
     }
-    0
-}
-
-// The lines that a state leaves in the mask of missing negative controls.
-fn kept_negative(g: Gate, state: u64) -> u64
-    ensures { λ r. ⌜ r ≡ kept (missingControl false) g state ⌝ }
-{
-    if g.fires(state) {
+    if !positive {
         return state;
     }
-    0
+    state ^ u64::MAX
 }
 
 // The masks before any state: the free lines of each gate, in each of its masks.
@@ -96,8 +90,8 @@ fn narrow(words: &[u64], state: u64, out: &mut [u64])
     while i < gates {
         let g = circuit::words::gate_at(words, i);
         let at = MASKS * i;
-        out[at] = out[at] & kept_positive(g, s);
-        out[at + 1] = out[at + 1] & kept_negative(g, s);
+        out[at] = out[at] & kept_lines(g, s, true);
+        out[at + 1] = out[at + 1] & kept_lines(g, s, false);
         s = g.toggle(s);
         i += 1;
     }

@@ -43,10 +43,13 @@ inverted g s = cond (fires g s) (bitXor s (2 ^ g .target)) s
 unfoldable pub apply : Gate → ℕ → ℕ
 apply g s = cond (valid maxLines g) (inverted g s) s
 
--- the same without a test of the record, for those that were tested: no control is missed, by one mask
+-- the lines on which a state misses a control, of records that were tested
+unfoldable pub missed : Gate → ℕ → ℕ
+missed g s = bitAnd (bitXor s (g .positive)) (bitOr (g .positive) (g .negative))
+
+-- the state after the gate without a test of the record, of those that were tested: inverted where no control is missed
 unfoldable pub toggled : Gate → ℕ → ℕ
-toggled g s =
-    cond (eqb (bitAnd (bitXor s (g .positive)) (bitOr (g .positive) (g .negative))) 0) (bitXor s (2 ^ (g .target % maxLines))) s
+toggled g s = cond (eqb (missed g s) 0) (bitXor s (2 ^ (g .target % maxLines))) s
 
 -- the number of set bits in both masks
 unfoldable pub controlCount : Gate → ℕ

@@ -10,7 +10,7 @@ use lib.ListN.{length, take, drop}
 use Rattle.bits.specs.Digits.{bit, linesIn}
 use Rattle.bits.specs.Lists.{over}
 use Rattle.circuit.specs.declared.gate.Gate.{Gate}
-use Rattle.circuit.specs.Gate.{maxLines, maxGates, notGate, valid, fires, apply, toggled, controlCount, controlsOf, allMet}
+use Rattle.circuit.specs.Gate.{maxLines, maxGates, notGate, valid, fires, apply, missed, toggled, controlCount, controlsOf, allMet}
 use Rattle.circuit.specs.Outcome.{served, refused, Wrong, Fails, Untouched, Yields}
 use Rattle.circuit.specs.Words.{gatesOf, wordsOf, allValid, checkOutcome, Cascade, Counts, pairOutcome, WordsRefused, GoodPair, PairRefused}
 use Rattle.circuit.specs.Run.{run, runTested, Equal, Differs, runOutcome, recordsOutcome}
@@ -42,6 +42,7 @@ pub record GateLaws : Type 0 where
   pub apply-none : (g : Gate) (s : ℕ) → valid maxLines g ≡ false → apply g s ≡ s
   pub apply-not : (t s : ℕ) → t < maxLines → apply (notGate t) s ≡ bitXor s (2 ^ t)
   -- of a gate that was tested
+  pub missed-none : (g : Gate) (s : ℕ) → valid maxLines g ≡ true → eqb (missed g s) 0 ≡ fires g s
   pub toggled-apply : (g : Gate) (s : ℕ) → valid maxLines g ≡ true → toggled g s ≡ apply g s
   pub apply-twice : (g : Gate) (s : ℕ) → apply g (apply g s) ≡ s
   pub apply-below : (n : ℕ) (g : Gate) (s : ℕ) → valid n g ≡ true → s < 2 ^ n → apply g s < 2 ^ n

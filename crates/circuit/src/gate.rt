@@ -7,7 +7,7 @@ ghost use lib.Dec.{eqb, ltb};
 ghost use lib.Bits.{bitAnd};
 ghost use lib.Count.{ones, trailingZeros};
 ghost use Rattle.bits.specs.Digits.{bit};
-ghost use Rattle.circuit.specs.Gate.{maxLines, notGate, fires, apply, toggled, valid, controlCount};
+ghost use Rattle.circuit.specs.Gate.{maxLines, notGate, fires, apply, missed, toggled, valid, controlCount};
 
 #[repr(C)]
 pub struct Gate {
@@ -128,15 +128,21 @@ impl Gate {
         (((state & positive) ^ positive) | (state & negative)) == 0
     }
 
+    // The lines on which the state misses a control, of a gate that was tested.
+    pub fn missed(self, state: u64) -> u64
+        ensures { λ r. ⌜ r ≡ missed self state ⌝ }
+    {
+        let positive = self.positive;
+        let negative = self.negative;
+        (state ^ positive) & (positive | negative)
+    }
+
     // The state after a gate that was tested: the target is inverted where no control is missed.
     pub fn toggle(self, state: u64) -> u64
         ensures { λ r. ⌜ r ≡ toggled self state ⌝ }
     {
-        let positive = self.positive;
-        let negative = self.negative;
         let target = self.target;
-        let missed = (state ^ positive) & (positive | negative);
-        state ^ (((missed == 0) as u64) << (target % Gate::MAX_LINES))
+        state ^ (((self.missed(state) == 0) as u64) << (target % Gate::MAX_LINES))
     }
 
     // The state after the gate; the same one if the record is no gate on 64 lines.

@@ -3,7 +3,8 @@ use Prim.Native.Nat.{_-_, _≤_}
 use native.Mathlib.Omega.{arith}
 use lib.ListN.{length}
 use borrow.Author.Needs.{needs}
-use Rattle.circuit.proofs.Promises.{valid-facts}
+use Rattle.circuit.specs.Gate.{maxLines}
+use Rattle.circuit.proofs.Promises.{valid-facts, valid-more}
 use Rattle.checking.proofs.lemmas.emission.Gates.{Emitted, emitted-none, gate-good, target-inside, room, gate-ready, emitted-next, emitted-all}
 use Rattle.checking.proofs.emission.put_gates.Statement.{statement}
 use Rattle.checking.proofs.emission.put_gates.Tie as tie
@@ -21,7 +22,10 @@ gate-at-requires : tie.Need-gate-at-requires Inv-loop μ-loop
 gate-at-requires c κs = search needs
 
 control-count-requires : tie.Need-control-count-requires Inv-loop μ-loop
-control-count-requires c κs = search needs
+control-count-requires c κs =
+    let l = c .before .before in
+    let s = l .before .before .before in
+    valid-more (s .args .n) maxLines (c .gate-at .result) (s .pre .lines) (gate-good _ _ _ _ _ _ _ _ _ (s .pre) (l .loop .inv) (omega arith) (c .gate-at .result) (c .gate-at .ensures))
 
 -- there is room for the gate's clauses
 inside : (c : tie.After-put-gate-arg Inv-loop μ-loop) → c .before .before .before .before .loop .at ≤ length (c .before .before .before .before .loop .out)

@@ -11,6 +11,7 @@ use mir.Val.{toZ, ofZ}
 use Rattle.bits.specs.Digits.{bit}
 use Rattle.circuit.specs.Gate.{maxLines}
 use Rattle.bits.specs.Lists.{over}
+use Rattle.circuit.proofs.Promises.{valid-more}
 use Rattle.checking.specs.Clauses.{plus, minus}
 use Rattle.checking.specs.Stored.{wordWidth, wordLimit}
 use Rattle.checking.specs.private.Emitter.{literalWord, byLine}
@@ -34,7 +35,7 @@ shared-slice-read-v : tie.Need-shared-slice-read-v
 shared-slice-read-v c = omega (arith, target-below _ _ _ _ _ (c .before .before .pre), c .before .before .pre .currents .long)
 
 control-count-requires : tie.Need-control-count-requires
-control-count-requires c κs = search needs
+control-count-requires c κs = let s = c .before .before in valid-more (s .args .n) maxLines (s .args .g) (s .pre .currents .lines) (s .pre .gate)
 
 -- the target's variable
 v-small : (c : tie.After-control-count) → byLine (start c .args .current .now) (start c .args .g .target) < wordLimit

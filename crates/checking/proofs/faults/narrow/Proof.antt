@@ -8,7 +8,7 @@ use lib.Bits.{bitAnd}
 use lib.ListN.{length, take, drop, getD, set, length-set}
 use lib.Seq.{getD-set-other}
 use borrow.Author.Needs.{needs}
-use Rattle.circuit.specs.Gate.{maxLines}
+use Rattle.circuit.specs.Gate.{maxLines, valid}
 use Rattle.circuit.specs.Words.{gatesOf, allValid}
 use Rattle.circuit.proofs.Promises.{toggled-apply, gates-length, valid-next, valid-later}
 use Rattle.checking.specs.private.Narrowing.{narrowed}
@@ -33,6 +33,12 @@ loop-holds c = let a = c .before .before in (omega arith, refl, omega (arith, a 
 gate-at-requires : tie.Need-gate-at-requires Inv-loop μ-loop
 gate-at-requires c κs = search needs
 
+-- the gate that is passed is one
+good : (g : tie.After-gate-at Inv-loop μ-loop) → valid maxLines (g .gate-at .result) ≡ true
+good g =
+    let l = g .before .before in
+    valid-next maxLines (l .before .before .before .args .words .now) (l .loop .i) _ (omega arith) (g .gate-at .ensures) (l .loop .inv .3)
+
 mul-at : tie.Need-mul-at Inv-loop μ-loop
 mul-at c = search needs
 
@@ -42,8 +48,8 @@ mul-out c = search needs
 slice-read-out : tie.Need-slice-read-out Inv-loop μ-loop
 slice-read-out c = search needs
 
-kept-positive-requires : tie.Need-kept-positive-requires Inv-loop μ-loop
-kept-positive-requires c κs = search needs
+kept-lines-requires : tie.Need-kept-lines-requires Inv-loop μ-loop
+kept-lines-requires c κs = good (c .before)
 
 mul-out-2 : tie.Need-mul-out-2 Inv-loop μ-loop
 mul-out-2 c = search needs
@@ -60,8 +66,8 @@ mul-out-3 c = search needs
 slice-read-out-2 : tie.Need-slice-read-out-2 Inv-loop μ-loop
 slice-read-out-2 c = simp length-set (omega arith)
 
-kept-negative-requires : tie.Need-kept-negative-requires Inv-loop μ-loop
-kept-negative-requires c κs = search needs
+kept-lines-requires-2 : tie.Need-kept-lines-requires-2 Inv-loop μ-loop
+kept-lines-requires-2 c κs = good (c .before .before .before)
 
 add-out-2 : tie.Need-add-out-2 Inv-loop μ-loop
 add-out-2 c = search needs
@@ -91,16 +97,16 @@ loop-again c =
     let out = l .loop .out in
     let i = l .loop .i in
     let s = l .loop .s in
-    let v : ℕ = bitAnd (getD out (2 * i) 0) (p .kept-positive .result) in
-    let w : ℕ = bitAnd (getD (set out (2 * i) v) (2 * i + 1) 0) (n .kept-negative .result) in (
+    let v : ℕ = bitAnd (getD out (2 * i) 0) (p .kept-lines .result) in
+    let w : ℕ = bitAnd (getD (set out (2 * i) v) (2 * i + 1) 0) (n .kept-lines2 .result) in (
       omega arith,
       length-set (set out (2 * i) v) (2 * i + 1) w ∙ length-set out (2 * i) v ∙ l .loop .inv .1,
       omega (arith, length-set (set out (2 * i) v) (2 * i + 1) w, length-set out (2 * i) v),
       valid-later maxLines ws i (omega arith) (l .loop .inv .3),
       l .loop .inv .4
-          ∙ narrow-turn ws out i _ (omega arith) (omega arith) (g .gate-at .ensures) s v w (ap (bitAnd (getD out (2 * i) 0)) (p .kept-positive .ensures))
-          (ap₂ bitAnd (getD-set-other out (2 * i) (2 * i + 1) v 0 (λ e. omega arith)) (n .kept-negative .ensures))
-          ∙ ap (λ (t : ℕ). take (2 * (i + 1)) (twoSet out (2 * i) v w) ++ narrowed (gatesOf (drop (3 * (i + 1)) ws)) t (drop (2 * (i + 1)) (twoSet out (2 * i) v w))) (sym (c .toggle .ensures ∙ toggled-apply _ s (valid-next maxLines ws i _ (omega arith) (g .gate-at .ensures) (l .loop .inv .3)))),
+          ∙ narrow-turn ws out i _ (omega arith) (omega arith) (g .gate-at .ensures) s v w (ap (bitAnd (getD out (2 * i) 0)) (p .kept-lines .ensures))
+          (ap₂ bitAnd (getD-set-other out (2 * i) (2 * i + 1) v 0 (λ e. omega arith)) (n .kept-lines2 .ensures))
+          ∙ ap (λ (t : ℕ). take (2 * (i + 1)) (twoSet out (2 * i) v w) ++ narrowed (gatesOf (drop (3 * (i + 1)) ws)) t (drop (2 * (i + 1)) (twoSet out (2 * i) v w))) (sym (c .toggle .ensures ∙ toggled-apply _ s (good g))),
     )
 
 same-length : tie.Need-same-length Inv-loop μ-loop
@@ -122,13 +128,13 @@ narrow-spec =
     mul-at
     mul-out
     slice-read-out
-    kept-positive-requires
+    kept-lines-requires
     mul-out-2
     slice-write-out
     add-out
     mul-out-3
     slice-read-out-2
-    kept-negative-requires
+    kept-lines-requires-2
     add-out-2
     mul-out-4
     slice-write-out-2

@@ -3,13 +3,12 @@ use mathlib.Core.Path.{_≡_, refl, sym, ap, ap₂, _∙_, subst}
 use mathlib.Core.Bool.{Bool, true, false, not, _&&_, xor}
 use mathlib.Core.List.{[]}
 use Prim.Native.Nat.{ℕ, _^_}
-use native.Mathlib.Omega.{arith}
 use lib.Dec.{eqb}
-use lib.Bits.{bitAnd, bitOr, or-add-and, and-le-l, and-le-r, or-self}
+use lib.Bits.{bitAnd, bitOr, or-self}
 use borrow.Author.Tests.{eqb-true, eq-eqb, ne-eqb}
 use Rattle.bits.specs.Digits.{bit}
 use Rattle.bits.proofs.Bools.{and-parts, both, same-test, refuted, or-none, none-or, table₂, table₃, table₄}
-use Rattle.bits.proofs.Digits.{bit-or, bits-equal, line-clear, clear-line}
+use Rattle.bits.proofs.Digits.{bit-or, bits-equal, line-clear, clear-line, or-parts}
 use Rattle.circuit.specs.declared.gate.Gate.{Gate}
 use Rattle.circuit.specs.Gate.{maxLines, fires, valid, apply}
 use Rattle.circuit.specs.Words.{allValid}
@@ -53,9 +52,7 @@ or-zero : (a b : ℕ) → eqb (bitOr a b) 0 ≡ (eqb a 0 && eqb b 0)
 or-zero a b =
     same-test (eqb (bitOr a b) 0) (eqb a 0 && eqb b 0)
     (λ e.
-    let z : bitOr a b ≡ 0 = eqb-true _ _ e in
-    let p : a ≡ 0 = omega (arith, or-add-and a b, and-le-r a b) in
-    let q : b ≡ 0 = omega (arith, or-add-and a b, and-le-l a b) in
+    let (p, q) = or-parts a b (eqb-true (bitOr a b) 0 e) in
     both (eq-eqb _ _ p) (eq-eqb _ _ q))
     (λ e. let (p, q) = and-parts (eqb a 0) (eqb b 0) e in eq-eqb _ _ (ap₂ bitOr (eqb-true a 0 p) (eqb-true b 0 q) ∙ or-self 0))
 

@@ -5,16 +5,16 @@ use Prim.Native.Nat.{ℕ, _*_, _%_, _^_, _<_}
 use native.Mathlib.Nat.{zero-mul, one-mul}
 use native.Mathlib.Omega.{arith}
 use lib.Dec.{eqb, lit<}
-use lib.Bits.{bitAnd, bitOr, bitXor, xor-lt, xor-zero-r, xor-self, or-zero-r, or-add-and, xor-add-and, and-le-l, and-le-r}
+use lib.Bits.{bitAnd, bitOr, bitXor, xor-lt, xor-zero-r, xor-self, or-zero-r, xor-add-and, and-le-l, and-le-r}
 use lib.Pow.{pow-lt, shl-exact}
 use mir.Val.{boolByte}
 use borrow.Author.Tests.{eqb-true, eq-eqb}
 use Rattle.circuit.specs.declared.gate.Gate.{Gate}
 use Rattle.bits.specs.Digits.{bit}
-use Rattle.circuit.specs.Gate.{maxLines, notGate, fires, valid, inverted, apply, toggled}
+use Rattle.circuit.specs.Gate.{maxLines, notGate, fires, valid, inverted, apply, missed, toggled}
 use Rattle.circuit.specs.Laws.{FiresByLines}
 use Rattle.bits.proofs.Bools.{and-parts, both, either, same-test, cond-true, cond-false, and-apart, xor-none, xor-back}
-use Rattle.bits.proofs.Digits.{bit-and, bit-or, bit-xor, bit-pow, bit-none, bits-equal}
+use Rattle.bits.proofs.Digits.{bit-and, bit-or, bit-xor, bit-pow, bit-none, bits-equal, or-parts}
 use Rattle.circuit.proofs.lemmas.gate.Valid.{valid-facts, valid-apart, lines-valid, target-clear, Valid}
 
 -- ---- firing by lines
@@ -81,20 +81,14 @@ fires-missed s p q =
     same-test _ _
     (λ e.
     let z : bitOr (bitXor (bitAnd s p) p) (bitAnd s q) ≡ 0 = eqb-true _ _ e in
-    let x : bitXor (bitAnd s p) p ≡ 0 = or-left (bitXor (bitAnd s p) p) (bitAnd s q) z in
-    both (eq-eqb _ _ (xor-same (bitAnd s p) p x)) (eq-eqb _ _ (or-right (bitXor (bitAnd s p) p) (bitAnd s q) z)))
+    let (x, y) = or-parts (bitXor (bitAnd s p) p) (bitAnd s q) z in
+    both (eq-eqb _ _ (xor-same (bitAnd s p) p x)) (eq-eqb _ _ y))
     (λ e.
     let (x, y) = and-parts (eqb (bitAnd s p) p) (eqb (bitAnd s q) 0) e in
     let a : bitAnd s p ≡ p = eqb-true (bitAnd s p) p x in
     let b : bitAnd s q ≡ 0 = eqb-true (bitAnd s q) 0 y in
     eq-eqb _ _ (ap₂ (λ (m k : ℕ). bitOr (bitXor m p) k) a b ∙ or-zero-r (bitXor p p) ∙ xor-self p))
   where
-    or-left : (a b : ℕ) → bitOr a b ≡ 0 → a ≡ 0
-    or-left a b z = omega (arith, or-add-and a b, and-le-l a b, and-le-r a b)
-
-    or-right : (a b : ℕ) → bitOr a b ≡ 0 → b ≡ 0
-    or-right a b z = omega (arith, or-add-and a b, and-le-l a b, and-le-r a b)
-
     xor-same : (a b : ℕ) → bitXor a b ≡ 0 → a ≡ b
     xor-same a b z = omega (arith, xor-add-and a b, and-le-l a b, and-le-r a b)
 
@@ -115,8 +109,9 @@ line-met true false false h e = ((λ x. absurd (false≢true x)), (λ x. absurd 
 line-met false true q h e = ((λ x. sym e), (λ x. refl))
 line-met false false q h e = ((λ x. absurd (false≢true x)), (λ x. refl))
 
-pub fires-gate : (g : Gate) (s : ℕ) → valid maxLines g ≡ true → eqb (bitAnd (bitXor s (g .positive)) (bitOr (g .positive) (g .negative))) 0 ≡ fires g s
-fires-gate g s v =
+pub missed-none : (g : Gate) (s : ℕ) → valid maxLines g ≡ true → eqb (missed g s) 0 ≡ fires g s
+unfolding missed
+missed-none g s v =
     same-test _ _
     (λ e. met (λ k. sym (digit k) ∙ ap (λ (x : ℕ). bit x k) (eqb-true (bitAnd (bitXor s (g .positive)) (bitOr (g .positive) (g .negative))) 0 e) ∙ bit-none k))
     (λ e.
@@ -158,7 +153,7 @@ unfolding toggled inverted
 toggled-apply g s v =
     let h = valid-facts maxLines g v .target-below in
     let k : g .target % maxLines ≡ g .target = omega arith in
-    ap₂ (λ (t : Bool) (l : ℕ). cond t (bitXor s (2 ^ l)) s) (fires-gate g s v) k ∙ sym (apply-gate g s v)
+    ap₂ (λ (t : Bool) (l : ℕ). cond t (bitXor s (2 ^ l)) s) (missed-none g s v) k ∙ sym (apply-gate g s v)
 
 pub apply-none : (g : Gate) (s : ℕ) → valid maxLines g ≡ false → apply g s ≡ s
 unfolding apply
