@@ -104,7 +104,7 @@ static int tell_miter(const struct cascade *a, const struct cascade *b)
 /* The lowest input on which the two differ, and what each gate of the suspect may miss for it. */
 static int tell_difference(const struct cascade *a, const struct cascade *b)
 {
-    static uint64_t masks[2 * CASCADE_MAX_GATES];
+    static uint64_t masks[CASCADE_MAX_GATES * CASCADE_GATE_MASKS];
     struct cascade_state_answer first = cascade_first_difference(a->lines, a->words, 3 * a->gates, b->lines, b->words, 3 * b->gates);
     if (refused("first difference", first.number, first.place))
         return 1;
@@ -116,8 +116,10 @@ static int tell_difference(const struct cascade *a, const struct cascade *b)
     struct cascade_count_answer faults = cascade_fault_masks(a->lines, a->words, 3 * a->gates, b->lines, b->words, 3 * b->gates, &first.state, 1, masks, sizeof masks / sizeof *masks);
     if (refused("fault masks", faults.number, faults.place))
         return 1;
-    for (uint64_t i = 0; i < faults.gates; i++)
-        printf("gate %" PRIu64 " may miss a positive control of mask %" PRIu64 ", a negative one of mask %" PRIu64 "\n", i, masks[2 * i], masks[2 * i + 1]);
+    for (uint64_t i = 0; i < faults.gates; i++) {
+        const uint64_t *of_gate = masks + CASCADE_GATE_MASKS * i;
+        printf("gate %" PRIu64 " may miss a positive control of mask %" PRIu64 ", a negative one of mask %" PRIu64 "\n", i, of_gate[0], of_gate[1]);
+    }
     return 0;
 }
 

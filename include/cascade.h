@@ -32,7 +32,7 @@
  *     cascade_inverse       the words of the cascade
  *     cascade_miter         the words of both together; CASCADE_MAX_MITER_GATES * 3 hold every miter
  *     cascade_emit          the `words` that cascade_sizes gives; CASCADE_MAX_CLAUSE_WORDS hold all
- *     cascade_fault_masks   2 words a gate of the suspect
+ *     cascade_fault_masks   CASCADE_GATE_MASKS words a gate of the suspect
  *
  * The calls keep no state and take no memory from the system, so threads may call at the same time,
  * each with buffers of its own. A call uses less than CASCADE_STACK bytes of stack.
@@ -71,6 +71,7 @@ extern "C" {
 #define CASCADE_MAX_MITER_GATES 2048   /* of what step, reduce, sizes and emit are given */
 #define CASCADE_MAX_SWEEP_LINES 16     /* of cascade_first_difference */
 #define CASCADE_GATE_WORDS 3           /* words a gate */
+#define CASCADE_GATE_MASKS 2           /* masks a gate, of cascade_fault_masks */
 #define CASCADE_MAX_TEXT 252941        /* bytes of the longest text of a cascade */
 #define CASCADE_MAX_CLAUSE_WORDS 661890 /* words of the longest clause list */
 #define CASCADE_STACK 2048             /* bytes of stack that a call stays below */

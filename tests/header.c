@@ -430,8 +430,9 @@ int main(void)
     expect("fewer second", fewer.second, 1);
     expect("fewer gates", fewer.gates, 1);
     const uint64_t failing[1] = {1};
-    uint64_t masks[2] = {9, 9};
-    struct cascade_count_answer faults = cascade_fault_masks(3, one_control, 3, 3, toffoli, 3, failing, 1, masks, 2);
+    uint64_t masks[CASCADE_GATE_MASKS] = {9, 9};
+    REFUSED(cascade_fault_masks(3, one_control, 3, 3, toffoli, 3, failing, 1, masks, CASCADE_GATE_MASKS - 1), 10, 0);
+    struct cascade_count_answer faults = cascade_fault_masks(3, one_control, 3, 3, toffoli, 3, failing, 1, masks, CASCADE_GATE_MASKS);
     expect("fault gates", faults.gates, 1);
     expect("fault positive", masks[0], 2);
     expect("fault negative", masks[1], 0);

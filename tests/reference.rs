@@ -8,6 +8,9 @@ pub const CASCADE_GATES: usize = 1024;
 /// The most gates of a miter: for step, reduction, sizes and emission.
 pub const MITER_GATES: usize = 2048;
 
+/// The masks of a gate of the suspect.
+pub const GATE_MASKS: usize = 2;
+
 /// The number and the place of a refusal.
 #[derive(Clone, Copy, Debug, PartialEq)]
 pub struct Refusal {
@@ -633,8 +636,8 @@ pub fn first_agreeing_state(suspect: &[Gate], reference: &[Gate], states: &[u64]
 
 /// The lines that may be a missing positive control of the gate, and a missing negative one. `runs`
 /// has the state before the gate in the suspect's run, for each given state.
-fn gate_masks(n: u64, gate: Gate, runs: &[u64]) -> [u64; 2] {
-    let mut masks = [0; 2];
+fn gate_masks(n: u64, gate: Gate, runs: &[u64]) -> [u64; GATE_MASKS] {
+    let mut masks = [0; GATE_MASKS];
     let fires = runs.iter().all(|state| gate.fires(*state));
     for line in 0..n {
         if line == gate.target || gate.control(line).is_some() {
@@ -666,12 +669,12 @@ pub fn fault_masks(
     if let Some(index) = first_agreeing_state(&gates, &right, states) {
         return refuse(12, index);
     }
-    if short_buffer(out, 2 * gates.len()) {
+    if short_buffer(out, GATE_MASKS * gates.len()) {
         return refuse(10, 0);
     }
     let mut runs = states.to_vec();
-    for (i, gate) in gates.iter().enumerate() {
-        out[2 * i..2 * i + 2].copy_from_slice(&gate_masks(na, *gate, &runs));
+    for (gate, masks) in gates.iter().zip(out.chunks_mut(GATE_MASKS)) {
+        masks.copy_from_slice(&gate_masks(na, *gate, &runs));
         for state in &mut runs {
             *state = gate.apply(*state);
         }

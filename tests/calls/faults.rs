@@ -8,7 +8,7 @@ use crate::expected;
 use crate::harness::{compare, Counts};
 use crate::inputs::{self, Cascade, Missing};
 use crate::random::Random;
-use crate::reference::{self, has, Gate};
+use crate::reference::{self, has, Gate, GATE_MASKS};
 
 const RANDOM_CASES: u64 = 40_000;
 const LONG_LISTS: u64 = 40;
@@ -85,7 +85,7 @@ fn random_case(random: &mut Random, counts: &mut Counts) {
             _ => random.word() & inputs::all_lines(a.lines),
         })
         .collect();
-    let length = inputs::buffer_length(random, 2 * (a.words.len() / 3));
+    let length = inputs::buffer_length(random, GATE_MASKS * (a.words.len() / 3));
     let out = random.words(length);
     let given = Pair {
         states,
@@ -120,7 +120,7 @@ fn each_length(
     missing: Option<Missing>,
     counts: &mut Counts,
 ) {
-    for length in inputs::edge_lengths(2 * (suspect.words.len() / 3)) {
+    for length in inputs::edge_lengths(GATE_MASKS * (suspect.words.len() / 3)) {
         let given = Pair {
             states: states.to_vec(),
             out: random.words(length),
@@ -149,7 +149,7 @@ fn check(case: &Case, counts: &mut Counts) {
     let out = given.check("cascade_fault_masks", library, answer, &wanted);
     count(given, answer, counts);
     if answer.number == 0 {
-        let masks = &out.contents()[..2 * answer.gates as usize];
+        let masks = &out.contents()[..GATE_MASKS * answer.gates as usize];
         check_guilty(case, masks, counts);
         check_struck(given, masks, counts);
         count_served(given, masks, counts);
@@ -161,7 +161,7 @@ fn check_guilty(case: &Case, masks: &[u64], counts: &mut Counts) {
     let Some(missing) = case.missing else {
         return;
     };
-    let mask = masks[2 * missing.gate + usize::from(!missing.positive)];
+    let mask = masks[GATE_MASKS * missing.gate + usize::from(!missing.positive)];
     compare(
         case,
         "the guilty line stands",
@@ -189,7 +189,7 @@ fn check_struck(case: &Pair, masks: &[u64], counts: &mut Counts) {
     for (index, gate) in gates.iter().enumerate() {
         for line in (0..n).filter(|k| *k != gate.target && gate.control(*k).is_none()) {
             for positive in [true, false] {
-                if has(masks[2 * index + usize::from(!positive)], line) {
+                if has(masks[GATE_MASKS * index + usize::from(!positive)], line) {
                     continue;
                 }
                 let repaired = reference::with_added_control(&gates, index, line, positive);
@@ -210,7 +210,7 @@ fn count(case: &Pair, answer: CountAnswer, counts: &mut Counts) {
         dangling,
     } = case;
     let n = suspect.lines;
-    let needed = 2 * (suspect.words.len() / 3);
+    let needed = GATE_MASKS * (suspect.words.len() / 3);
     let agreeing = reference::first_agreeing_state(
         &reference::gates_of(&suspect.words),
         &reference::gates_of(&reference.words),
