@@ -19,7 +19,6 @@ pub use Rattle.circuit.proofs.lemmas.inverse.Laws.{run-inverse, inverse
 pub use Rattle.circuit.proofs.lemmas.file.Laws.{reader, read-as, read-served, served-read, read-refused, write-served, served-write, write-refused, refuses-all}
 pub use Rattle.circuit.proofs.lemmas.file.RoundTrip.{round-trip, idle-reading, idle-writing, read-leaves}
 pub use Rattle.circuit.proofs.lemmas.file.Controls.{controls-inside}
-unfoldable pub use Rattle.circuit.proofs.lemmas.file.Lines.{separated}
-pub use Rattle.circuit.proofs.lemmas.file.Lines.{whole, parts-none, parts-some, parts-cut, parts-one, parts-back, same-true, same-self, true-same}
+pub use Rattle.circuit.proofs.lemmas.file.Lines.{whole, whole-one, whole-next, parts-none, parts-some, parts-cut, parts-one, parts-back, same-true, same-self, true-same}
 pub use Rattle.circuit.proofs.lemmas.file.Numbers.{is-digit, digit-bounds}
 pub use Rattle.circuit.proofs.lemmas.file.put.Laws.{Written, copied, written-none, written-first, written-more, written-put, put-as, rest-length}

@@ -17,7 +17,7 @@ use Rattle.circuit.specs.Run.{run, Equal}
 use Rattle.circuit.specs.Text.{textOf}
 use Rattle.circuit.specs.File.{Reading}
 use Rattle.circuit.specs.FileLaws.{FileCascade}
-use Rattle.circuit.proofs.Promises.{valid-all-more}
+use Rattle.circuit.proofs.Promises.{valid-all-more, run-none}
 use Rattle.checking.specs.Miter.{miterGates}
 use Rattle.checking.specs.StepLaws.{Keeps}
 use Rattle.checking.specs.Reduce.{reduceGates}
@@ -127,19 +127,18 @@ module _ (first second : List ℕ) (n : ℕ) (a b : List Gate) (t : TwoFiles fir
       omega (arith, l .few, reduce-laws .reduce-count (miterGates a b) gl _ _ (reduce-laws .reduce-reduces (miterGates a b) (valid-all-more n maxLines (miterGates a b) lines valid) (reduceGates (miterGates a b)) .0 refl))
 
   -- so it is the identity on a state exactly where the cascades agree
-  identity : (x : ℕ) → (run gl x ≡ x) ↔ (run a x ≡ run b x)
+  identity : (x : ℕ) → (run gl x ≡ run [] x) ↔ (run a x ≡ run b x)
   identity x =
       let (f, g) = miter-laws .identity a b x in
-      ((λ e. f (sym (kept .same x) ∙ e)), (λ e. kept .same x ∙ g e))
+      ((λ e. f (sym (kept .same x) ∙ e ∙ run-none x)), (λ e. kept .same x ∙ g e ∙ sym (run-none x)))
 
   none-equal : gl ≡ [] → Equal n a b
-  none-equal e x h = identity x .0 (unfold Rattle.bits.specs.Lists.fold in ap (λ (gs : List Gate). run gs x) e)
+  none-equal e x h = identity x .0 (ap (λ (gs : List Gate). run gs x) e)
 
   abbrev cs : List Clause
   cs = clausesOf n gl
 
   tells : Tells n (variablesOf n gl) (plainClauses cs) a b
-  unfolding Rattle.bits.specs.Lists.fold
   tells =
       plain-tells n (variablesOf n gl) cs a b
       (tells-same n (variablesOf n gl) cs gl [] a b identity (clause-laws .list-tells n gl lines (kept .good)))
