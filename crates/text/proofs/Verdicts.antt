@@ -97,9 +97,9 @@ module _ (first second : List ℕ) where
       ∙ pair.second-same n a second _ (whole-is second n b (t .second-good) (t .second-text)) refl
   judged-is (faulty _ _ _) (first-long h) = pair.first-long first second h
   judged-is (faulty _ _ _) (second-long s h) = pair.second-long first second s h
-  judged-is (faulty _ _ _) (first-file number place s s2 w) = pair.first-refused first second s s2 number place (whole-refused first number place w)
+  judged-is (faulty _ _ _) (first-file number place s s2 w) = pair.first-refused first second s s2 number place (whole-refused first number place .1 w)
   judged-is (faulty _ _ _) (second-file n a number place s s2 good e w) =
-      first-is s s2 n a good e ∙ pair.second-refused n a second number place (whole-refused second number place w)
+      first-is s s2 n a good e ∙ pair.second-refused n a second number place (whole-refused second number place .1 w)
   judged-is (faulty _ _ _) (lines-differ n a m b s s2 good e good-b e-b ne) =
       first-is s s2 n a good e ∙ pair.second-differs n a second _ (whole-is second m b good-b e-b) ne
 
