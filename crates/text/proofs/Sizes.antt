@@ -102,12 +102,12 @@ line-number n i count l _ (laws.LineOffence.no-end _ _ _ _ _) = omega arith
 line-number n i count l _ (controlled _ _ _ _ _ _) = omega arith
 line-number n i count l _ (not-rising _ _ _ _ _ _ _) = omega arith
 
-pub fault-small : (text : List ℕ) (number place : ℕ) → FileRefused text number place → (number < 100) × (place < 10000)
-fault-small text _ _ (header-line number o) = (header-number _ number o, omega arith)
-fault-small text _ _ (later-line n gs rest good starts number o) = (line-number n _ _ _ number o, omega (arith, good .few))
+pub refused-small : (text : List ℕ) (number place : ℕ) → FileRefused text number place → (number < 100) × (place < 10000)
+refused-small text _ _ (header-line number o) = (header-number _ number o, omega arith)
+refused-small text _ _ (later-line n gs rest good starts number o) = (line-number n _ _ _ number o, omega (arith, good .few))
 
 pub whole-few : (text : List ℕ) (number place : ℕ) → WholeRefused text number place → (number < 100) × (place < 10000)
-whole-few text number place (before f) = fault-small text number place f
+whole-few text number place (before f) = refused-small text number place f
 whole-few text _ _ (then c read (fails _)) = (omega arith, omega (arith, read .good .few))
 
 -- ---- every verdict
@@ -135,7 +135,7 @@ file-small : (file : ℕ) (text : List ℕ) (more : Reading → Verdict) → fil
     → (o : Outcome Reading) → reading text ≡ o → Small (ofFile file o more)
 file-small file text more h f (served c) e = f c e (reader .read-text text c e .0)
 file-small file text more h f (refused number place) e =
-    let (a, b) = fault-small text number place (reader .read-refused text number place .0 e) in (a, h, b)
+    let (a, b) = refused-small text number place (reader .read-refused text number place .0 e) in (a, h, b)
 
 second-small : (n : ℕ) (gs : List Gate) (text : List ℕ) → FileCascade n gs → Small (secondVerdict n gs text)
 unfolding secondVerdict

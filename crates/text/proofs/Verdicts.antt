@@ -30,7 +30,7 @@ use Rattle.checking.proofs.Promises.{miter-laws, reduce-laws, sweep-says, claus
 use Rattle.text.specs.Dimacs.{dimacsOf, dimacsRead}
 use Rattle.text.specs.Plain.{plainClauses}
 use Rattle.text.specs.BytesTell.{TextTells}
-use Rattle.text.specs.Compare.{maxFile, maxList, Files, cascades, faulty, secondFile, filesOf, Comparison, gatesLeft, sweptAs, listAs, compared, comparedFiles, comparison, comparisonText, compareText}
+use Rattle.text.specs.Compare.{maxFile, maxList, Files, cascades, wrongFiles, secondFile, filesOf, Comparison, gatesLeft, sweptAs, listAs, compared, comparedFiles, comparison, comparisonText, compareText}
 use Rattle.text.specs.WholeFile.{wholeFile}
 use Rattle.text.specs.TwoFiles.{TwoFiles, FilesRefused, first-long, second-long, first-file, second-file, lines-differ}
 use Rattle.text.specs.CompareLaws.{MayWrite, refuses, overflows, reduces, sweeps, differs, asks, Compares}
@@ -45,7 +45,7 @@ use Rattle.text.proofs.pair.Laws as pair
 module _ (first second : List ℕ) where
   abbrev pub Judged : Files → Type 0
   Judged (cascades n a b) = TwoFiles first second n a b
-  Judged (faulty number file place) = FilesRefused first second number file place
+  Judged (wrongFiles number file place) = FilesRefused first second number file place
 
   module _ (short : length first ≤ maxFile) (short-2 : length second ≤ maxFile) where
     module _ (n : ℕ) (a : List Gate) (good : FileCascade n a) (is : first ≡ textOf n a) where
@@ -95,12 +95,12 @@ module _ (first second : List ℕ) where
   judged-is (cascades n a b) t =
       first-is (t .first-bytes) (t .second-bytes) n a (t .first-good) (t .first-text)
       ∙ pair.second-same n a second _ (whole-is second n b (t .second-good) (t .second-text)) refl
-  judged-is (faulty _ _ _) (first-long h) = pair.first-long first second h
-  judged-is (faulty _ _ _) (second-long s h) = pair.second-long first second s h
-  judged-is (faulty _ _ _) (first-file number place s s2 w) = pair.first-refused first second s s2 number place (whole-refused first number place .1 w)
-  judged-is (faulty _ _ _) (second-file n a number place s s2 good e w) =
+  judged-is (wrongFiles _ _ _) (first-long h) = pair.first-long first second h
+  judged-is (wrongFiles _ _ _) (second-long s h) = pair.second-long first second s h
+  judged-is (wrongFiles _ _ _) (first-file number place s s2 w) = pair.first-refused first second s s2 number place (whole-refused first number place .1 w)
+  judged-is (wrongFiles _ _ _) (second-file n a number place s s2 good e w) =
       first-is s s2 n a good e ∙ pair.second-refused n a second number place (whole-refused second number place .1 w)
-  judged-is (faulty _ _ _) (lines-differ n a m b s s2 good e good-b e-b ne) =
+  judged-is (wrongFiles _ _ _) (lines-differ n a m b s s2 good e good-b e-b ne) =
       first-is s s2 n a good e ∙ pair.second-differs n a second _ (whole-is second m b good-b e-b) ne
 
 -- ---- two cascades
@@ -192,7 +192,7 @@ module _ (first second : List ℕ) (n : ℕ) (a b : List Gate) (t : TwoFiles fir
 
 said : (first second : List ℕ) (f : Files) → Judged first second f → MayWrite first second (comparisonText (comparedFiles f))
 said first second (cascades n a b) t = pair-verdict first second n a b t
-said first second (faulty number file place) f = refuses number file place refl f
+said first second (wrongFiles number file place) f = refuses number file place refl f
 
 pub compares : Compares compareText
 unfolding compareText comparison

@@ -207,11 +207,11 @@ counts lines gates taken = record { lines = lines; gates = gates; taken = taken 
 
 module _ (text : List ℕ) (room : ℕ) (long : fileWords ≤ room) where
   pub file-bad : (number place : ℕ) → readOutcome text room ≡ refused number place → reading text ≡ refused number place
-  file-bad number place e = faulty number place (read-refused text room number place .0 e)
+  file-bad number place e = wrong number place (read-refused text room number place .0 e)
     where
-      faulty : (number place : ℕ) → ReadRefused text room number place → reading text ≡ refused number place
-      faulty number place (before f) = reader .read-refused text number place .1 f
-      faulty _ _ (then c good (fails less)) = absurd (omega (arith, good .good .few))
+      wrong : (number place : ℕ) → ReadRefused text room number place → reading text ≡ refused number place
+      wrong number place (before f) = reader .read-refused text number place .1 f
+      wrong _ _ (then c good (fails less)) = absurd (omega (arith, good .good .few))
 
   pub file-read : (lines gates taken : ℕ) (buffer out : List ℕ) → length out ≡ room → readOutcome text (length out) ≡ served (counts lines gates taken) → buffer ≡ readBuffer text out
       → FileRead text lines gates taken buffer
