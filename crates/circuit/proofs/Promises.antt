@@ -13,7 +13,7 @@ pub use Rattle.circuit.proofs.lemmas.words.Gates.{valid-none, valid-par
 pub use Rattle.circuit.proofs.lemmas.words.Tests.{lines-good, size-served, from-served, next-good, next-bad, none-left, gates-refused, gates-sized, check-lines, check-gates, check-served, served-check, check-refused, refused-check, words-cascade, cascade-count, cascade-words, words-wrong, pair-served, served-pair, pair-refused, pair-wrong}
 -- a run and the inverse
 pub use Rattle.circuit.proofs.lemmas.run.Laws.{run-none, run-one, run-next, run-append, run-below, run-tested, equal-differs, run-refused, run-served, served-run}
-pub use Rattle.circuit.proofs.lemmas.run.Records.{records-words, records-served, served-records, records-fault, fault-records}
+pub use Rattle.circuit.proofs.lemmas.run.Records.{records-words, records-served, served-records, records-refused, refused-records}
 pub use Rattle.circuit.proofs.lemmas.inverse.Laws.{run-inverse, inverse-run, inverse-append, inverse-twice, inverse-valid, refused-exactly as inverse-refused, inverse-served, served-inverse, inverse-stands, inverse-untouched, put-fits as inverse-fits}
 -- files, and the bytes of a text
 pub use Rattle.circuit.proofs.lemmas.file.Laws.{reader, read-as, read-served, served-read, read-refused, write-served, served-write, write-refused, refuses-all}
