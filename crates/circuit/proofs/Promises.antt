@@ -13,13 +13,12 @@ pub use Rattle.circuit.proofs.lemmas.words.Gates.{valid-none, valid-par
 pub use Rattle.circuit.proofs.lemmas.words.Tests.{lines-good, size-served, from-served, next-good, next-bad, none-left, gates-refused, gates-sized, check-lines, check-gates, check-served, served-check, check-refused, refused-check, words-cascade, cascade-count, cascade-words, words-wrong, pair-served, served-pair, pair-refused, pair-wrong}
 -- a run and the inverse
 pub use Rattle.circuit.proofs.lemmas.run.Laws.{run-none, run-one, run-next, run-append, run-below, run-tested, equal-differs, run-refused, run-served, served-run}
-pub use Rattle.circuit.proofs.lemmas.run.Records.{records-words, records-served, served-records, records-fault, fault-records}
+pub use Rattle.circuit.proofs.lemmas.run.Records.{records-words, records-served, served-records, records-refused, refused-records}
 pub use Rattle.circuit.proofs.lemmas.inverse.Laws.{run-inverse, inverse-run, inverse-append, inverse-twice, inverse-valid, refused-exactly as inverse-refused, inverse-served, served-inverse, inverse-stands, inverse-untouched, put-fits as inverse-fits}
 -- files, and the bytes of a text
 pub use Rattle.circuit.proofs.lemmas.file.Laws.{reader, read-as, read-served, served-read, read-refused, write-served, served-write, write-refused, refuses-all}
 pub use Rattle.circuit.proofs.lemmas.file.RoundTrip.{round-trip, idle-reading, idle-writing, read-leaves}
 pub use Rattle.circuit.proofs.lemmas.file.Controls.{controls-inside}
-unfoldable pub use Rattle.circuit.proofs.lemmas.file.Lines.{separated}
-pub use Rattle.circuit.proofs.lemmas.file.Lines.{whole, parts-none, parts-some, parts-cut, parts-one, parts-back, same-true, same-self, true-same}
+pub use Rattle.circuit.proofs.lemmas.file.Lines.{whole, whole-one, whole-next, parts-none, parts-some, parts-cut, parts-one, parts-back, same-true, same-self, true-same}
 pub use Rattle.circuit.proofs.lemmas.file.Numbers.{is-digit, digit-bounds}
 pub use Rattle.circuit.proofs.lemmas.file.put.Laws.{Written, copied, written-none, written-first, written-more, written-put, put-as, rest-length}

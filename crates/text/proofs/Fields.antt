@@ -5,7 +5,7 @@ use mathlib.Core.List.{List, [], _∷_, _++_}
 use mathlib.Core.Option.{some}
 use Prim.Native.Nat.{ℕ}
 use Rattle.bits.proofs.Lists.{free, free-append}
-use Rattle.circuit.specs.File.{partedBy}
+use Rattle.circuit.specs.File.{partedBy, fieldsOf}
 use Rattle.circuit.specs.Text.{tab, lineFeed}
 use Rattle.circuit.proofs.Promises.{parts-cut, parts-one}
 use Rattle.text.specs.Dimacs.{decimal, numberRead}
@@ -28,7 +28,7 @@ closed-apart j k e =
     decimal-apart j k g
 
 module _ (word : List ℕ) (h : free tab word ≡ true) where
-  three-fields : (a b c : ℕ) → partedBy tab (word ++ (tab ∷ numbersText a b c)) ≡ word ∷ decimal a ∷ decimal b ∷ closed c ∷ []
+  three-fields : (a b c : ℕ) → fieldsOf (word ++ (tab ∷ numbersText a b c)) ≡ word ∷ decimal a ∷ decimal b ∷ closed c ∷ []
   three-fields a b c =
       parts-cut tab word _ h
       ∙ ap (λ (l : List (List ℕ)). word ∷ l)
@@ -44,7 +44,7 @@ module _ (word : List ℕ) (h : free tab word ≡ true) where
   three-apart : (a b c a′ b′ c′ : ℕ) → word ++ (tab ∷ numbersText a b c) ≡ word ++ (tab ∷ numbersText a′ b′ c′) → (a ≡ a′) × (b ≡ b′) × (c ≡ c′)
   three-apart a b c a′ b′ c′ e =
       let f : word ∷ decimal a ∷ decimal b ∷ closed c ∷ [] ≡ word ∷ decimal a′ ∷ decimal b′ ∷ closed c′ ∷ [] =
-      sym (three-fields a b c) ∙ ap (partedBy tab) e ∙ three-fields a′ b′ c′ in
+      sym (three-fields a b c) ∙ ap fieldsOf e ∙ three-fields a′ b′ c′ in
       let x : decimal a ≡ decimal a′ = cc in
       let y : decimal b ≡ decimal b′ = cc in
       let z : closed c ≡ closed c′ = cc in
@@ -55,7 +55,7 @@ module _ (word : List ℕ) (h : free tab word ≡ true) where
 refused-free : free tab refusedWord ≡ true
 refused-free = unfold free in refl
 
-pub refusal-fields : (number file place : ℕ) → partedBy tab (refusalText number file place) ≡ refusedWord ∷ decimal number ∷ decimal file ∷ (decimal place ++ (lineFeed ∷ [])) ∷ []
+pub refusal-fields : (number file place : ℕ) → fieldsOf (refusalText number file place) ≡ refusedWord ∷ decimal number ∷ decimal file ∷ (decimal place ++ (lineFeed ∷ [])) ∷ []
 unfolding refusalText
 refusal-fields number file place = three-fields refusedWord refused-free number file place
 
@@ -69,7 +69,7 @@ refusal-apart number file place number′ file′ place′ e = three-apart refus
 differ-free : free tab differWord ≡ true
 differ-free = unfold free in refl
 
-pub differ-fields : (state first second : ℕ) → partedBy tab (differText state first second) ≡ differWord ∷ decimal state ∷ decimal first ∷ (decimal second ++ (lineFeed ∷ [])) ∷ []
+pub differ-fields : (state first second : ℕ) → fieldsOf (differText state first second) ≡ differWord ∷ decimal state ∷ decimal first ∷ (decimal second ++ (lineFeed ∷ [])) ∷ []
 unfolding differText
 differ-fields state first second = three-fields differWord differ-free state first second
 

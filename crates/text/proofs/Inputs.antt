@@ -20,13 +20,13 @@ use Rattle.circuit.specs.Text.{digit}
 use Rattle.circuit.proofs.Promises.{demand-met}
 use Rattle.text.specs.Dimacs.{thenRead}
 use Rattle.text.specs.Tomiter.{refusalText}
-use Rattle.text.specs.Compare.{fileWords, Files, cascades, faulty, filesOf, differWord}
+use Rattle.text.specs.Compare.{fileWords, Files, cascades, wrongFiles, filesOf, differWord}
 use Rattle.text.specs.Answers.{fitOutcome, WritesWhere}
 use Rattle.text.specs.TwoFiles.{TwoFiles, FilesRefused}
 use Rattle.text.specs.CheckInput.{maxChecked, stateText, stateRead, agreeWord, outputsText, checkedOn, checkedFiles, checked, checkedText, checkText, InputRoomsFit, inputOutcome, inputBuffer}
 use Rattle.text.specs.CheckInputLaws.{saidOf, ChecksInput}
 use Rattle.text.proofs.Writes.{two-tests, writes-where}
-use Rattle.text.proofs.Longest.{fault-few}
+use Rattle.text.proofs.Longest.{refused-few}
 use Rattle.text.proofs.Verdicts.{Judged, judged, judged-is}
 use Rattle.text.proofs.Decimal.{decimal-few}
 use Rattle.text.proofs.answer.Laws.{refusal-long}
@@ -90,7 +90,7 @@ pub refused-told : (first second state : List ℕ) (number file place : ℕ) →
     → checkText first second state ≡ refusalText number file place
 unfolding checkText checked
 refused-told first second state number file place r =
-    ap (λ (f : Files). checkedText (checkedFiles f state)) (judged-is first second (faulty number file place) r)
+    ap (λ (f : Files). checkedText (checkedFiles f state)) (judged-is first second (wrongFiles number file place) r)
 
 module _ (first second : List ℕ) (n : ℕ) (a b : List Gate) (t : TwoFiles first second n a b) where
   told-of : (state : List ℕ) → checkText first second state ≡ checkedText (checkedOn n a b (stateRead n state))
@@ -148,7 +148,7 @@ module _ (program : List ℕ → List ℕ → List ℕ → List ℕ) (other : Li
 
   on-files : (state : List ℕ) (f : Files) → Judged first second f → program first second state ≡ other first second state
   on-files state (cascades n a b) t = on-text n a b t state (stateRead n state) refl
-  on-files state (faulty number file place) r = p .refused-told first second state number file place r ∙ sym (q .refused-told first second state number file place r)
+  on-files state (wrongFiles number file place) r = p .refused-told first second state number file place r ∙ sym (q .refused-told first second state number file place r)
 
 pub checks-only : (program : List ℕ → List ℕ → List ℕ → List ℕ) → ChecksInput program → (first second state : List ℕ)
     → program first second state ≡ checkText first second state
@@ -166,7 +166,7 @@ on-few n a b h none = refusal-few 9 0 0 (omega arith) (omega arith) (omega arith
 
 files-few : (first second state : List ℕ) (f : Files) → Judged first second f → length (checkedText (checkedFiles f state)) ≤ maxChecked
 files-few first second state (cascades n a b) t = on-few n a b (t .first-good .lines-high) (stateRead n state)
-files-few first second state (faulty number file place) f = let (x, y, z) = fault-few first second number file place f in refusal-few number file place x y z
+files-few first second state (wrongFiles number file place) f = let (x, y, z) = refused-few first second number file place f in refusal-few number file place x y z
 
 pub text-fits : (first second state : List ℕ) → length (checkText first second state) ≤ maxChecked
 unfolding checkText checked

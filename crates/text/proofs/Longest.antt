@@ -21,7 +21,7 @@ use Rattle.checking.proofs.Promises.{sweep-says, clause-laws}
 use Rattle.text.specs.Dimacs.{headerText, clausesText, dimacsOf}
 use Rattle.text.specs.Plain.{plainClauses}
 use Rattle.text.specs.Tomiter.{refusalText}
-use Rattle.text.specs.Compare.{maxList, maxCompared, Files, cascades, faulty, filesOf, Comparison, gatesLeft, sweptAs, listAs, compared, comparedFiles, comparison, comparisonText, compareText, Rooms, RoomsFit, compareOutcome}
+use Rattle.text.specs.Compare.{maxList, maxCompared, Files, cascades, wrongFiles, filesOf, Comparison, gatesLeft, sweptAs, listAs, compared, comparedFiles, comparison, comparisonText, compareText, Rooms, RoomsFit, compareOutcome}
 use Rattle.text.specs.TwoFiles.{TwoFiles, FilesRefused, first-long, second-long, first-file, second-file, lines-differ}
 use Rattle.text.proofs.Decimal.{decimal-few}
 use Rattle.text.proofs.Sizes.{variable-few, whole-few}
@@ -33,12 +33,12 @@ use Rattle.text.proofs.answer.Laws.{fit-fits, digits-few, differ-long, 
 
 -- ---- refusals
 
-pub fault-few : (first second : List ℕ) (number file place : ℕ) → FilesRefused first second number file place → (number < 100) × (file < 10) × (place < 10000)
-fault-few first second _ _ _ (first-long _) = (omega arith, omega arith, omega arith)
-fault-few first second _ _ _ (second-long _ _) = (omega arith, omega arith, omega arith)
-fault-few first second _ _ _ (first-file number place _ _ w) = let (a, b) = whole-few first number place w in (a, omega arith, b)
-fault-few first second _ _ _ (second-file n a number place _ _ _ _ w) = let (x, y) = whole-few second number place w in (x, omega arith, y)
-fault-few first second _ _ _ (lines-differ n a m b _ _ _ _ _ _ _) = (omega arith, omega arith, omega arith)
+pub refused-few : (first second : List ℕ) (number file place : ℕ) → FilesRefused first second number file place → (number < 100) × (file < 10) × (place < 10000)
+refused-few first second _ _ _ (first-long _) = (omega arith, omega arith, omega arith)
+refused-few first second _ _ _ (second-long _ _) = (omega arith, omega arith, omega arith)
+refused-few first second _ _ _ (first-file number place _ _ w) = let (a, b) = whole-few first number place w in (a, omega arith, b)
+refused-few first second _ _ _ (second-file n a number place _ _ _ _ w) = let (x, y) = whole-few second number place w in (x, omega arith, y)
+refused-few first second _ _ _ (lines-differ n a m b _ _ _ _ _ _ _) = (omega arith, omega arith, omega arith)
 
 refusal-few : (number file place : ℕ) → number < 100 → file < 10 → place < 10000 → length (refusalText number file place) ≤ maxCompared
 refusal-few number file place a b c =
@@ -101,7 +101,7 @@ module _ (first second : List ℕ) (n : ℕ) (a b : List Gate) (t : TwoFiles fir
 
 files-few : (first second : List ℕ) (f : Files) → Judged first second f → length (comparisonText (comparedFiles f)) ≤ maxCompared
 files-few first second (cascades n a b) t = pair-few first second n a b t
-files-few first second (faulty number file place) f = let (x, y, z) = fault-few first second number file place f in refusal-few number file place x y z
+files-few first second (wrongFiles number file place) f = let (x, y, z) = refused-few first second number file place f in refusal-few number file place x y z
 
 pub text-fits : (first second : List ℕ) → length (compareText first second) ≤ maxCompared
 unfolding compareText comparison

@@ -21,7 +21,7 @@ use Rattle.checking.proofs.Promises.{sweep-says}
 use Rattle.text.specs.Dimacs.{Dimacs, headerText, dimacsRead}
 use Rattle.text.specs.Tomiter.{refusalText}
 use Rattle.text.specs.BytesTell.{TextTells}
-use Rattle.text.specs.Compare.{maxList, Files, cascades, faulty, filesOf, Comparison, reduced, gatesLeft, sweptAs, listAs, compared, comparedFiles, comparison, comparisonText, compareText, equalText, differText}
+use Rattle.text.specs.Compare.{maxList, Files, cascades, wrongFiles, filesOf, Comparison, reduced, gatesLeft, sweptAs, listAs, compared, comparedFiles, comparison, comparisonText, compareText, equalText, differText}
 use Rattle.text.specs.TwoFiles.{TwoFiles, FilesRefused}
 use Rattle.text.specs.CompareLaws.{MayWrite, refuses, overflows, reduces, sweeps, differs, asks, Compares}
 use Rattle.text.proofs.Fields.{differ-apart}
@@ -34,15 +34,15 @@ use Rattle.text.proofs.StandIns.{once, once-runs, none-good, once-good,
 
 abbrev linesIn : Files → ℕ
 linesIn (cascades n a b) = n
-linesIn (faulty number file place) = 0
+linesIn (wrongFiles number file place) = 0
 
 abbrev firstIn : Files → List Gate
 firstIn (cascades n a b) = a
-firstIn (faulty number file place) = []
+firstIn (wrongFiles number file place) = []
 
 abbrev secondIn : Files → List Gate
 secondIn (cascades n a b) = b
-secondIn (faulty number file place) = []
+secondIn (wrongFiles number file place) = []
 
 -- the same cascades
 record Same (n m : ℕ) (a b c d : List Gate) : Type 0 where
@@ -55,10 +55,10 @@ same first second n m a b c d s t =
     let f = sym (judged-is first second (cascades n a b) s) ∙ judged-is first second (cascades m c d) t in
     record { lines = ap linesIn f; first = ap firstIn f; second = ap secondIn f }
 
--- two cascades are not faulty
+-- two cascades are not refused
 not-both : (first second : List ℕ) (n : ℕ) (a b : List Gate) (number file place : ℕ) → TwoFiles first second n a b → FilesRefused first second number file place → ⊥
 not-both first second n a b number file place t r =
-    let f = sym (judged-is first second (cascades n a b) t) ∙ judged-is first second (faulty number file place) r in
+    let f = sym (judged-is first second (cascades n a b) t) ∙ judged-is first second (wrongFiles number file place) r in
     let z : _≡_ {A = ℕ} 0 1 = cc in
     omega arith
 
@@ -88,13 +88,13 @@ tells-start text n a b t = read-start text (t .read) (t .is-read)
 
 -- ---- what is wrong with the files is told
 
-abbrev faultText : Files → List ℕ
-faultText (cascades n a b) = []
-faultText (faulty number file place) = refusalText number file place
+abbrev refusedText : Files → List ℕ
+refusedText (cascades n a b) = []
+refusedText (wrongFiles number file place) = refusalText number file place
 
 module _ (one two : List ℕ) (number file place : ℕ) (r : FilesRefused one two number file place) where
   refused-case : (text : List ℕ) → MayWrite one two text → text ≡ refusalText number file place
-  refused-case text (refuses k f p e s) = e ∙ ap faultText (sym (judged-is one two (faulty k f p) s) ∙ judged-is one two (faulty number file place) r)
+  refused-case text (refuses k f p e s) = e ∙ ap refusedText (sym (judged-is one two (wrongFiles k f p) s) ∙ judged-is one two (wrongFiles number file place) r)
   refused-case text (overflows m c d s f g h i) = absurd (not-both one two m c d number file place s r)
   refused-case text (reduces m c d s f g h) = absurd (not-both one two m c d number file place s r)
   refused-case text (sweeps m c d s f g h i) = absurd (not-both one two m c d number file place s r)
@@ -228,7 +228,7 @@ module _ (one two : List ℕ) where
 
   decided : (text : List ℕ) → MayWrite one two text → text ≡ compareText one two
   unfolding listAs
-  decided text (refuses k f p e s) = e ∙ sym (text-at (faulty k f p) (judged-is one two (faulty k f p) s))
+  decided text (refuses k f p e s) = e ∙ sym (text-at (wrongFiles k f p) (judged-is one two (wrongFiles k f p) s))
   decided text (overflows n a b t e g h i) = e ∙ sym (due n a b t _ (by-listed n a b t g h ∙ cond-false (leb (length (stored (clausesOf n (gatesLeft a b)))) maxList) _ _ (lt-leb _ _ i)))
   decided text (reduces n a b t e g h) = e ∙ sym (due n a b t _ (by-none n a b t g))
   decided text (sweeps n a b t e g h i) = e ∙ sym (due n a b t _ (by-swept n a b t g h ∙ ap (sweptAs a b) (none-found n a b t i (lowestFrom a b 0 (2 ^ n)) (sweep-says a b n))))

@@ -15,7 +15,7 @@ use Rattle.text.specs.BytesTell.{StartsProblem, TextTells, BytesTell}
 use Rattle.text.specs.TextLaws.{ProgramRefused, RightText, clauses, refusal, ProgramLaws, AsBuilt}
 use Rattle.text.proofs.Fields.{refusal-apart}
 use Rattle.text.proofs.Telling.{refusal-starts, listed-fits, text-starts, text-fitting, text-told, as-built, dimacs-starts}
-use Rattle.text.proofs.Faults.{refused-exactly}
+use Rattle.text.proofs.Refusals.{refused-exactly}
 use Rattle.text.proofs.Writes.{writes-where}
 
 -- ---- the program

@@ -10,7 +10,7 @@ use lib.ListN.{length, drop, length-append}
 use borrow.Author.Tests.{eqb-true, leb-true}
 use Rattle.bits.proofs.Bools.{either, cond-true, cond-false}
 use Rattle.circuit.specs.declared.gate.Gate.{Gate}
-use Rattle.circuit.specs.Outcome.{Outcome, served, refused}
+use Rattle.circuit.specs.Outcome.{Outcome, served, refused, before, then, fails}
 use Rattle.circuit.specs.Text.{tab, lineFeed}
 use Rattle.circuit.specs.File.{Line, Reading, reading}
 use Rattle.circuit.specs.FileLaws.{FileCascade, HeaderOffence, no-lines, no-number, outside, ControlsOffence, form, value, later, LineOffence, no-gate, many, target-form, target-value, controls, controlled, not-rising, FileRefused, header-line, later-line}
@@ -22,7 +22,7 @@ use Rattle.checking.specs.Satisfaction.{variableOf, LiteralsWithin, clauseLiter
 use Rattle.checking.specs.Stored.{storedClause, stored}
 use Rattle.checking.proofs.Promises.{clause-laws, stored-next}
 use Rattle.text.specs.Dimacs.{blank, decimal, literalText, literalsText, closing, clauseText, clausesText, headerText, dimacsOf}
-use Rattle.text.specs.WholeFile.{wholeFile, WholeRefused, line, after}
+use Rattle.text.specs.WholeFile.{wholeFile, WholeRefused}
 use Rattle.text.specs.Tomiter.{maxInput, maxWords, maxText, Verdict, listed, refusedAt, ofFile, listVerdict, pairVerdict, secondVerdict, verdict, refusalText, verdictText, tomiterText, tomiterOutcome}
 use Rattle.text.proofs.Decimal.{decimal-few}
 use Rattle.text.proofs.WholeFile.{WholeJudged, whole-judged}
@@ -102,13 +102,13 @@ line-number n i count l _ (laws.LineOffence.no-end _ _ _ _ _) = omega arith
 line-number n i count l _ (controlled _ _ _ _ _ _) = omega arith
 line-number n i count l _ (not-rising _ _ _ _ _ _ _) = omega arith
 
-pub fault-small : (text : List ℕ) (number place : ℕ) → FileRefused text number place → (number < 100) × (place < 10000)
-fault-small text _ _ (header-line number o) = (header-number _ number o, omega arith)
-fault-small text _ _ (later-line n gs rest good starts number o) = (line-number n _ _ _ number o, omega (arith, good .few))
+pub refused-small : (text : List ℕ) (number place : ℕ) → FileRefused text number place → (number < 100) × (place < 10000)
+refused-small text _ _ (header-line number o) = (header-number _ number o, omega arith)
+refused-small text _ _ (later-line n gs rest good starts number o) = (line-number n _ _ _ number o, omega (arith, good .few))
 
 pub whole-few : (text : List ℕ) (number place : ℕ) → WholeRefused text number place → (number < 100) × (place < 10000)
-whole-few text _ _ (line number place f) = fault-small text number place f
-whole-few text _ _ (after n a rest good _ _) = (omega arith, omega (arith, good .few))
+whole-few text number place (before f) = refused-small text number place f
+whole-few text _ _ (then c read (fails _)) = (omega arith, omega (arith, read .good .few))
 
 -- ---- every verdict
 
@@ -135,7 +135,7 @@ file-small : (file : ℕ) (text : List ℕ) (more : Reading → Verdict) → fil
     → (o : Outcome Reading) → reading text ≡ o → Small (ofFile file o more)
 file-small file text more h f (served c) e = f c e (reader .read-text text c e .0)
 file-small file text more h f (refused number place) e =
-    let (a, b) = fault-small text number place (reader .read-refused text number place .0 e) in (a, h, b)
+    let (a, b) = refused-small text number place (reader .read-refused text number place .0 e) in (a, h, b)
 
 second-small : (n : ℕ) (gs : List Gate) (text : List ℕ) → FileCascade n gs → Small (secondVerdict n gs text)
 unfolding secondVerdict

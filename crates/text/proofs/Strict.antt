@@ -11,7 +11,7 @@ use borrow.Author.Tests.{eqb-true, eqb-false}
 use Rattle.bits.proofs.Bools.{either, cond-true, cond-false}
 use Rattle.circuit.specs.Text.{lineFeed, minusSign, digit}
 use Rattle.circuit.specs.File.{partedBy, isDigit, same}
-use Rattle.circuit.proofs.Promises.{separated, whole, parts-back, same-true, digit-bounds}
+use Rattle.circuit.proofs.Promises.{whole, whole-one, whole-next, parts-back, same-true, digit-bounds}
 use Rattle.checking.specs.Clauses.{Clause, OR, XOR}
 use Rattle.text.specs.Dimacs.{blank, xorSign, problemWord, cnfWord, decimal, literalText, literalsText, clausesText, headerText, bothRead, thenRead, digitsRead, numberRead, signedRead, literalRead, literalsRead, clauseRead, linesRead, Dimacs, Header, header, headerRead, headed, readLines, dimacsRead}
 use Rattle.text.proofs.Decimal.{decimal-short, decimal-long}
@@ -39,6 +39,10 @@ was-true false x a e = absurd (nothing e)
 was-false : {A : Type 0} (t : Bool) (x : Option A) (a : A) → mathlib.Core.Bool.cond t none x ≡ some a → (t ≡ false) × (x ≡ some a)
 was-false true x a e = absurd (nothing e)
 was-false false x a e = (refl, e)
+
+-- one part more, and what the part and the others are
+next-was : (s : ℕ) (f g : List ℕ) (fs : List (List ℕ)) {w r : List ℕ} → f ≡ w → whole s (g ∷ fs) ≡ r → whole s (f ∷ g ∷ fs) ≡ w ++ (s ∷ r)
+next-was s f g fs a b = whole-next s f g fs ∙ ap₂ (λ (x y : List ℕ). x ++ (s ∷ y)) a b
 
 -- ---- a number
 
@@ -104,15 +108,15 @@ literal-was (b ∷ bs) l e =
 -- ---- a clause
 
 literals-were : (fs : List (List ℕ)) (ls : List ℤ) → literalsRead fs ≡ some ls → whole blank fs ≡ bodyText ls
-unfolding literalsRead separated literalsText
+unfolding literalsRead literalsText
 literals-were [] ls e = absurd (nothing e)
 literals-were (f ∷ []) ls e =
     let (t, r) = was-true (same f (48 ∷ [])) (some []) ls e in
     let n : [] ≡ ls = cc in
-    append-nil f ∙ same-true f (48 ∷ []) t ∙ ap bodyText n
+    whole-one blank f ∙ same-true f (48 ∷ []) t ∙ ap bodyText n
 literals-were (f ∷ g ∷ fs) ls e =
     let (l, ms, a, b, is) = both-were _∷_ (literalRead f) (literalsRead (g ∷ fs)) ls e in
-    ap₂ (λ (x y : List ℕ). x ++ (blank ∷ y)) (literal-was f l a) (literals-were (g ∷ fs) ms b) ∙ sym (body-next l ms) ∙ ap bodyText is
+    next-was blank f g fs (literal-was f l a) (literals-were (g ∷ fs) ms b) ∙ sym (body-next l ms) ∙ ap bodyText is
 
 clause-was : (line : List ℕ) (c : Clause) → clauseRead line ≡ some c → line ≡ lineText c
 unfolding clauseRead
@@ -129,20 +133,20 @@ clause-was (b ∷ bs) c e =
 -- ---- the clauses
 
 lines-were : (ls : List (List ℕ)) (cs : List Clause) → linesRead ls ≡ some cs → whole lineFeed ls ≡ clausesText cs
-unfolding linesRead separated clausesText
+unfolding linesRead clausesText
 lines-were [] cs e = absurd (nothing e)
 lines-were (l ∷ []) cs e =
     let (t, r) = was-true (same l []) (some []) cs e in
     let n : [] ≡ cs = cc in
-    append-nil l ∙ same-true l [] t ∙ ap clausesText n
+    whole-one lineFeed l ∙ same-true l [] t ∙ ap clausesText n
 lines-were (l ∷ k ∷ ls) cs e =
     let (c, ds, a, b, is) = both-were _∷_ (clauseRead l) (linesRead (k ∷ ls)) cs e in
-    ap₂ (λ (x y : List ℕ). x ++ (lineFeed ∷ y)) (clause-was l c a) (lines-were (k ∷ ls) ds b) ∙ sym (line-closed c (clausesText ds)) ∙ ap clausesText is
+    next-was lineFeed l k ls (clause-was l c a) (lines-were (k ∷ ls) ds b) ∙ sym (line-closed c (clausesText ds)) ∙ ap clausesText is
 
 -- ---- the header
 
 header-was : (fs : List (List ℕ)) (h : Header) → headerRead fs ≡ some h → whole blank fs ≡ headerLine (h .variables) (h .count)
-unfolding headerRead separated
+unfolding headerRead
 header-was [] h e = absurd (nothing e)
 header-was (p ∷ []) h e = absurd (nothing e)
 header-was (p ∷ c ∷ []) h e = absurd (nothing e)
@@ -151,20 +155,19 @@ header-was (p ∷ c ∷ v ∷ m ∷ []) h e =
     let (s, d) = was-true (same p problemWord) _ h e in
     let (t, f) = was-true (same c cnfWord) _ h d in
     let (x, y, a, b, is) = both-were header (numberRead v) (numberRead m) h f in
-    ap₂ (λ (i j : List ℕ). i ++ ((blank ∷ j) ++ ((blank ∷ v) ++ ((blank ∷ m) ++ [])))) (same-true p problemWord s) (same-true c cnfWord t)
-    ∙ ap₂ (λ (i j : List ℕ). problemWord ++ ((blank ∷ cnfWord) ++ ((blank ∷ i) ++ (blank ∷ j)))) (number-was v x a) (append-nil m ∙ number-was m y b)
+    next-was blank p c (v ∷ m ∷ []) (same-true p problemWord s) (next-was blank c v (m ∷ []) (same-true c cnfWord t) (next-was blank v m [] (number-was v x a) (whole-one blank m ∙ number-was m y b)))
     ∙ ap (λ (k : Header). headerLine (k .variables) (k .count)) is
 header-was (p ∷ c ∷ v ∷ m ∷ f ∷ fs) h e = absurd (nothing e)
 
 -- ---- the whole text
 
 read-were : (ls : List (List ℕ)) (d : Dimacs) → readLines ls ≡ some d → whole lineFeed ls ≡ headerText (d .variables) (d .count) ++ clausesText (d .clauses)
-unfolding readLines linesRead separated
+unfolding readLines linesRead
 read-were [] d e = absurd (nothing e)
 read-were (l ∷ []) d e = let (h, cs, a, b, is) = both-were headed (headerRead (partedBy blank l)) none d e in absurd (nothing b)
 read-were (l ∷ k ∷ ls) d e =
     let (h, cs, a, b, is) = both-were headed (headerRead (partedBy blank l)) (linesRead (k ∷ ls)) d e in
-    ap₂ (λ (x y : List ℕ). x ++ (lineFeed ∷ y)) (sym (parts-back blank l) ∙ header-was (partedBy blank l) h a) (lines-were (k ∷ ls) cs b)
+    next-was lineFeed l k ls (sym (parts-back blank l) ∙ header-was (partedBy blank l) h a) (lines-were (k ∷ ls) cs b)
     ∙ sym (header-closed (h .variables) (h .count) (clausesText cs))
     ∙ ap (λ (x : Dimacs). headerText (x .variables) (x .count) ++ clausesText (x .clauses)) is
 

@@ -17,7 +17,7 @@ use Rattle.circuit.specs.Run.{run, Equal}
 use Rattle.circuit.specs.Text.{textOf}
 use Rattle.circuit.specs.File.{Reading}
 use Rattle.circuit.specs.FileLaws.{FileCascade}
-use Rattle.circuit.proofs.Promises.{valid-all-more}
+use Rattle.circuit.proofs.Promises.{valid-all-more, run-none}
 use Rattle.checking.specs.Miter.{miterGates}
 use Rattle.checking.specs.StepLaws.{Keeps}
 use Rattle.checking.specs.Reduce.{reduceGates}
@@ -30,7 +30,7 @@ use Rattle.checking.proofs.Promises.{miter-laws, reduce-laws, sweep-says, claus
 use Rattle.text.specs.Dimacs.{dimacsOf, dimacsRead}
 use Rattle.text.specs.Plain.{plainClauses}
 use Rattle.text.specs.BytesTell.{TextTells}
-use Rattle.text.specs.Compare.{maxFile, maxList, Files, cascades, faulty, secondFile, filesOf, Comparison, gatesLeft, sweptAs, listAs, compared, comparedFiles, comparison, comparisonText, compareText}
+use Rattle.text.specs.Compare.{maxFile, maxList, Files, cascades, wrongFiles, secondFile, filesOf, Comparison, gatesLeft, sweptAs, listAs, compared, comparedFiles, comparison, comparisonText, compareText}
 use Rattle.text.specs.WholeFile.{wholeFile}
 use Rattle.text.specs.TwoFiles.{TwoFiles, FilesRefused, first-long, second-long, first-file, second-file, lines-differ}
 use Rattle.text.specs.CompareLaws.{MayWrite, refuses, overflows, reduces, sweeps, differs, asks, Compares}
@@ -45,7 +45,7 @@ use Rattle.text.proofs.pair.Laws as pair
 module _ (first second : List ℕ) where
   abbrev pub Judged : Files → Type 0
   Judged (cascades n a b) = TwoFiles first second n a b
-  Judged (faulty number file place) = FilesRefused first second number file place
+  Judged (wrongFiles number file place) = FilesRefused first second number file place
 
   module _ (short : length first ≤ maxFile) (short-2 : length second ≤ maxFile) where
     module _ (n : ℕ) (a : List Gate) (good : FileCascade n a) (is : first ≡ textOf n a) where
@@ -95,12 +95,12 @@ module _ (first second : List ℕ) where
   judged-is (cascades n a b) t =
       first-is (t .first-bytes) (t .second-bytes) n a (t .first-good) (t .first-text)
       ∙ pair.second-same n a second _ (whole-is second n b (t .second-good) (t .second-text)) refl
-  judged-is (faulty _ _ _) (first-long h) = pair.first-long first second h
-  judged-is (faulty _ _ _) (second-long s h) = pair.second-long first second s h
-  judged-is (faulty _ _ _) (first-file number place s s2 w) = pair.first-refused first second s s2 number place (whole-refused first number place w)
-  judged-is (faulty _ _ _) (second-file n a number place s s2 good e w) =
-      first-is s s2 n a good e ∙ pair.second-refused n a second number place (whole-refused second number place w)
-  judged-is (faulty _ _ _) (lines-differ n a m b s s2 good e good-b e-b ne) =
+  judged-is (wrongFiles _ _ _) (first-long h) = pair.first-long first second h
+  judged-is (wrongFiles _ _ _) (second-long s h) = pair.second-long first second s h
+  judged-is (wrongFiles _ _ _) (first-file number place s s2 w) = pair.first-refused first second s s2 number place (whole-refused first number place .1 w)
+  judged-is (wrongFiles _ _ _) (second-file n a number place s s2 good e w) =
+      first-is s s2 n a good e ∙ pair.second-refused n a second number place (whole-refused second number place .1 w)
+  judged-is (wrongFiles _ _ _) (lines-differ n a m b s s2 good e good-b e-b ne) =
       first-is s s2 n a good e ∙ pair.second-differs n a second _ (whole-is second m b good-b e-b) ne
 
 -- ---- two cascades
@@ -127,19 +127,18 @@ module _ (first second : List ℕ) (n : ℕ) (a b : List Gate) (t : TwoFiles fir
       omega (arith, l .few, reduce-laws .reduce-count (miterGates a b) gl _ _ (reduce-laws .reduce-reduces (miterGates a b) (valid-all-more n maxLines (miterGates a b) lines valid) (reduceGates (miterGates a b)) .0 refl))
 
   -- so it is the identity on a state exactly where the cascades agree
-  identity : (x : ℕ) → (run gl x ≡ x) ↔ (run a x ≡ run b x)
+  identity : (x : ℕ) → (run gl x ≡ run [] x) ↔ (run a x ≡ run b x)
   identity x =
       let (f, g) = miter-laws .identity a b x in
-      ((λ e. f (sym (kept .same x) ∙ e)), (λ e. kept .same x ∙ g e))
+      ((λ e. f (sym (kept .same x) ∙ e ∙ run-none x)), (λ e. kept .same x ∙ g e ∙ sym (run-none x)))
 
   none-equal : gl ≡ [] → Equal n a b
-  none-equal e x h = identity x .0 (unfold Rattle.bits.specs.Lists.fold in ap (λ (gs : List Gate). run gs x) e)
+  none-equal e x h = identity x .0 (ap (λ (gs : List Gate). run gs x) e)
 
   abbrev cs : List Clause
   cs = clausesOf n gl
 
   tells : Tells n (variablesOf n gl) (plainClauses cs) a b
-  unfolding Rattle.bits.specs.Lists.fold
   tells =
       plain-tells n (variablesOf n gl) cs a b
       (tells-same n (variablesOf n gl) cs gl [] a b identity (clause-laws .list-tells n gl lines (kept .good)))
@@ -193,7 +192,7 @@ module _ (first second : List ℕ) (n : ℕ) (a b : List Gate) (t : TwoFiles fir
 
 said : (first second : List ℕ) (f : Files) → Judged first second f → MayWrite first second (comparisonText (comparedFiles f))
 said first second (cascades n a b) t = pair-verdict first second n a b t
-said first second (faulty number file place) f = refuses number file place refl f
+said first second (wrongFiles number file place) f = refuses number file place refl f
 
 pub compares : Compares compareText
 unfolding compareText comparison

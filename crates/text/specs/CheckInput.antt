@@ -12,7 +12,7 @@ use Rattle.circuit.specs.Run.{run}
 use Rattle.circuit.specs.Text.{tab, lineFeed, digit}
 use Rattle.text.specs.Dimacs.{thenRead}
 use Rattle.text.specs.Tomiter.{refusalText}
-use Rattle.text.specs.Compare.{fileWords, Files, cascades, faulty, filesOf, differWord}
+use Rattle.text.specs.Compare.{fileWords, Files, cascades, wrongFiles, filesOf, differWord}
 use Rattle.text.specs.Answers.{fitOutcome}
 
 -- no text has more bytes: `differ`, two states of 64 lines after a tab each, and an LF
@@ -44,7 +44,7 @@ checkedOn n a b none = refusedAt badState 0 0
 -- what is wrong with the files comes first
 abbrev pub checkedFiles : Files → List ℕ → Checked
 checkedFiles (cascades n a b) state = checkedOn n a b (stateRead n state)
-checkedFiles (faulty number file place) state = refusedAt number file place
+checkedFiles (wrongFiles number file place) state = refusedAt number file place
 
 unfoldable pub checked : List ℕ → List ℕ → List ℕ → Checked
 checked first second state = checkedFiles (filesOf first second) state

@@ -45,17 +45,17 @@ maxCompared = 4194322
 -- two cascades on n lines; or a refusal's number, file (1, 2, or 0 for both) and place
 pub data Files : Type 0 where
   cascades : ℕ → List Gate → List Gate → Files
-  faulty : ℕ → ℕ → ℕ → Files
+  wrongFiles : ℕ → ℕ → ℕ → Files
 
 -- goes on with the cascade of a file; what is wrong with it is said of that file
 abbrev pub inFile : ℕ → Outcome Reading → (Reading → Files) → Files
 inFile file (served c) more = more c
-inFile file (refused number place) more = faulty number file place
+inFile file (refused number place) more = wrongFiles number file place
 
 -- the second file beside the first one's cascade: its own refusal, then 8
 unfoldable pub secondFile : ℕ → List Gate → List ℕ → Files
 secondFile n gs second =
-    inFile 2 (wholeFile second) (λ d. cond (eqb n (d .lines)) (cascades n gs (d .gates)) (faulty lineCountsDiffer 0 0))
+    inFile 2 (wholeFile second) (λ d. cond (eqb n (d .lines)) (cascades n gs (d .gates)) (wrongFiles lineCountsDiffer 0 0))
 
 -- more than 262,144 bytes: 10; the first file; the second one
 unfoldable pub filesOf : List ℕ → List ℕ → Files
@@ -63,8 +63,8 @@ filesOf first second =
     cond (leb (length first) maxFile)
     (cond (leb (length second) maxFile)
     (inFile 1 (wholeFile first) (λ c. secondFile (c .lines) (c .gates) second))
-    (faulty noRoom 0 0))
-    (faulty noRoom 0 0)
+    (wrongFiles noRoom 0 0))
+    (wrongFiles noRoom 0 0)
 
 -- ---- the comparison
 
@@ -96,7 +96,7 @@ compared n a b =
 
 abbrev pub comparedFiles : Files → Comparison
 comparedFiles (cascades n a b) = compared n a b
-comparedFiles (faulty number file place) = refusedAt number file place
+comparedFiles (wrongFiles number file place) = refusedAt number file place
 
 unfoldable pub comparison : List ℕ → List ℕ → Comparison
 comparison first second = comparedFiles (filesOf first second)

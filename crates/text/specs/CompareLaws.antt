@@ -10,8 +10,8 @@ use Rattle.circuit.specs.declared.gate.Gate.{Gate}
 use Rattle.circuit.specs.Outcome.{served}
 use Rattle.circuit.specs.Refusal.{noRoom}
 use Rattle.circuit.specs.Run.{run, Equal, Differs}
-use Rattle.circuit.specs.Text.{tab, lineFeed}
-use Rattle.circuit.specs.File.{partedBy}
+use Rattle.circuit.specs.Text.{lineFeed}
+use Rattle.circuit.specs.File.{fieldsOf}
 use Rattle.checking.specs.Compare.{maxSweepLines}
 use Rattle.checking.specs.Clauses.{Clause, OR, XOR, clausesOf, variablesOf}
 use Rattle.checking.specs.Satisfaction.{satisfies, ClausesWithin}
@@ -61,7 +61,7 @@ pub record CompareLaws : Type 0 where
   pub plain-three : (a b c : ℤ) → plainClause (XOR (a ∷ b ∷ c ∷ []))
       ≡ OR (a ∷ b ∷ c ∷ []) ∷ OR (a ∷ negℤ b ∷ negℤ c ∷ []) ∷ OR (negℤ a ∷ b ∷ negℤ c ∷ []) ∷ OR (negℤ a ∷ negℤ b ∷ c ∷ []) ∷ []
   -- the fields of a difference's text
-  pub differ-fields : (x y z : ℕ) → partedBy tab (differText x y z) ≡ differWord ∷ decimal x ∷ decimal y ∷ (decimal z ++ (lineFeed ∷ [])) ∷ []
+  pub differ-fields : (x y z : ℕ) → fieldsOf (differText x y z) ≡ differWord ∷ decimal x ∷ decimal y ∷ (decimal z ++ (lineFeed ∷ [])) ∷ []
   -- our text has the claim, and every program with the claim writes it
   pub compares : Compares compareText
   pub compares-only : (program : List ℕ → List ℕ → List ℕ) → Compares program → (first second : List ℕ) → program first second ≡ compareText first second

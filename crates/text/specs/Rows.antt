@@ -149,8 +149,8 @@ pub record InputRow : Type 0 where
   pub text : List ℕ
 
 -- t1 against t0, on the input with both lines 0: the outputs are 0 1 and 1 0
-abbrev pub outputsDiffer : InputRow
-outputsDiffer =
+abbrev pub differOnZero : InputRow
+differOnZero =
     record {
       first = 108 ∷ 105 ∷ 110 ∷ 101 ∷ 115 ∷ 9 ∷ 50 ∷ 10 ∷ 103 ∷ 9 ∷ 49 ∷ 10 ∷ 101 ∷ 110 ∷ 100 ∷ 10 ∷ [];
       second = 108 ∷ 105 ∷ 110 ∷ 101 ∷ 115 ∷ 9 ∷ 50 ∷ 10 ∷ 103 ∷ 9 ∷ 48 ∷ 10 ∷ 101 ∷ 110 ∷ 100 ∷ 10 ∷ [];
@@ -179,7 +179,7 @@ oneCharacter =
     }
 
 abbrev pub inputRows : List InputRow
-inputRows = outputsDiffer ∷ outputsAgree ∷ oneCharacter ∷ []
+inputRows = differOnZero ∷ outputsAgree ∷ oneCharacter ∷ []
 
 abbrev pub InputsHold : List InputRow → Type 0
 InputsHold rs = All (λ (r : InputRow). checkText (r .first) (r .second) (r .state) ≡ r .text) rs

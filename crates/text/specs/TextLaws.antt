@@ -8,8 +8,8 @@ use lib.ListN.{length, drop}
 use Rattle.circuit.specs.declared.gate.Gate.{Gate}
 use Rattle.circuit.specs.Outcome.{served}
 use Rattle.circuit.specs.Refusal.{lineCountsDiffer, noRoom}
-use Rattle.circuit.specs.Text.{tab, lineFeed, textOf}
-use Rattle.circuit.specs.File.{partedBy}
+use Rattle.circuit.specs.Text.{lineFeed, textOf}
+use Rattle.circuit.specs.File.{fieldsOf}
 use Rattle.circuit.specs.FileLaws.{FileCascade, FileRefused}
 use Rattle.checking.specs.Miter.{miterGates}
 use Rattle.checking.specs.Clauses.{Clause, OR, clausesOf, variablesOf}
@@ -90,7 +90,7 @@ pub record TextLaws : Type 0 where
   -- a number is read back
   pub number-back : (k : ℕ) → numberRead (decimal k) ≡ some k
   -- the fields of a refusal's text; so it tells its number, its file and its place
-  pub refusal-fields : (number file place : ℕ) → partedBy tab (refusalText number file place) ≡ refusedWord ∷ decimal number ∷ decimal file ∷ (decimal place ++ (lineFeed ∷ [])) ∷ []
+  pub refusal-fields : (number file place : ℕ) → fieldsOf (refusalText number file place) ≡ refusedWord ∷ decimal number ∷ decimal file ∷ (decimal place ++ (lineFeed ∷ [])) ∷ []
   pub refusal-apart : (number file place number′ file′ place′ : ℕ) → refusalText number file place ≡ refusalText number′ file′ place′
       → (number ≡ number′) × (file ≡ file′) × (place ≡ place′)
   -- our text is that of such a program, by the miter as it is built, and every such program writes it

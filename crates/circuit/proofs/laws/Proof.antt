@@ -5,7 +5,7 @@ use Rattle.circuit.proofs.lemmas.gate.Controls.{controls-count, control
 use Rattle.circuit.proofs.lemmas.words.Gates.{gates-words, words-gates}
 use Rattle.circuit.proofs.lemmas.words.Tests.{check-served, served-check, check-refused, refused-check, pair-served, served-pair, pair-refused}
 use Rattle.circuit.proofs.lemmas.run.Laws.{run-append, run-tested, run-below, equal-differs, run-refused, run-served, served-run}
-use Rattle.circuit.proofs.lemmas.run.Records.{records-words, records-served, served-records, records-fault, fault-records}
+use Rattle.circuit.proofs.lemmas.run.Records.{records-words, records-served, served-records, records-refused, refused-records}
 use Rattle.circuit.proofs.lemmas.inverse.Laws.{run-inverse, inverse-run, inverse-append, inverse-twice, inverse-valid, refused-exactly, inverse-served, served-inverse, inverse-stands, inverse-untouched}
 use Rattle.circuit.proofs.lemmas.file.Laws.{reader, read-served, served-read, read-refused, write-served, served-write, write-refused, refuses-all}
 use Rattle.circuit.proofs.lemmas.file.RoundTrip.{round-trip, idle-reading, idle-writing}
@@ -48,7 +48,7 @@ returns c =
             run-served = λ n ws s t. (run-served n ws s t, (λ (k, c, h, e). served-run n ws s t k c h e));
             run-refused = run-refused;
             records-served = λ n gs s t. (records-served n gs s t, (λ (c, h, e). served-records n gs s t c h e));
-            records-refused = λ n gs s number place. (records-fault n gs s number place, fault-records n gs s number place);
+            records-refused = λ n gs s number place. (records-refused n gs s number place, refused-records n gs s number place);
             records-words = records-words;
             inverse-served = λ n ws room k. (inverse-served n ws room k, (λ (c, h). served-inverse n ws room k c h));
             inverse-stands = inverse-stands;

@@ -27,7 +27,7 @@ use Rattle.text.specs.declared.comparison.ComparedAnswer.{ComparedAnswer
 use Rattle.text.specs.declared.comparison.ComparedAnswer.the-variants as answer
 use Rattle.text.specs.declared.pair.FilesAnswer.the-variants as files
 use Rattle.text.specs.private.Lists.{FileWords, ListStands}
-use Rattle.text.specs.Compare.{maxList, Comparison, reduced, unsolved, refusedAt, gatesLeft, sweptAs, listAs, compared, filesOf, comparedFiles, comparison}
+use Rattle.text.specs.Compare.{fileWords, maxList, Comparison, reduced, unsolved, refusedAt, gatesLeft, sweptAs, listAs, compared, filesOf, comparedFiles, comparison}
 use Rattle.text.specs.private.Comparing.{InRoom, MiterWords, MiterCascade, LeftIn, SaysFiles, SaysCompared, SaysAny}
 use Rattle.text.proofs.list.Laws.{emit-stands}
 use Rattle.text.proofs.plain.Laws.{stored-in}
@@ -170,7 +170,7 @@ says-as r clauses x y e s = subst (SaysCompared r clauses) (sym e) s
 
 -- ---- two files
 
-pub room-few : (n i : ℕ) (room : List ℕ) → InRoom n i room → 3 * i ≤ 3072
+pub room-few : (n i : ℕ) (room : List ℕ) → InRoom n i room → 3 * i ≤ fileWords
 room-few n i room h = let c = h .words .cascade in omega (arith, c .few, c .size, length-take-le (3 * i) room (h .inside))
 
 module _ (first second : List ℕ) where

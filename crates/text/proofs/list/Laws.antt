@@ -34,6 +34,7 @@ use Rattle.text.specs.declared.list.ListAnswer.{ListAnswer}
 use Rattle.text.specs.declared.list.ListAnswer.the-variants as list
 use Rattle.text.specs.WholeFile.{wholeFile}
 use Rattle.text.specs.Tomiter.{maxInput, maxWords, Verdict, listed, refusedAt, ofFile, listVerdict, pairVerdict, secondVerdict, verdict}
+use Rattle.text.specs.Compare.{fileWords, miterWords}
 use Rattle.text.specs.private.Lists.{FileWords, ListStands, Delivers}
 use Rattle.text.proofs.plain.Short.{list-short, list-within}
 
@@ -110,7 +111,7 @@ pub record Mitered (na : ℕ) (a : List ℕ) (nb : ℕ) (b buffer : List ℕ) (g
   pub gates-are : gatesOf (take (3 * gates) buffer) ≡ miterGates (gatesOf a) (gatesOf b)
   pub verdict-is : pairVerdict na (gatesOf a) nb (gatesOf b) ≡ listVerdict na (gatesOf (take (3 * gates) buffer))
 
-module _ (na : ℕ) (a : List ℕ) (nb : ℕ) (b : List ℕ) (wa : FileWords na a) (wb : FileWords nb b) (room : ℕ) (long : 6144 ≤ room) where
+module _ (na : ℕ) (a : List ℕ) (nb : ℕ) (b : List ℕ) (wa : FileWords na a) (wb : FileWords nb b) (room : ℕ) (long : miterWords ≤ room) where
   fits : length a + length b ≤ room
   fits = let x = wa .cascade in let y = wb .cascade in omega (arith, x .size, x .few, y .size, y .few)
 
@@ -172,7 +173,7 @@ module _ (na : ℕ) (a : List ℕ) (nb : ℕ) (b : List ℕ) (wa : FileWords na 
         (list-good na (miter e) _ (stands e) (length out) size t buffer out refl (emitted e ∙ s) (is ∙ uncalled-clauses na a nb b work (wa .count + wb .count) (served-at e) out)))
         (λ x. absurd (never s (refused-at (eqb-false na nb x))))
 
-  pub mitered : (gates : ℕ) (buffer out : List ℕ) → length out ≡ room → miterOutcome na a nb b (length out) ≡ served gates → buffer ≡ miterBuffer na a nb b out → 6144 ≤ length buffer
+  pub mitered : (gates : ℕ) (buffer out : List ℕ) → length out ≡ room → miterOutcome na a nb b (length out) ≡ served gates → buffer ≡ miterBuffer na a nb b out → miterWords ≤ length buffer
       → Mitered na a nb b buffer gates
   mitered gates buffer out size e is l =
       let s = miter-laws .miter-served na a nb b (length out) gates .0 e in
@@ -204,13 +205,13 @@ pub record FileRead (text : List ℕ) (lines gates taken : ℕ) (buffer : List �
 abbrev counts : ℕ → ℕ → ℕ → ReadCounts
 counts lines gates taken = record { lines = lines; gates = gates; taken = taken }
 
-module _ (text : List ℕ) (room : ℕ) (long : 3072 ≤ room) where
+module _ (text : List ℕ) (room : ℕ) (long : fileWords ≤ room) where
   pub file-bad : (number place : ℕ) → readOutcome text room ≡ refused number place → reading text ≡ refused number place
-  file-bad number place e = faulty number place (read-refused text room number place .0 e)
+  file-bad number place e = wrong number place (read-refused text room number place .0 e)
     where
-      faulty : (number place : ℕ) → ReadRefused text room number place → reading text ≡ refused number place
-      faulty number place (before f) = reader .read-refused text number place .1 f
-      faulty _ _ (then c good (fails less)) = absurd (omega (arith, good .good .few))
+      wrong : (number place : ℕ) → ReadRefused text room number place → reading text ≡ refused number place
+      wrong number place (before f) = reader .read-refused text number place .1 f
+      wrong _ _ (then c good (fails less)) = absurd (omega (arith, good .good .few))
 
   pub file-read : (lines gates taken : ℕ) (buffer out : List ℕ) → length out ≡ room → readOutcome text (length out) ≡ served (counts lines gates taken) → buffer ≡ readBuffer text out
       → FileRead text lines gates taken buffer

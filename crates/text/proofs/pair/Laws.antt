@@ -15,7 +15,7 @@ use Rattle.text.specs.declared.pair.WholeAnswer.{WholeAnswer}
 use Rattle.text.specs.declared.pair.WholeAnswer.the-variants as whole
 use Rattle.text.specs.declared.pair.FilesAnswer.the-variants as files
 use Rattle.text.specs.WholeFile.{wholeFile}
-use Rattle.text.specs.Compare.{maxFile, Files, cascades, faulty, inFile, secondFile, filesOf}
+use Rattle.text.specs.Compare.{maxFile, Files, cascades, wrongFiles, inFile, secondFile, filesOf}
 use Rattle.text.specs.private.Comparing.{SaysWhole, SaysFiles}
 use Rattle.text.proofs.WholeFile.{whole-good}
 use Rattle.text.proofs.list.Laws.{FileRead}
@@ -39,18 +39,18 @@ module _ (file : ℕ) (o : Outcome Reading) (more : Reading → Files) where
   in-served : (c : Reading) → o ≡ served c → inFile file o more ≡ more c
   in-served c e = ap (λ (x : Outcome Reading). inFile file x more) e
 
-  in-refused : (number place : ℕ) → o ≡ refused number place → inFile file o more ≡ faulty number file place
+  in-refused : (number place : ℕ) → o ≡ refused number place → inFile file o more ≡ wrongFiles number file place
   in-refused number place e = ap (λ (x : Outcome Reading). inFile file x more) e
 
 -- ---- the second file
 
 module _ (n : ℕ) (gs : List Gate) (second : List ℕ) where
-  pub second-refused : (number place : ℕ) → wholeFile second ≡ refused number place → secondFile n gs second ≡ faulty number 2 place
+  pub second-refused : (number place : ℕ) → wholeFile second ≡ refused number place → secondFile n gs second ≡ wrongFiles number 2 place
   unfolding secondFile
   second-refused number place e = in-refused 2 (wholeFile second) _ number place e
 
   module _ (d : Reading) (e : wholeFile second ≡ served d) where
-    pub second-differs : (n ≡ d .lines → ⊥) → secondFile n gs second ≡ faulty lineCountsDiffer 0 0
+    pub second-differs : (n ≡ d .lines → ⊥) → secondFile n gs second ≡ wrongFiles lineCountsDiffer 0 0
     unfolding secondFile
     second-differs h = in-served 2 (wholeFile second) _ d e ∙ cond-false (eqb n (d .lines)) _ _ (ne-eqb n (d .lines) h)
 
@@ -61,18 +61,18 @@ module _ (n : ℕ) (gs : List Gate) (second : List ℕ) where
 -- ---- both
 
 module _ (first second : List ℕ) where
-  pub first-long : maxFile < length first → filesOf first second ≡ faulty noRoom 0 0
+  pub first-long : maxFile < length first → filesOf first second ≡ wrongFiles noRoom 0 0
   unfolding filesOf
   first-long h = cond-false (leb (length first) maxFile) _ _ (lt-leb (length first) maxFile h)
 
   module _ (short : length first ≤ maxFile) where
-    pub second-long : maxFile < length second → filesOf first second ≡ faulty noRoom 0 0
+    pub second-long : maxFile < length second → filesOf first second ≡ wrongFiles noRoom 0 0
     unfolding filesOf
     second-long h =
         cond-true (leb (length first) maxFile) _ _ (le-leb (length first) maxFile short) ∙ cond-false (leb (length second) maxFile) _ _ (lt-leb (length second) maxFile h)
 
     module _ (short-2 : length second ≤ maxFile) where
-      pub first-refused : (number place : ℕ) → wholeFile first ≡ refused number place → filesOf first second ≡ faulty number 1 place
+      pub first-refused : (number place : ℕ) → wholeFile first ≡ refused number place → filesOf first second ≡ wrongFiles number 1 place
       unfolding filesOf
       first-refused number place e =
           cond-true (leb (length first) maxFile) _ _ (le-leb (length first) maxFile short)
@@ -86,9 +86,9 @@ module _ (first second : List ℕ) where
           ∙ cond-true (leb (length second) maxFile) _ _ (le-leb (length second) maxFile short-2)
           ∙ in-served 1 (wholeFile first) _ c e
 
--- a refusal says the fault that it is
-pub says-fault : (r : Refusal) (file : ℕ) (a b : List ℕ) (f : Files) (number place : ℕ) → r ≡ refusal number place → f ≡ faulty number file place → SaysFiles (files.Refused r file) a b f
-says-fault r file a b f number place e g = record { is = ap (λ (x : Refusal). faulty (x .number) file (x .place)) e ∙ sym g; ready = tt }
+-- a refusal says what is wrong
+pub says-wrong : (r : Refusal) (file : ℕ) (a b : List ℕ) (f : Files) (number place : ℕ) → r ≡ refusal number place → f ≡ wrongFiles number file place → SaysFiles (files.Refused r file) a b f
+says-wrong r file a b f number place e g = record { is = ap (λ (x : Refusal). wrongFiles (x .number) file (x .place)) e ∙ sym g; ready = tt }
 
 -- what an answer says, where it is known
 pub told-whole : (r s : WholeAnswer) (room : List ℕ) (bytes : ℕ) (o : Outcome Reading) → SaysWhole r room bytes o → r ≡ s → SaysWhole s room bytes o

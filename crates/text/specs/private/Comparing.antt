@@ -17,7 +17,7 @@ use Rattle.text.specs.declared.comparison.ComparedAnswer.{ComparedAnswer
 use Rattle.text.specs.declared.comparison.ComparedAnswer.the-variants as answer
 use Rattle.text.specs.private.Lists.{FileWords}
 use Rattle.text.specs.private.Words.{storedIn, StoresPlain}
-use Rattle.text.specs.Compare.{Files, cascades, faulty, Comparison, reduced, swept, differing, unsolved, refusedAt}
+use Rattle.text.specs.Compare.{Files, cascades, wrongFiles, Comparison, reduced, swept, differing, unsolved, refusedAt}
 
 -- ---- a file
 
@@ -42,7 +42,7 @@ pub record SaysWhole (r : WholeAnswer) (room : List ℕ) (bytes : ℕ) (o : Outc
 
 abbrev pub ofFiles : FilesAnswer → List ℕ → List ℕ → Files
 ofFiles (files.Cascades lines i j) a b = cascades lines (gatesOf (take (3 * i) a)) (gatesOf (take (3 * j) b))
-ofFiles (files.Refused why file) a b = faulty (why .number) file (why .place)
+ofFiles (files.Refused why file) a b = wrongFiles (why .number) file (why .place)
 
 abbrev pub FilesReady : FilesAnswer → List ℕ → List ℕ → Type 0
 FilesReady (files.Cascades lines i j) a b = InRoom lines i a × InRoom lines j b

@@ -28,7 +28,7 @@ use Rattle.circuit.proofs.lemmas.file.Offences.{HeaderFound, header-fou
 pub data TextFound (text : List ℕ) : Outcome Reading → Type 0 where
   cascade : (n : ℕ) (gs : List Gate) (rest : List ℕ) → FileCascade n gs → text ≡ textOf n gs ++ rest
       → TextFound text (served (record { lines = n; gates = gs; taken = length (textOf n gs) }))
-  fault : (number place : ℕ) → FileRefused text number place → TextFound text (refused number place)
+  wrong : (number place : ℕ) → FileRefused text number place → TextFound text (refused number place)
 
 module _ (text : List ℕ) where
   after-header : (n : ℕ) → 1 ≤ n → n ≤ maxLines → firstLine (linesOf text) .bytes ≡ headerText n → Cut text (firstLine (linesOf text)) (laterLines (linesOf text))
@@ -54,7 +54,7 @@ module _ (text : List ℕ) where
       ∙ ap (λ (x : List ℕ). linesWord ++ (tab ∷ x)) (sym (append-assoc (numberText n) (lineFeed ∷ []) (gateLines hs ++ rest))) in
       let p : length hs ≡ 0 + length hs = omega arith in
       subst (λ (k : ℕ). TextFound text (refused number (k + 1))) p
-      (fault number (length hs + 1)
+      (wrong number (length hs + 1)
       (laws.later-line n hs rest (record { lines-low = low; lines-high = high; few = omega arith; gates = w }) e number
       (subst (λ (k : ℕ). LineOffence n (k + 1) k (firstLine (linesOf rest)) number) (sym p) x)))
 
@@ -64,7 +64,7 @@ module _ (text : List ℕ) where
     where
       go : (o : Outcome ℕ) → HeaderFound (firstLine (linesOf text)) o
           → TextFound text (andThen o (λ n. readFrom n 1 [] (lineSize (firstLine (linesOf text))) (laterLines (linesOf text))))
-      go o (HeaderFound.bad number x) = fault number 0 (laws.header-line number x)
+      go o (HeaderFound.bad number x) = wrong number 0 (laws.header-line number x)
       go o (HeaderFound.good n low high b d) =
           let l = firstLine (linesOf text) in
           let c = cut-first text d in
@@ -77,11 +77,11 @@ module _ (text : List ℕ) where
       let x : record { lines = n; gates = gs; taken = length (textOf n gs) } ≡ c = cc in
       subst (λ (c : Reading). (rest : List ℕ) × (FileCascade (c .lines) (c .gates)) × (text ≡ textOf (c .lines) (c .gates) ++ rest) × (c .taken ≡ length (textOf (c .lines) (c .gates))))
       x (rest, g, e, refl)
-  served-found c o (fault number place x) q = absurd (never q refl)
+  served-found c o (wrong number place x) q = absurd (never q refl)
 
   refused-found : (number place : ℕ) (o : Outcome Reading) → TextFound text o → o ≡ refused number place → FileRefused text number place
   refused-found number place o (cascade n gs rest g e) q = absurd (never refl q)
-  refused-found number place o (fault m p x) q =
+  refused-found number place o (wrong m p x) q =
       let a : m ≡ number = cc in
       let b : p ≡ place = cc in
       subst₂ (FileRefused text) a b x
@@ -96,8 +96,8 @@ module _ (text : List ℕ) where
       let (rest, g, t, k) = read-cascade c e in
       (g, ap (take (c .taken)) t ∙ take-at (textOf (c .lines) (c .gates)) rest (c .taken) (sym k))
 
-  pub read-fault : (number place : ℕ) → reading text ≡ refused number place → FileRefused text number place
-  read-fault number place e = refused-found number place (reading text) text-found e
+  pub read-wrong : (number place : ℕ) → reading text ≡ refused number place → FileRefused text number place
+  read-wrong number place e = refused-found number place (reading text) text-found e
 
 -- a line that is wrong, or missing, ends the reading
 pub line-refused : (n : ℕ) → n ≤ maxLines → (gs : List Gate) (at : ℕ) (ls : List Line) (number : ℕ) → LineOffence n (length gs + 1) (length gs) (firstLine ls) number
@@ -115,16 +115,16 @@ line-refused n high gs at (l ∷ ls) number x =
     cond-false (isEnd l) _ _ (offence-open n (length gs + 1) (length gs) high l number x)
     ∙ then-refused _ _ number (length gs + 1) (offence-refused n (length gs + 1) (length gs) high l number x)
 
-pub fault-read : (text : List ℕ) (number place : ℕ) → FileRefused text number place → reading text ≡ refused number place
+pub wrong-read : (text : List ℕ) (number place : ℕ) → FileRefused text number place → reading text ≡ refused number place
 unfolding reading
-fault-read text number place (laws.header-line m x) = then-refused _ _ m 0 (header-refused (firstLine (linesOf text)) m x)
-fault-read text number place (laws.later-line n gs rest c t m x) =
+wrong-read text number place (laws.header-line m x) = then-refused _ _ m 0 (header-refused (firstLine (linesOf text)) m x)
+wrong-read text number place (laws.later-line n gs rest c t m x) =
     ap reading t
     ∙ start-read n gs rest c
     ∙ line-refused n (c .lines-high) gs (length (headerLine n) + length (gateLines gs)) (linesOf rest) m x
 
 pub reader : ReaderLaws reading
-reader = record { text-read = text-read; read-text = read-text; read-refused = λ text number place. (read-fault text number place, fault-read text number place) }
+reader = record { text-read = text-read; read-text = read-text; read-refused = λ text number place. (read-wrong text number place, wrong-read text number place) }
 
 -- ---- the call
 
@@ -175,7 +175,7 @@ read-as text c = (
 pub read-refused : (text : List ℕ) (room number place : ℕ) → (readOutcome text room ≡ refused number place) ↔ ReadRefused text room number place
 unfolding readOutcome
 read-refused text room =
-    wrong-refused (reading text) _ _ _ _ (λ x y. (read-fault text x y, fault-read text x y)) (read-as text)
+    wrong-refused (reading text) _ _ _ _ (λ x y. (read-wrong text x y, wrong-read text x y)) (read-as text)
     (λ c g. fails-refused (leb (3 * length (c .gates)) room) noRoom 0 (countsOf c) (room < 3 * length (c .gates)) (above (3 * length (c .gates)) room))
 
 -- the text of the cascade without gates on one line

@@ -122,6 +122,15 @@ module _ (s : ℕ) where
       let (x, y) = and-parts (free s g) (allFree s fs) q in
       parts-cut f (g ++ separated s fs) p ∙ ap (λ (l : List (List ℕ)). f ∷ l) (parts-joined g fs x y)
 
+  -- one part, and one more
+  pub whole-one : (f : List ℕ) → whole s (f ∷ []) ≡ f
+  unfolding separated
+  whole-one f = append-nil f
+
+  pub whole-next : (f g : List ℕ) (fs : List (List ℕ)) → whole s (f ∷ g ∷ fs) ≡ f ++ (s ∷ whole s (g ∷ fs))
+  unfolding separated
+  whole-next f g fs = refl
+
   -- a text is its parts, joined
   separated-whole : (fs : List (List ℕ)) → (fs ≡ [] → ⊥) → separated s fs ≡ s ∷ whole s fs
   unfolding separated

@@ -149,8 +149,8 @@ module _ (n : ℕ) (gs : List Gate) (s : ℕ) where
   served-records t c h e =
       records-words n gs s ∙ served-run n (wordsOf gs) s t (length gs) c h (e ∙ ap (λ (l : List Gate). run l s) (sym (gates-words gs)))
 
-  pub records-fault : (number place : ℕ) → recordsOutcome n gs s ≡ refused number place → RunRefused n (wordsOf gs) s number place
-  records-fault number place e = run-refused n (wordsOf gs) s number place .0 (sym (records-words n gs s) ∙ e)
+  pub records-refused : (number place : ℕ) → recordsOutcome n gs s ≡ refused number place → RunRefused n (wordsOf gs) s number place
+  records-refused number place e = run-refused n (wordsOf gs) s number place .0 (sym (records-words n gs s) ∙ e)
 
-  pub fault-records : (number place : ℕ) → RunRefused n (wordsOf gs) s number place → recordsOutcome n gs s ≡ refused number place
-  fault-records number place f = records-words n gs s ∙ run-refused n (wordsOf gs) s number place .1 f
+  pub refused-records : (number place : ℕ) → RunRefused n (wordsOf gs) s number place → recordsOutcome n gs s ≡ refused number place
+  refused-records number place f = records-words n gs s ∙ run-refused n (wordsOf gs) s number place .1 f

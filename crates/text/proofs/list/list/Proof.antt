@@ -10,6 +10,7 @@ use Rattle.circuit.proofs.Promises.{why}
 use Rattle.bits.proofs.Lists.{rest-lent}
 use Rattle.circuit.specs.File.{ofRead}
 use Rattle.text.specs.Tomiter.{secondVerdict}
+use Rattle.text.specs.Compare.{fileWords}
 use Rattle.text.proofs.list.Laws.{says-as, says-refusal, FileRead, file-bad, file-read, input-long, first-bad, first-good}
 use borrow.Author.Needs.{needs}
 use Rattle.text.proofs.list.list.Statement.{statement}
@@ -20,7 +21,7 @@ whole : (c : tie.After-header)
     → FileRead (c .before .before .before .before .before .before .before .args .input .now) (c .header .given .0 .0 .lines) (c .header .given .0 .1 .0) (c .header .given .0 .1 .1 .0) (c .before .before .before .read .last .1 .0)
 whole c =
     let r = c .before .before .before .read in
-    file-read _ 3072 (omega arith) _ _ _ (r .last .1 .0) _ refl (sym (r .ensures .answer) ∙ ap ofRead (c .header .given .1)) (r .ensures .buffer)
+    file-read _ fileWords (omega arith) _ _ _ (r .last .1 .0) _ refl (sym (r .ensures .answer) ∙ ap ofRead (c .header .given .1)) (r .ensures .buffer)
 
 no-room-requires : tie.Need-no-room-requires
 no-room-requires c κs = search needs
@@ -68,7 +69,7 @@ returns-2 c =
     let r = c .before .before .before .before .read in
     let x = c .before .why .given .0 .0 in
     says-refusal {A = ℕ} x 1 _ _ (x .number) (x .place)
-    (first-bad _ (c .before .before .before .before .before .before .if1 .left) (x .number) (x .place) (file-bad _ 3072 (omega arith) (x .number) (x .place) (sym (r .ensures .answer) ∙ ap ofRead (c .before .why .given .1)))) refl
+    (first-bad _ (c .before .before .before .before .before .before .if1 .left) (x .number) (x .place) (file-bad _ fileWords (omega arith) (x .number) (x .place) (sym (r .ensures .answer) ∙ ap ofRead (c .before .why .given .1)))) refl
 
 same-length : tie.Need-same-length
 same-length c = search needs

@@ -1,7 +1,7 @@
 -- `text::pair::read_files` meets its contract. Assumes nothing.
 use mathlib.Core.Path.{refl, sym, _∙_}
 use native.Mathlib.Omega.{arith}
-use Rattle.text.proofs.pair.Laws.{first-long, second-long, first-refused, first-served, says-fault, told-whole}
+use Rattle.text.proofs.pair.Laws.{first-long, second-long, first-refused, first-served, says-wrong, told-whole}
 use borrow.Author.Needs.{needs}
 use Rattle.text.proofs.pair.read_files.Statement.{statement}
 use Rattle.text.proofs.pair.read_files.Tie as tie
@@ -10,13 +10,13 @@ no-room-requires : tie.Need-no-room-requires
 no-room-requires c κs = search needs
 
 returns : tie.Need-returns
-returns c = let s = c .before .before .before .before .before .before in says-fault (c .no-room .result) 0 _ _ _ _ _ (c .no-room .ensures) (first-long (s .args .first .now) (s .args .second .now) (omega arith))
+returns c = let s = c .before .before .before .before .before .before in says-wrong (c .no-room .result) 0 _ _ _ _ _ (c .no-room .ensures) (first-long (s .args .first .now) (s .args .second .now) (omega arith))
 
 no-room-requires-2 : tie.Need-no-room-requires-2
 no-room-requires-2 c κs = search needs
 
 returns-2 : tie.Need-returns-2
-returns-2 c = let s = c .before .before .before .before .before .before .before in says-fault (c .no-room2 .result) 0 _ _ _ _ _ (c .no-room2 .ensures) (second-long (s .args .first .now) (s .args .second .now) (omega arith) (omega arith))
+returns-2 c = let s = c .before .before .before .before .before .before .before in says-wrong (c .no-room2 .result) 0 _ _ _ _ _ (c .no-room2 .ensures) (second-long (s .args .first .now) (s .args .second .now) (omega arith) (omega arith))
 
 read-whole-requires : tie.Need-read-whole-requires
 read-whole-requires c κs = search needs
@@ -40,7 +40,7 @@ returns-3 c =
     let s = c .before .before .before .before .before .before .before .before .before .before .before .before .before in
     let w = told-whole _ _ _ _ _ (c .before .before .before .before .before .read-whole .ensures) (c .before .why .given .1) in
     let x = c .before .why .given .0 .0 in
-    says-fault x 1 _ _ _ (x .number) (x .place) refl (first-refused (s .args .first .now) (s .args .second .now) (omega arith) (omega arith) (x .number) (x .place) (sym (w .is)))
+    says-wrong x 1 _ _ _ (x .number) (x .place) refl (first-refused (s .args .first .now) (s .args .second .now) (omega arith) (omega arith) (x .number) (x .place) (sym (w .is)))
 
 same-length-2 : tie.Need-same-length-2
 same-length-2 c = search needs

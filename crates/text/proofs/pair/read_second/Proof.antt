@@ -2,7 +2,7 @@
 use mathlib.Core.Path.{refl, sym, subst}
 use Prim.Native.Nat.{ℕ}
 use Rattle.text.specs.private.Comparing.{InRoom}
-use Rattle.text.proofs.pair.Laws.{second-refused, second-differs, second-same, says-fault, told-whole}
+use Rattle.text.proofs.pair.Laws.{second-refused, second-differs, second-same, says-wrong, told-whole}
 use borrow.Author.Needs.{needs}
 use Rattle.text.proofs.pair.read_second.Statement.{statement}
 use Rattle.text.proofs.pair.read_second.Tie as tie
@@ -26,7 +26,7 @@ returns : tie.Need-returns
 returns c =
     let s = c .before .before .before .before .before .before .before .before .before .before .before .before in
     let w = told-whole _ _ _ _ _ (c .before .before .before .before .before .before .before .read-whole .ensures) (c .before .before .before .other .given .1) in
-    says-fault (c .line-counts-differ .result) 0 _ _ _ _ _ (c .line-counts-differ .ensures) (second-differs _ _ (s .args .second .now) _ (sym (w .is)) (c .before .if1 .taken))
+    says-wrong (c .line-counts-differ .result) 0 _ _ _ _ _ (c .line-counts-differ .ensures) (second-differs _ _ (s .args .second .now) _ (sym (w .is)) (c .before .if1 .taken))
 
 same-length-2 : tie.Need-same-length-2
 same-length-2 c = search needs
@@ -36,7 +36,7 @@ returns-2 c =
     let s = c .before .before .before .before .before .before .before .before .before .before in
     let w = told-whole _ _ _ _ _ (c .before .before .before .before .before .read-whole .ensures) (c .before .why .given .1) in
     let x = c .before .why .given .0 .0 in
-    says-fault x 2 _ _ _ (x .number) (x .place) refl (second-refused _ _ (s .args .second .now) (x .number) (x .place) (sym (w .is)))
+    says-wrong x 2 _ _ _ (x .number) (x .place) refl (second-refused _ _ (s .args .second .now) (x .number) (x .place) (sym (w .is)))
 
 same-length-3 : tie.Need-same-length-3
 same-length-3 c = search needs

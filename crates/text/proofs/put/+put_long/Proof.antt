@@ -26,129 +26,63 @@ abbrev put-long-below : ℕ → In 1 put-long-kinds.ps
 put-long-below t =
     and 1 put-long-kinds.ps (falls 1 put-long-kinds.ps _<_ μ-put-long t) put-long.Pre
 
-put-long-put-short-requires : (t : ℕ) → put-long-lts.Need-put-short-requires (
+-- what each callee asks and gives
+abbrev callees : ℕ → put-long-lts.Claims
+callees t = (
   put-short-reads.Asked,
   put-short-reads.Learnt,
   put-long-below t,
   put-long.Post,
   put-two-reads.Asked,
   put-two-reads.Learnt,
-) (put-long-at t) put-long.Post
+)
+
+put-long-put-short-requires : (t : ℕ) → put-long-lts.Need-put-short-requires (callees t) (put-long-at t) put-long.Post
 put-long-put-short-requires t c κs = let a = c .before .before .before in (c .before .if1 .taken, a .pre .1)
 
-put-long-same-length : (t : ℕ) → put-long-lts.Need-same-length (
-  put-short-reads.Asked,
-  put-short-reads.Learnt,
-  put-long-below t,
-  put-long.Post,
-  put-two-reads.Asked,
-  put-two-reads.Learnt,
-) (put-long-at t) put-long.Post
+put-long-same-length : (t : ℕ) → put-long-lts.Need-same-length (callees t) (put-long-at t) put-long.Post
 put-long-same-length t c = c .before .before .put-short .kept .0
 
-put-long-returns : (t : ℕ) → put-long-lts.Need-returns (
-  put-short-reads.Asked,
-  put-short-reads.Learnt,
-  put-long-below t,
-  put-long.Post,
-  put-two-reads.Asked,
-  put-two-reads.Learnt,
-) (put-long-at t) put-long.Post
+put-long-returns : (t : ℕ) → put-long-lts.Need-returns (callees t) (put-long-at t) put-long.Post
 put-long-returns t c = c .before .before .put-short .ensures
 
-put-long-put-long-requires : (t : ℕ) → put-long-lts.Need-put-long-requires (
-  put-short-reads.Asked,
-  put-short-reads.Learnt,
-  put-long-below t,
-  put-long.Post,
-  put-two-reads.Asked,
-  put-two-reads.Learnt,
-) (put-long-at t) put-long.Post
+put-long-put-long-requires : (t : ℕ) → put-long-lts.Need-put-long-requires (callees t) (put-long-at t) put-long.Post
 put-long-put-long-requires t c κs =
     let a = c .before .before .before in
     let h : 100 ≤ a .args .k = c .before .if1 .left in
     (subst (λ (j : ℕ). a .args .k / 100 < j) (a .pre .0) (omega arith), omega (arith, a .pre .1, hundreds-length (a .args .k) h))
 
-put-long-sub-put-two : (t : ℕ) → put-long-lts.Need-sub-put-two (
-  put-short-reads.Asked,
-  put-short-reads.Learnt,
-  put-long-below t,
-  put-long.Post,
-  put-two-reads.Asked,
-  put-two-reads.Learnt,
-) (put-long-at t) put-long.Post
+put-long-sub-put-two : (t : ℕ) → put-long-lts.Need-sub-put-two (callees t) (put-long-at t) put-long.Post
 put-long-sub-put-two t c =
     let a = c .before .before .before .before .before .before in
     let e = hundreds-length (a .args .k) (c .before .before .before .before .if1 .left) in
     search needs
 
-put-long-part-put-two-start : (t : ℕ) → put-long-lts.Need-part-put-two-start (
-  put-short-reads.Asked,
-  put-short-reads.Learnt,
-  put-long-below t,
-  put-long.Post,
-  put-two-reads.Asked,
-  put-two-reads.Learnt,
-) (put-long-at t) put-long.Post
+put-long-part-put-two-start : (t : ℕ) → put-long-lts.Need-part-put-two-start (callees t) (put-long-at t) put-long.Post
 put-long-part-put-two-start t c =
     let a = c .before .before .before .before .before .before in
     let e = hundreds-length (a .args .k) (c .before .before .before .before .if1 .left) in
     search needs
 
-put-long-part-put-two-end : (t : ℕ) → put-long-lts.Need-part-put-two-end (
-  put-short-reads.Asked,
-  put-short-reads.Learnt,
-  put-long-below t,
-  put-long.Post,
-  put-two-reads.Asked,
-  put-two-reads.Learnt,
-) (put-long-at t) put-long.Post
+put-long-part-put-two-end : (t : ℕ) → put-long-lts.Need-part-put-two-end (callees t) (put-long-at t) put-long.Post
 put-long-part-put-two-end t c = search needs
 
-put-long-put-two-requires : (t : ℕ) → put-long-lts.Need-put-two-requires (
-  put-short-reads.Asked,
-  put-short-reads.Learnt,
-  put-long-below t,
-  put-long.Post,
-  put-two-reads.Asked,
-  put-two-reads.Learnt,
-) (put-long-at t) put-long.Post
+put-long-put-two-requires : (t : ℕ) → put-long-lts.Need-put-two-requires (callees t) (put-long-at t) put-long.Post
 put-long-put-two-requires t c κs =
     let a = c .before .before .before .before .before .before .before in
     let e = hundreds-length (a .args .k) (c .before .before .before .before .before .if1 .left) in
     search needs
 
-put-long-add-result : (t : ℕ) → put-long-lts.Need-add-result (
-  put-short-reads.Asked,
-  put-short-reads.Learnt,
-  put-long-below t,
-  put-long.Post,
-  put-two-reads.Asked,
-  put-two-reads.Learnt,
-) (put-long-at t) put-long.Post
+put-long-add-result : (t : ℕ) → put-long-lts.Need-add-result (callees t) (put-long-at t) put-long.Post
 put-long-add-result t c =
     let a = c .before .before .before .before .before .before .before .before .before .before in
     let e = hundreds-length (a .args .k) (c .before .before .before .before .before .before .before .before .if1 .left) in
     search needs
 
-put-long-same-length-2 : (t : ℕ) → put-long-lts.Need-same-length-2 (
-  put-short-reads.Asked,
-  put-short-reads.Learnt,
-  put-long-below t,
-  put-long.Post,
-  put-two-reads.Asked,
-  put-two-reads.Learnt,
-) (put-long-at t) put-long.Post
+put-long-same-length-2 : (t : ℕ) → put-long-lts.Need-same-length-2 (callees t) (put-long-at t) put-long.Post
 put-long-same-length-2 t c = search needs
 
-put-long-returns-2 : (t : ℕ) → put-long-lts.Need-returns-2 (
-  put-short-reads.Asked,
-  put-short-reads.Learnt,
-  put-long-below t,
-  put-long.Post,
-  put-two-reads.Asked,
-  put-two-reads.Learnt,
-) (put-long-at t) put-long.Post
+put-long-returns-2 : (t : ℕ) → put-long-lts.Need-returns-2 (callees t) (put-long-at t) put-long.Post
 put-long-returns-2 t c =
     let p = c .before .before .before .before .before .before in
     let a = p .before .before .before .before in
@@ -158,14 +92,7 @@ put-long-returns-2 t c =
     (then-put (a .args .out .now) _ _ _ (p .put-long .ensures) (p .put-long .kept .0) _ _ _ (omega (arith, a .pre .1)) (c .before .before .put-two .ensures) (c .before .before .put-two .kept .0))
 
 pub +put-long-spec : {M : Type 1} → statement M
-+put-long-spec = close μ-put-long λ t. put-long-lts.spec (
-  put-short-reads.Asked,
-  put-short-reads.Learnt,
-  put-long-below t,
-  put-long.Post,
-  put-two-reads.Asked,
-  put-two-reads.Learnt,
-)
++put-long-spec = close μ-put-long λ t. put-long-lts.spec (callees t)
     (put-long-at t)
     put-long.Post
     (put-long-put-short-requires t)

@@ -30,7 +30,7 @@ unfolding pairVerdict listVerdict
 told input _ _ _ (too-long h) = input-long input h
 told input _ _ _ (first-file number place h f) = first-bad input h number place (reader .read-refused input number place .1 f)
 told input _ _ _ (second-file n a rest number place h good e w) =
-    after-first input n a rest h good e ∙ verdict-refused n a rest number place (whole-refused rest number place w)
+    after-first input n a rest h good e ∙ verdict-refused n a rest number place (whole-refused rest number place .1 w)
 told input _ _ _ (lines-differ n a m b h good-a good-b e ne) =
     after-first input n a (textOf m b) h good-a e ∙ after-second n a m b good-b ∙ cond-false (eqb n m) _ _ (ne-eqb n m ne)
 told input _ _ _ (list-long n a b h good-a good-b e l) =
