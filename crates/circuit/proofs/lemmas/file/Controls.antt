@@ -169,11 +169,7 @@ abbrev pub maskIn : Bool → Gate → ℕ
 maskIn true g = g .positive
 maskIn false g = g .negative
 
-abbrev pick : Bool → Bool → Bool → Bool
-pick true p q = p
-pick false p q = q
-
-line-mask : (s : Bool) (n k : ℕ) (p q : Bool) → (p ≡ true → q ≡ false) → bit (maskOf s (onLine n p q)) k ≡ (eqb k n && pick s p q)
+line-mask : (s : Bool) (n k : ℕ) (p q : Bool) → (p ≡ true → q ≡ false) → bit (maskOf s (onLine n p q)) k ≡ (eqb k n && cond s p q)
 line-mask s n k true true h = absurd (true≢false (h refl))
 line-mask true n k true false h = mask-bit true _ [] k ∙ ap (λ (b : Bool). eqb k n || b) (mask-none true k) ∙ or-false (eqb k n) ∙ sym (and-true (eqb k n))
 line-mask false n k true false h = mask-bit false _ [] k ∙ mask-none false k ∙ sym (and-false (eqb k n))
@@ -182,7 +178,7 @@ line-mask false n k false true h = mask-bit false _ [] k ∙ ap (λ (b : Bool). 
 line-mask true n k false false h = mask-none true k ∙ sym (and-false (eqb k n))
 line-mask false n k false false h = mask-none false k ∙ sym (and-false (eqb k n))
 
-pick-mask : (s : Bool) (g : Gate) (k : ℕ) → pick s (bit (g .positive) k) (bit (g .negative) k) ≡ bit (maskIn s g) k
+pick-mask : (s : Bool) (g : Gate) (k : ℕ) → cond s (bit (g .positive) k) (bit (g .negative) k) ≡ bit (maskIn s g) k
 pick-mask true g k = refl
 pick-mask false g k = refl
 
