@@ -232,8 +232,8 @@ unlike gp gn hp hn = xor (xor gp hp) (xor gn hn)
 opposite-line : (gp gn hp hn : Bool) → clash gp gn hp hn ≡ false → (xor gp hp || xor gn hn) ≡ true → xor gp hp ≡ xor gn hn → (gn ≡ not gp) × (hp ≡ not gp) × (hn ≡ not (not gp))
 unfolding xor
 opposite-line gp gn hp hn c d s =
-    let e : (clash gp gn hp hn || (not (xor gp hp || xor gn hn) || unlike gp gn hp hn)) ≡ false = none-or c (none-or (ap not d) (xor-same (xor gp hp) (xor gn hn) s)) in
-    let t : Bool → Bool → Bool → Bool → Bool = λ gp gn hp hn. clash gp gn hp hn || (not (xor gp hp || xor gn hn) || unlike gp gn hp hn) in (
+    let t : Bool → Bool → Bool → Bool → Bool = λ gp gn hp hn. clash gp gn hp hn || (not (xor gp hp || xor gn hn) || unlike gp gn hp hn) in
+    let e : t gp gn hp hn ≡ false = none-or c (none-or (ap not d) (xor-same (xor gp hp) (xor gn hn) s)) in (
       unless₄ t (λ gp gn hp hn. gn) (λ gp gn hp hn. not gp) refl gp gn hp hn e,
       unless₄ t (λ gp gn hp hn. hp) (λ gp gn hp hn. not gp) refl gp gn hp hn e,
       unless₄ t (λ gp gn hp hn. hn) (λ gp gn hp hn. not (not gp)) refl gp gn hp hn e,

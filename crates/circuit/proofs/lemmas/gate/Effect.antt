@@ -15,7 +15,7 @@ use Rattle.circuit.specs.Gate.{maxLines, notGate, fires, valid, inverted
 use Rattle.circuit.specs.Laws.{FiresByLines}
 use Rattle.bits.proofs.Bools.{and-parts, both, either, same-test, cond-true, cond-false, and-apart, apart-and, and-within, unless₃, xor-none, xor-back}
 use Rattle.bits.proofs.Digits.{bit-and, bit-or, bit-xor, bit-pow, bit-none, bits-equal, or-parts, line-clear, shared-none}
-use Rattle.circuit.proofs.lemmas.gate.Valid.{valid-facts, valid-apart, lines-valid, target-clear, Valid}
+use Rattle.circuit.proofs.lemmas.gate.Valid.{valid-facts, lines-valid, target-clear, Valid}
 
 -- ---- firing by lines
 
