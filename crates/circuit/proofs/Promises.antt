@@ -14,7 +14,7 @@ pub use Rattle.circuit.proofs.lemmas.words.Tests.{lines-good, size-serv
 -- a run and the inverse
 pub use Rattle.circuit.proofs.lemmas.run.Laws.{run-none, run-one, run-next, run-append, run-below, run-tested, equal-differs, run-refused, run-served, served-run}
 pub use Rattle.circuit.proofs.lemmas.run.Records.{records-words, records-served, served-records, records-fault, fault-records}
-pub use Rattle.circuit.proofs.lemmas.inverse.Laws.{run-inverse, inverse-run, inverse-append, inverse-twice, inverse-valid, refused-exactly as inverse-refused, inverse-served, served-inverse, inverse-stands, inverse-untouched, put-fits as inverse-fits}
+pub use Rattle.circuit.proofs.lemmas.inverse.Laws.{run-inverse, inverse-run, inverse-append, inverse-length, inverse-twice, inverse-valid, refused-exactly as inverse-refused, inverse-served, served-inverse, inverse-stands, inverse-untouched, put-fits as inverse-fits}
 -- files, and the bytes of a text
 pub use Rattle.circuit.proofs.lemmas.file.Laws.{reader, read-as, read-served, served-read, read-refused, write-served, served-write, write-refused, refuses-all}
 pub use Rattle.circuit.proofs.lemmas.file.RoundTrip.{round-trip, idle-reading, idle-writing, read-leaves}
