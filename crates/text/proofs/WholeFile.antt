@@ -8,6 +8,7 @@ use lib.ListN.{length, drop, take-append-drop, length-append}
 use lib.Seq.{take-all}
 use borrow.Author.Tests.{eqb-true, eqb-false, eq-eqb, ne-eqb}
 use Rattle.bits.proofs.Bools.{either}
+use Rattle.bits.proofs.Lists.{empty}
 use Rattle.circuit.specs.declared.gate.Gate.{Gate}
 use Rattle.circuit.specs.Outcome.{Outcome, served, refused}
 use Rattle.circuit.specs.Refusal.{wrongForm}
@@ -68,10 +69,6 @@ whole-by text (served d) r =
 
 pub whole-judged : (text : List ℕ) → WholeJudged text (wholeFile text)
 whole-judged text = whole-by text (reading text) refl
-
-pub empty : {A : Type 0} (xs : List A) → length xs ≡ 0 → xs ≡ []
-empty [] e = refl
-empty (x ∷ xs) e = absurd (omega arith)
 
 -- a file is read as what is said of it
 module _ (text : List ℕ) (n : ℕ) (a : List Gate) (good : FileCascade n a) where
