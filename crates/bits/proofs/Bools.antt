@@ -1,6 +1,6 @@
 -- Tests: truth tables, the parts of a conjunction and of a disjunction, a test that fails, a choice by a test, and two tests that hold together. Assumes nothing.
 use mathlib.Core.Path.{_≡_, refl, sym, ap, ap₂, _∙_}
-use mathlib.Core.Bool.{Bool, true, false, not, _&&_, _||_, xor, cond, Bool·beq, false≢true, true≢false}
+use mathlib.Core.Bool.{Bool, true, false, not, _&&_, _||_, xor, cond, Bool·beq, false≢true, true≢false, and-true, or-false, Bool·not-not}
 
 pub and-parts : (a b : Bool) → (a && b) ≡ true → (a ≡ true) × (b ≡ true)
 and-parts true b e = (refl, e)
@@ -21,15 +21,15 @@ rows₃ f g = rows₂ (f true) (g true) && rows₂ (f false) (g false)
 abbrev pub rows₄ : (Bool → Bool → Bool → Bool → Bool) → (Bool → Bool → Bool → Bool → Bool) → Bool
 rows₄ f g = rows₃ (f true) (g true) && rows₃ (f false) (g false)
 
-row : (a b : Bool) → Bool·beq a b ≡ true → a ≡ b
-row true true e = refl
-row true false e = sym e
-row false true e = e
-row false false e = refl
+pub beq-true : (a b : Bool) → Bool·beq a b ≡ true → a ≡ b
+beq-true true true e = refl
+beq-true true false e = sym e
+beq-true false true e = e
+beq-true false false e = refl
 
 pub table₁ : (f g : Bool → Bool) → rows₁ f g ≡ true → (a : Bool) → f a ≡ g a
-table₁ f g e true = row (f true) (g true) (and-parts (Bool·beq (f true) (g true)) (Bool·beq (f false) (g false)) e .0)
-table₁ f g e false = row (f false) (g false) (and-parts (Bool·beq (f true) (g true)) (Bool·beq (f false) (g false)) e .1)
+table₁ f g e true = beq-true (f true) (g true) (and-parts (Bool·beq (f true) (g true)) (Bool·beq (f false) (g false)) e .0)
+table₁ f g e false = beq-true (f false) (g false) (and-parts (Bool·beq (f true) (g true)) (Bool·beq (f false) (g false)) e .1)
 
 pub table₂ : (f g : Bool → Bool → Bool) → rows₂ f g ≡ true → (a b : Bool) → f a b ≡ g a b
 table₂ f g e true = table₁ (f true) (g true) (and-parts (rows₁ (f true) (g true)) (rows₁ (f false) (g false)) e .0)
@@ -42,6 +42,19 @@ table₃ f g e false = table₂ (f false) (g false) (and-parts (rows₂ (f true)
 pub table₄ : (f g : Bool → Bool → Bool → Bool → Bool) → rows₄ f g ≡ true → (a b c d : Bool) → f a b c d ≡ g a b c d
 table₄ f g e true = table₃ (f true) (g true) (and-parts (rows₃ (f true) (g true)) (rows₃ (f false) (g false)) e .0)
 table₄ f g e false = table₃ (f false) (g false) (and-parts (rows₃ (f true) (g true)) (rows₃ (f false) (g false)) e .1)
+
+-- the same of the rows on which a test t fails
+rest : (t x y : Bool) → (t || x) ≡ (t || y) → t ≡ false → x ≡ y
+rest t x y e q = sym (ap (λ (b : Bool). b || x) q) ∙ e ∙ ap (λ (b : Bool). b || y) q
+
+pub unless₃ : (t f g : Bool → Bool → Bool → Bool) → rows₃ (λ a b c. t a b c || f a b c) (λ a b c. t a b c || g a b c) ≡ true
+    → (a b c : Bool) → t a b c ≡ false → f a b c ≡ g a b c
+unless₃ t f g e a b c = rest (t a b c) (f a b c) (g a b c) (table₃ (λ a b c. t a b c || f a b c) (λ a b c. t a b c || g a b c) e a b c)
+
+pub unless₄ : (t f g : Bool → Bool → Bool → Bool → Bool) → rows₄ (λ a b c d. t a b c d || f a b c d) (λ a b c d. t a b c d || g a b c d) ≡ true
+    → (a b c d : Bool) → t a b c d ≡ false → f a b c d ≡ g a b c d
+unless₄ t f g e a b c d =
+    rest (t a b c d) (f a b c d) (g a b c d) (table₄ (λ a b c d. t a b c d || f a b c d) (λ a b c d. t a b c d || g a b c d) e a b c d)
 
 -- ---- laws that the library does not have
 
@@ -100,9 +113,16 @@ and-apart true true h = h refl
 and-apart true false h = refl
 and-apart false b h = refl
 
+pub apart-and : (a b : Bool) → (a && b) ≡ false → b ≡ true → a ≡ false
+apart-and a b e q = sym (and-true a) ∙ ap (λ (x : Bool). a && x) (sym q) ∙ e
+
 pub or-none : (a b : Bool) → (a || b) ≡ false → (a ≡ false) × (b ≡ false)
 or-none true b e = absurd (true≢false e)
 or-none false b e = (refl, e)
+
+-- a second part that does not hold
+pub or-first : (a : Bool) {b : Bool} → b ≡ false → (a || b) ≡ a
+or-first a e = ap (λ (x : Bool). a || x) e ∙ or-false a
 
 pub none-or : {a b : Bool} → a ≡ false → b ≡ false → (a || b) ≡ false
 none-or p q = ap₂ _||_ p q
@@ -120,10 +140,7 @@ or-second a b e f = sym (ap (λ (x : Bool). x || b) f) ∙ e
 
 pub xor-false : (a b : Bool) → xor a b ≡ false → a ≡ b
 unfolding xor
-xor-false true true e = refl
-xor-false true false e = e
-xor-false false true e = sym e
-xor-false false false e = refl
+xor-false a b e = beq-true a b (sym (Bool·not-not (Bool·beq a b)) ∙ ap not e)
 
 pub not-held : (b : Bool) → (b ≡ true → ⊥) → b ≡ false
 not-held true h = absurd (h refl)
@@ -142,6 +159,10 @@ pub same-test : (a b : Bool) → (a ≡ true → b ≡ true) → (b ≡ true →
 same-test true b f g = sym (f refl)
 same-test false true f g = g refl
 same-test false false f g = refl
+
+-- the first part holds where the second does
+pub and-within : (a b : Bool) → (b ≡ true → a ≡ true) → (a && b) ≡ b
+and-within a b h = same-test (a && b) b (λ e. and-parts a b e .1) (λ e. both (h e) e)
 
 -- a choice whose test is known
 pub cond-true {ℓ} : {A : Type ℓ} (b : Bool) (x y : A) → b ≡ true → cond b x y ≡ x

@@ -78,7 +78,11 @@ bit-xor =
     (two² (λ (x y : ℕ). differ x y < 2) (omega arith) (omega arith) (omega arith) (omega arith))
     (two² (λ (x y : ℕ). eqb (differ x y) 1 ≡ xor (eqb x 1) (eqb y 1)) refl refl refl refl)
 
--- the sum of two masks that share no line
+-- two masks that share no line
+pub shared-none : (a b : ℕ) → bitAnd a b ≡ 0 → (k : ℕ) → (bit a k && bit b k) ≡ false
+shared-none a b e k = sym (bit-and a b k) ∙ ap (λ (x : ℕ). bit x k) e ∙ bit-none k
+
+-- their sum
 pub bit-sum : (a b : ℕ) → bitAnd a b ≡ 0 → (k : ℕ) → bit (a + b) k ≡ (bit a k || bit b k)
 bit-sum a b e k = ap (λ (x : ℕ). bit x k) (sym (or-disjoint a b e)) ∙ bit-or a b k
 

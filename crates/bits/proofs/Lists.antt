@@ -1,4 +1,4 @@
--- The laws of `fold`, of `All`, of lists in which a number does not stand, of three elements in a row, and of `over`. Assumes nothing.
+-- The laws of `fold`, of `All`, of lists in which a number does not stand, of no element and of three in a row, and of `over`. Assumes nothing.
 use mathlib.Core.Path.{_≡_, refl, sym, ap, ap₂, _∙_}
 use mathlib.Core.Bool.{Bool, true, not, _&&_}
 use mathlib.Core.List.{List, [], _∷_, _++_, reverse, reverse-cons, append-assoc, append-nil, map}
@@ -59,9 +59,13 @@ unfolding free
 free-append s [] g p q = q
 free-append s (b ∷ f) g p q = let (x, y) = and-parts (not (eqb b s)) (free s f) p in both x (free-append s f g y q)
 
--- ---- two and three elements in a row
+-- ---- no element, and two and three in a row
 
 module _ {A : Type 0} where
+  pub empty : (xs : List A) → length xs ≡ 0 → xs ≡ []
+  empty [] e = refl
+  empty (x ∷ xs) e = absurd (omega arith)
+
   pub two : (d : A) (xs : List A) (k : ℕ) → k + 1 < length xs → drop k xs ≡ getD xs k d ∷ getD xs (k + 1) d ∷ drop (k + 2) xs
   two d xs k h =
       let one : suc k ≡ k + 1 = omega arith in

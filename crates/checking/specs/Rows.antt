@@ -1,10 +1,11 @@
--- The starred rows of document 01, as one table with one test of all its rows.
+-- The starred rows of document 01, as one table with one fact about all its rows.
 use mathlib.Core.Path.{_≡_}
 use mathlib.Core.Bool.{Bool, true, false, _&&_}
 use mathlib.Core.List.{List, [], _∷_}
 use Prim.Native.Nat.{ℕ, _+_, _*_}
 use lib.Dec.{eqb}
 use lib.ListN.{length, take, replicate}
+use Rattle.bits.specs.Lists.{All}
 use Rattle.circuit.specs.declared.gate.Gate.{Gate}
 use Rattle.circuit.specs.Outcome.{Outcome, served, refused, andThen}
 use Rattle.circuit.specs.Words.{wordsOf}
@@ -112,10 +113,9 @@ right (faults n suspect reference states masks) =
     && same (faultBuffer n (wordsOf suspect) n (wordsOf reference) states (empty (length masks))) masks
 right (step-none n gates) = foundNone (stepOutcome n (wordsOf gates)) && same (stepBuffer n (wordsOf gates)) (wordsOf gates)
 
-abbrev pub allRight : List Row → Bool
-allRight [] = true
-allRight (r ∷ rs) = right r && allRight rs
+abbrev pub RowsHold : List Row → Type 0
+RowsHold rs = All (λ (r : Row). right r ≡ true) rs
 
 -- every row is right
 pub record RowLaws : Type 0 where
-  pub all : allRight rows ≡ true
+  pub all : RowsHold rows

@@ -28,7 +28,7 @@ fn lines_below(n: u64) -> u64
     ensures { λ r. ⌜ r ≡ 2 ^ n - 1 ⌝ }
 {
     if n < Gate::MAX_LINES {
-        return (1 << n) - 1;
+        return circuit::gate::line(n) - 1;
     }
     u64::MAX
 }
@@ -42,7 +42,7 @@ fn free_lines(g: Gate, n: u64) -> u64
     let positive = g.positive;
     let negative = g.negative;
     let target = g.target;
-    let used = positive | negative | (1 << target);
+    let used = positive | negative | circuit::gate::line(target);
     lines_below(n) & (used ^ u64::MAX)
 }
 

@@ -9,6 +9,7 @@ use lib.ListN.{length}
 use lib.Pow.{pow-pos}
 use borrow.Author.Tests.{eq-eqb, ne-eqb, eqb-true, eqb-false, le-leb, lt-leb, leb-true, leb-false}
 use Rattle.bits.proofs.Bools.{either, cond-true, cond-false}
+use Rattle.bits.proofs.Lists.{empty}
 use Rattle.circuit.specs.declared.gate.Gate.{Gate}
 use Rattle.circuit.specs.Outcome.{served}
 use Rattle.circuit.specs.Run.{run, Equal, Differs}
@@ -25,7 +26,6 @@ use Rattle.text.specs.Compare.{maxList, Files, cascades, wrongFiles, fil
 use Rattle.text.specs.TwoFiles.{TwoFiles, FilesRefused}
 use Rattle.text.specs.CompareLaws.{MayWrite, refuses, overflows, reduces, sweeps, differs, asks, Compares}
 use Rattle.text.proofs.Fields.{differ-apart}
-use Rattle.text.proofs.WholeFile.{empty}
 use Rattle.text.proofs.Strict.{text-was}
 use Rattle.text.proofs.Verdicts.{judged-is}
 use Rattle.text.proofs.StandIns.{once, once-runs, none-good, once-good, first, second, first-bytes, second-bytes}

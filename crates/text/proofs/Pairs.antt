@@ -4,12 +4,12 @@ use mathlib.Core.Bool.{true}
 use mathlib.Core.List.{List}
 use Prim.Native.Nat.{ℕ, _≤_}
 use native.Mathlib.Omega.{arith}
-use lib.ListN.{length, length-append, length-reverse}
+use lib.ListN.{length, length-append}
 use Rattle.circuit.specs.declared.gate.Gate.{Gate}
 use Rattle.circuit.specs.Gate.{maxLines, maxMiterGates}
 use Rattle.circuit.specs.Words.{allValid}
 use Rattle.circuit.specs.Inverse.{inverse}
-use Rattle.circuit.proofs.Promises.{valid-append, inverse-valid}
+use Rattle.circuit.proofs.Promises.{valid-append, inverse-length, inverse-valid}
 use Rattle.circuit.specs.FileLaws.{FileCascade}
 use Rattle.checking.specs.Miter.{miterGates}
 
@@ -23,6 +23,6 @@ pub listable : (n : ℕ) (a b : List Gate) → FileCascade n a → FileCascade n
 listable n a b x y =
     record {
       lines = x .lines-high;
-      few = omega (arith, x .few, y .few, length-append a (inverse b), length-reverse b);
+      few = omega (arith, x .few, y .few, length-append a (inverse b), inverse-length b);
       valid = valid-append n a (inverse b) (x .gates) (inverse-valid n b (y .gates));
     }

@@ -2,7 +2,7 @@
 use mathlib.Core.Path.{_≡_, refl, sym, ap, subst, _∙_}
 use mathlib.Core.Logic.{_↔_}
 use mathlib.Core.List.{List, _++_}
-use Prim.Native.Nat.{ℕ, _+_, _≤_, _<_}
+use Prim.Native.Nat.{ℕ, _≤_, _<_}
 use lib.Dec.{eqb, leb}
 use lib.ListN.{length, drop, take-append-drop}
 use borrow.Author.Tests.{eqb-true, eqb-false, ne-eqb, eq-eqb, leb-true, leb-false, lt-leb}

@@ -9,6 +9,7 @@ use lib.Dec.{eqb, leb}
 use lib.ListN.{length}
 use borrow.Author.Tests.{eqb-true, eqb-false, leb-true, leb-false}
 use Rattle.bits.proofs.Bools.{either, cond-true, cond-false}
+use Rattle.bits.proofs.Lists.{empty}
 use Rattle.circuit.specs.declared.gate.Gate.{Gate}
 use Rattle.circuit.specs.Gate.{maxLines, maxMiterGates}
 use Rattle.circuit.specs.Outcome.{Outcome, served, refused}
@@ -37,7 +38,7 @@ use Rattle.text.specs.CompareLaws.{MayWrite, refuses, overflows, reduces
 use Rattle.text.proofs.Pairs.{listable}
 use Rattle.text.proofs.Reading.{text-back}
 use Rattle.text.proofs.PlainClauses.{plain-or, plain-tells}
-use Rattle.text.proofs.WholeFile.{WholeJudged, whole-judged, empty, whole-is, whole-refused}
+use Rattle.text.proofs.WholeFile.{WholeJudged, whole-judged, whole-is, whole-refused}
 use Rattle.text.proofs.pair.Laws as pair
 
 -- ---- two files

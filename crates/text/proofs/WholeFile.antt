@@ -2,7 +2,7 @@
 use mathlib.Core.Path.{_≡_, refl, sym, ap, subst, _∙_}
 use mathlib.Core.Logic.{_↔_}
 use mathlib.Core.Bool.{false}
-use mathlib.Core.List.{List, [], _∷_, append-nil}
+use mathlib.Core.List.{List, [], append-nil}
 use Prim.Native.Nat.{ℕ, _+_, _≤_, _<_}
 use native.Mathlib.Omega.{arith}
 use lib.Dec.{eqb}
@@ -64,10 +64,6 @@ whole-by text (served c) e =
 
 pub whole-judged : (text : List ℕ) → WholeJudged text (wholeFile text)
 whole-judged text = whole-by text (wholeFile text) refl
-
-pub empty : {A : Type 0} (xs : List A) → length xs ≡ 0 → xs ≡ []
-empty [] e = refl
-empty (x ∷ xs) e = absurd (omega arith)
 
 -- a file is read as what is said of it
 module _ (text : List ℕ) (n : ℕ) (a : List Gate) (good : FileCascade n a) where

@@ -1,6 +1,6 @@
 -- Every row of the table is right, by computation. Assumes nothing.
-use mathlib.Core.Path.{_≡_, refl}
-use mathlib.Core.Bool.{true, xor}
+use mathlib.Core.Path.{refl}
+use mathlib.Core.Bool.{xor}
 use lib.Count.{ones, onesIn}
 use Rattle.bits.specs.Digits.{bit}
 use Rattle.bits.specs.Lists.{fold}
@@ -14,11 +14,11 @@ use Rattle.checking.specs.Miter.{miterOutcome, miterBuffer}
 use Rattle.checking.specs.Clauses.{upFrom, targeted}
 use Rattle.checking.specs.Sizes.{gatesSizes, linesSizes, sizesOf, sizesOutcome}
 use Rattle.checking.specs.Faults.{everywhere, maskWhere, masksFrom, eachFrom, faultCheck, faultOutcome, faultBuffer}
-use Rattle.checking.specs.Rows.{rows, allRight, RowLaws}
+use Rattle.checking.specs.Rows.{rows, RowsHold, RowLaws}
 
-rows-right : allRight rows ≡ true
+rows-right : RowsHold rows
 unfolding ones onesIn fold same valid fires inverted apply gatesOf wordsOf validFrom sizeOutcome gatesOutcome checkOutcome pairOutcome runOutcome controlCount miterOutcome miterBuffer sizesOutcome sizesOf gatesSizes linesSizes upFrom targeted faultOutcome faultBuffer faultCheck eachFrom masksFrom maskWhere everywhere bit xor controlLines mayPass controlRemoved controlInverted differing matchOf scanFrom searchFrom replaced stepGates filled stepOutcome stepBuffer
-rows-right = refl
+rows-right = (refl, (refl, (refl, (refl, (refl, (refl, (refl, (refl, (refl, (refl, (refl, (refl, (refl, (refl, tt))))))))))))))
 
 pub row-laws : RowLaws
 row-laws = record { all = rows-right }

@@ -90,13 +90,6 @@ module _ {A B : Type 0} (first : Outcome A) (more : A → Outcome B) (Before : �
       wrong-told (before w) = then-refused first more x y (refusals x y .1 w)
       wrong-told (then a g w) = then-served first more a (values a .1 g) ∙ later a g x y .1 w
 
-  -- and served exactly where both are
-  pub good-served : (b : B) → (andThen first more ≡ served b) ↔ ((a : A) × (Good a) × (more a ≡ served b))
-  good-served b = (
-    (λ e. let (a, p, q) = then-both first more b e in (a, values a .0 p, q)),
-    (λ (a, g, q). then-served first more a (values a .1 g) ∙ q),
-  )
-
 -- a last test is refused exactly where it fails
 pub fails-refused : {A : Type 0} (test : Bool) (number place : ℕ) (value : A) (Bad : Type 0) → (test ≡ false) ↔ Bad
     → (x y : ℕ) → (demand test number place (served value) ≡ refused x y) ↔ Fails Bad number place x y

@@ -47,7 +47,7 @@ fn joined(mask: u64, k: u64, set: bool) -> u64
     ensures { λ r. ⌜ r ≡ bitOr mask (cond set (2 ^ k) 0) ⌝ }
 {
     if set {
-        return mask | (1 << k);
+        return mask | crate::gate::line(k);
     }
     mask
 }

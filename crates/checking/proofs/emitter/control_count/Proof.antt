@@ -1,5 +1,5 @@
 -- `checking::emitter::control_count` meets its contract. Assumes nothing.
-use mathlib.Core.Path.{_≡_, sym, ap, _∙_}
+use mathlib.Core.Path.{sym, ap, _∙_}
 use mathlib.Core.List.{List}
 use Prim.Native.Nat.{ℕ, suc}
 use native.Mathlib.Nat.{le-refl}
@@ -9,7 +9,7 @@ use lib.ListN.{length}
 use borrow.Author.Needs.{needs}
 use Rattle.bits.specs.Digits.{linesIn}
 use Rattle.bits.proofs.Lowest.{lines-none, lines-lowest}
-use Rattle.circuit.specs.Gate.{maxLines, controlCount}
+use Rattle.circuit.specs.Gate.{maxLines}
 use Rattle.circuit.proofs.Promises.{valid-facts, count-lines}
 use Rattle.checking.proofs.emitter.control_count.Statement.{statement}
 use Rattle.checking.proofs.emitter.control_count.Tie as tie

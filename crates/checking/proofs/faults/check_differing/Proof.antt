@@ -1,29 +1,26 @@
 -- `checking::faults::check_differing` meets its contract. The loop's invariant: the cascades differ on the states that were passed, so what is left decides. Assumes nothing.
-use mathlib.Core.Path.{_≡_, refl, sym, _∙_}
-use Prim.Native.Nat.{_≤_, _-_}
+use mathlib.Core.Path.{sym, _∙_}
+use Prim.Native.Nat.{_-_}
 use native.Mathlib.Omega.{arith}
-use lib.ListN.{length, drop}
+use lib.ListN.{length}
 use borrow.Author.Needs.{needs}
 use borrow.Author.Tests.{not-true, not-false}
 use Rattle.circuit.specs.Refusal.{agreeingState}
 use Rattle.circuit.specs.Words.{gatesOf}
 use Rattle.circuit.proofs.Promises.{why}
 use Rattle.checking.specs.Compare.{outputsDiffer}
-use Rattle.checking.specs.Faults.{eachFrom}
-use Rattle.checking.proofs.lemmas.faults.Loops.{each-next, each-fails, each-end}
+use Rattle.checking.proofs.lemmas.faults.Loops.{Passed, none-passed, each-next, each-fails, each-end}
 use Rattle.checking.proofs.faults.check_differing.Statement.{statement}
 use Rattle.checking.proofs.faults.check_differing.Tie as tie
 
 abbrev Inv-loop : tie.InvT-loop
-Inv-loop a b states i₀ i =
-    (i ≤ length states)
-    × (eachFrom (outputsDiffer (gatesOf a) (gatesOf b)) agreeingState 0 states ≡ eachFrom (outputsDiffer (gatesOf a) (gatesOf b)) agreeingState i (drop i states))
+Inv-loop a b states i₀ i = Passed (outputsDiffer (gatesOf a) (gatesOf b)) agreeingState states i
 
 abbrev μ-loop : tie.MeasureT-loop
 μ-loop a b states i₀ i = length states - i
 
 loop-holds : tie.Need-loop-holds Inv-loop μ-loop
-loop-holds c = (omega arith, refl)
+loop-holds c = none-passed _ _ _
 
 mul-outputs-differ : tie.Need-mul-outputs-differ Inv-loop μ-loop
 mul-outputs-differ c = search needs
@@ -41,8 +38,7 @@ returns : tie.Need-returns Inv-loop μ-loop
 returns c =
     let d = c .before .before in
     let l = d .before .before .before in
-    why (c .agreeing-state .ensures)
-    ∙ sym (l .loop .inv .1 ∙ each-fails _ agreeingState _ (l .loop .i) _ (omega arith) refl (sym (d .outputs-differ .ensures) ∙ not-true _ (c .before .if1 .taken)))
+    why (c .agreeing-state .ensures) ∙ sym (each-fails _ agreeingState _ _ (l .loop .inv) (omega arith) (sym (d .outputs-differ .ensures) ∙ not-true _ (c .before .if1 .taken)))
 
 add-i : tie.Need-add-i Inv-loop μ-loop
 add-i c = omega arith
@@ -54,10 +50,10 @@ loop-again : tie.Need-loop-again Inv-loop μ-loop
 loop-again c =
     let d = c .before in
     let l = d .before .before .before in
-    (omega arith, l .loop .inv .1 ∙ each-next _ agreeingState _ (l .loop .i) _ (omega arith) refl (sym (d .outputs-differ .ensures) ∙ not-false _ (c .if1 .left)))
+    each-next _ agreeingState _ _ (l .loop .inv) (omega arith) (sym (d .outputs-differ .ensures) ∙ not-false _ (c .if1 .left))
 
 returns-2 : tie.Need-returns-2 Inv-loop μ-loop
-returns-2 c = let l = c .before in sym (l .loop .inv .1 ∙ each-end _ agreeingState _ (l .loop .i) (omega arith))
+returns-2 c = sym (each-end _ agreeingState _ _ (c .before .loop .inv) (omega arith))
 
 pub check-differing-spec : {M : Type 1} → statement M
 check-differing-spec =

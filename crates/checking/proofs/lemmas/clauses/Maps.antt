@@ -1,14 +1,12 @@
--- What the clause list is made of. The clauses of gates on n lines depend on the current variables of lines below n only, and gates in a row add up. Assumes nothing.
-use mathlib.Core.Path.{_≡_, refl, sym, ap, ap₂, _∙_}
+-- What the clause list is made of. The clauses of a gate on n lines depend on the current variables of lines below n only. Assumes nothing.
+use mathlib.Core.Path.{_≡_, refl, ap, ap₂}
 use mathlib.Core.Bool.{Bool, true, cond}
-use mathlib.Core.List.{List, [], _∷_, _++_, map, append-assoc}
+use mathlib.Core.List.{List, [], _∷_, _++_, map}
 use Prim.Native.Nat.{ℕ, suc, _<_}
-use lib.Dec.{eqb}
 use lib.IntN.{ℤ}
 use Rattle.circuit.specs.declared.gate.Gate.{Gate}
 use Rattle.circuit.specs.Gate.{maxLines, valid, Control, Inside, controlsOf}
-use Rattle.circuit.specs.Words.{allValid}
-use Rattle.circuit.proofs.Promises.{valid-facts, valid-parts, controls-inside}
+use Rattle.circuit.proofs.Promises.{valid-facts, controls-inside}
 use Rattle.checking.specs.Clauses.{Clause, OR, plus, minus, inputOf, literalOf, gateClauses, usedBy, moved, clausesOfGate, gatesClauses, usedAfter, currentAfter, targeted, upFrom, differenceClause, differenceClauses, clausesOf}
 use Rattle.checking.proofs.lemmas.clauses.Forced.{Below}
 
@@ -55,18 +53,6 @@ pub gate-local : (n used : ℕ) (a b : ℕ → ℕ) (g : Gate) → valid n g ≡
 gate-local n used a b g v h =
     ap₂ (gateClauses used) (h (g .target) (valid-facts n g v .target-below)) (literals-local n a b h (controlsOf g) (controls-inside n g v maxLines))
 
-pub moved-local : (n used : ℕ) (a b : ℕ → ℕ) (g : Gate) → Agree n a b → Agree n (moved used a g) (moved used b g)
-unfolding moved
-moved-local n used a b g h k l = ap (cond (eqb k (g .target)) (usedBy used g)) (h k l)
-
-pub gates-local : (n used : ℕ) (a b : ℕ → ℕ) (gs : List Gate) → allValid n gs ≡ true → Agree n a b → gatesClauses used a gs ≡ gatesClauses used b gs
-unfolding gatesClauses
-gates-local n used a b [] v h = refl
-gates-local n used a b (g ∷ gs) v h =
-    let (x, y) = valid-parts n g gs v in
-    ap₂ (λ (p q : List Clause). p ++ q) (gate-local n used a b g x h)
-    (gates-local n (usedBy used g) (moved used a g) (moved used b g) gs y (moved-local n used a b g h))
-
 pub differences-local : (n : ℕ) (hit hit′ : ℕ → Bool) (left a b : ℕ → ℕ) → ((k : ℕ) → k < n → hit k ≡ hit′ k) → Agree n a b → (used : ℕ) (ks : List ℕ) → Below n ks
     → differenceClauses hit left a used ks ≡ differenceClauses hit′ left b used ks
 unfolding differenceClauses
@@ -75,23 +61,3 @@ differences-local n hit hit′ left a b h r used (k ∷ ks) w =
     ap₂ (λ (c : Clause) (cs : List Clause). c ∷ cs)
     (ap₂ (λ (x : Bool) (y : ℕ). differenceClause x (suc used) (left k) y) (h k (w .0)) (r k (w .0)))
     (differences-local n hit hit′ left a b h r (suc used) ks (w .1))
-
--- gates in a row
-pub used-append : (used : ℕ) (xs ys : List Gate) → usedAfter used (xs ++ ys) ≡ usedAfter (usedAfter used xs) ys
-unfolding usedAfter
-used-append used [] ys = refl
-used-append used (x ∷ xs) ys = used-append (usedBy used x) xs ys
-
-pub current-append : (used : ℕ) (current : ℕ → ℕ) (xs ys : List Gate)
-    → currentAfter used current (xs ++ ys) ≡ currentAfter (usedAfter used xs) (currentAfter used current xs) ys
-unfolding usedAfter currentAfter
-current-append used current [] ys = refl
-current-append used current (x ∷ xs) ys = current-append (usedBy used x) (moved used current x) xs ys
-
-pub gates-append : (used : ℕ) (current : ℕ → ℕ) (xs ys : List Gate)
-    → gatesClauses used current (xs ++ ys) ≡ gatesClauses used current xs ++ gatesClauses (usedAfter used xs) (currentAfter used current xs) ys
-unfolding gatesClauses usedAfter currentAfter
-gates-append used current [] ys = refl
-gates-append used current (x ∷ xs) ys =
-    ap (λ (cs : List Clause). clausesOfGate used current x ++ cs) (gates-append (usedBy used x) (moved used current x) xs ys)
-    ∙ sym (append-assoc (clausesOfGate used current x) (gatesClauses (usedBy used x) (moved used current x) xs) _)

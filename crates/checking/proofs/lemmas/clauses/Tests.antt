@@ -1,13 +1,13 @@
 -- Truth tables, and the two kinds of clauses as folds over their literals. Assumes nothing.
 use mathlib.Core.Path.{_≡_, refl, sym, ap, _∙_}
-use mathlib.Core.Bool.{Bool, true, false, not, _&&_, _||_, xor, cond, and-assoc, Bool·not-not}
+use mathlib.Core.Bool.{Bool, true, false, not, _&&_, _||_, xor, cond, and-assoc, Bool·beq, Bool·not-not}
 use mathlib.Core.List.{List, [], _∷_, _++_}
 use Prim.Native.Nat.{ℕ, zero, suc, _+_, _%_, _<_, _≤_}
 use native.Mathlib.Omega.{arith}
 use lib.Dec.{eqb, leb}
 use lib.IntN.{ℤ, pos, negsuc, negℤ}
 use borrow.Author.Tests.{le-leb}
-use Rattle.bits.proofs.Bools.{none-xor, table₁, table₂, table₃, table₄}
+use Rattle.bits.proofs.Bools.{beq-true, none-xor, table₁, table₂, table₃, table₄}
 use Rattle.checking.specs.Clauses.{Clause, OR, XOR}
 use Rattle.checking.specs.Satisfaction.{variable, value, trueCount, holds, satisfies, variableOf}
 
@@ -16,9 +16,7 @@ abbrev pub same : Bool → Bool → Bool
 same a b = cond a b (not b)
 
 pub same-true : (a b : Bool) → same a b ≡ true → a ≡ b
-same-true true b h = sym h
-same-true false true h = h
-same-true false false h = refl
+same-true a b h = beq-true a b (sym (table₂ same Bool·beq refl a b) ∙ h)
 
 pub same-self : (a : Bool) → same a a ≡ true
 same-self = table₁ _ _ refl

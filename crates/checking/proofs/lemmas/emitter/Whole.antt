@@ -11,6 +11,7 @@ use lib.Count.{trailingZeros}
 use lib.IntN.{ℤ, pos}
 use lib.ListN.{length, length-map}
 use Rattle.bits.specs.Digits.{linesIn}
+use Rattle.bits.proofs.Lists.{empty}
 use Rattle.bits.proofs.Lowest.{lines-none, lines-lowest, lowest-below}
 use Rattle.circuit.specs.declared.gate.Gate.{Gate}
 use Rattle.circuit.specs.Gate.{maxLines, controlCount, Control, controlsBelow, controlsOf}
@@ -29,11 +30,7 @@ by-lines current g n = ap (map (literalOf (byLine current))) (controls-lines g n
 
 -- a list of one line
 alone : (ls rest : List ℕ) (line : ℕ) → ls ≡ line ∷ rest → length ls ≡ 1 → ls ≡ line ∷ []
-alone ls rest line e h = e ∙ ap (λ (r : List ℕ). line ∷ r) (none rest (omega (arith, ap length e)))
-  where
-    none : (r : List ℕ) → length r ≡ 0 → r ≡ []
-    none [] z = refl
-    none (x ∷ r) z = absurd (omega arith)
+alone ls rest line e h = e ∙ ap (λ (r : List ℕ). line ∷ r) (empty rest (omega (arith, ap length e)))
 
 zero-stored : (used v : ℕ) (ls : List ℤ) → length ls ≡ 0 → stored (gateClauses used v ls) ≡ pos 1 ∷ pos 2 ∷ plus (suc used) ∷ plus v ∷ []
 unfolding stored

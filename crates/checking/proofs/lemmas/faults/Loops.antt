@@ -131,23 +131,34 @@ states-end gs xs ms i h = ap (λ (l : List ℕ). narrowedBy gs l ms) (drop-of-le
 
 -- ---- the tests of the states
 
-module _ (test : ℕ → Bool) (number : ℕ) (xs : List ℕ) (i x : ℕ) (inside : i < length xs) (is : x ≡ getD xs i 0) where
-  here : drop i xs ≡ x ∷ drop (i + 1) xs
-  here =
-      let one : suc i ≡ i + 1 = omega arith in
-      drop-cons xs i 0 inside ∙ ap₂ (λ (y k : ℕ). y ∷ drop k xs) (sym is) one
+module _ (test : ℕ → Bool) (number : ℕ) (xs : List ℕ) where
+  -- the states before i have passed, so those that are left decide
+  pub record Passed (i : ℕ) : Type 0 where
+    pub within : i ≤ length xs
+    pub left : eachFrom test number 0 xs ≡ eachFrom test number i (drop i xs)
 
-  pub each-next : test x ≡ true → eachFrom test number i (drop i xs) ≡ eachFrom test number (i + 1) (drop (i + 1) xs)
-  unfolding eachFrom
-  each-next e = ap (eachFrom test number i) here ∙ demand-met (test x) number i (eachFrom test number (i + 1) (drop (i + 1) xs)) e
+  pub none-passed : Passed 0
+  none-passed = record { within = omega arith; left = refl }
 
-  pub each-fails : test x ≡ false → eachFrom test number i (drop i xs) ≡ refused number i
-  unfolding eachFrom
-  each-fails e = ap (eachFrom test number i) here ∙ demand-failed (test x) number i (eachFrom test number (i + 1) (drop (i + 1) xs)) e
+  module _ (i : ℕ) (p : Passed i) where
+    pub each-end : length xs ≤ i → eachFrom test number 0 xs ≡ served i
+    unfolding eachFrom
+    each-end h = p .left ∙ ap (eachFrom test number i) (drop-of-length-le xs h)
 
-pub each-end : (test : ℕ → Bool) (number : ℕ) (xs : List ℕ) (i : ℕ) → length xs ≤ i → eachFrom test number i (drop i xs) ≡ served i
-unfolding eachFrom
-each-end test number xs i h = ap (eachFrom test number i) (drop-of-length-le xs h)
+    module _ (inside : i < length xs) where
+      here : drop i xs ≡ getD xs i 0 ∷ drop (i + 1) xs
+      here = let one : suc i ≡ i + 1 = omega arith in drop-cons xs i 0 inside ∙ ap (λ (k : ℕ). getD xs i 0 ∷ drop k xs) one
+
+      abbrev rest : Outcome ℕ
+      rest = eachFrom test number (i + 1) (drop (i + 1) xs)
+
+      pub each-next : test (getD xs i 0) ≡ true → Passed (i + 1)
+      unfolding eachFrom
+      each-next e = record { within = omega arith; left = p .left ∙ ap (eachFrom test number i) here ∙ demand-met (test (getD xs i 0)) number i rest e }
+
+      pub each-fails : test (getD xs i 0) ≡ false → eachFrom test number 0 xs ≡ refused number i
+      unfolding eachFrom
+      each-fails e = p .left ∙ ap (eachFrom test number i) here ∙ demand-failed (test (getD xs i 0)) number i rest e
 
 -- ---- what the call answers and leaves
 

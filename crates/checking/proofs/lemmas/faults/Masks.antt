@@ -1,6 +1,6 @@
 -- The laws of masks: their digits, the free lines of a gate, and the masks after one state more. Assumes nothing.
 use mathlib.Core.Path.{_≡_, refl, sym, ap, ap₂, _∙_}
-use mathlib.Core.Bool.{Bool, true, false, not, xor, cond, _&&_, _||_, or-false, and-true, or-true, and-false, and-assoc}
+use mathlib.Core.Bool.{Bool, true, false, not, xor, cond, _&&_, _||_, and-true, or-true, and-false, and-assoc}
 use mathlib.Core.List.{List, [], _∷_, _++_, map, append-assoc, append-nil}
 use Prim.Native.Nat.{ℕ, zero, suc, _+_, _-_, _^_, _<_, _≤_}
 use native.Mathlib.Nat.{le-refl}
@@ -10,7 +10,7 @@ use lib.Bits.{bitAnd, bitOr, bitXor}
 use lib.Pow.{pow-pos}
 use borrow.Author.Tests.{eqb-true, eqb-false, ltb-true, ltb-false, lt-ltb, le-ltb}
 use Rattle.bits.specs.Digits.{bit}
-use Rattle.bits.proofs.Bools.{either, cond-true, cond-false, none-xor, xor-all, table₁, table₃}
+use Rattle.bits.proofs.Bools.{either, or-first, cond-true, cond-false, none-xor, xor-all, table₁, table₃}
 use Rattle.bits.proofs.Digits.{bit-and, bit-or, bit-xor, bit-pow, bit-sum, bit-none, bits-equal, bit-above, line-clear}
 use Rattle.circuit.specs.declared.gate.Gate.{Gate}
 use Rattle.circuit.specs.Gate.{maxLines, fires, apply}
@@ -53,7 +53,7 @@ module _ (n : ℕ) (test : ℕ → Bool) (k : ℕ) (now : bit (maskWhere n test)
       (λ t.
       let f : k ≡ n = eqb-true k n t in
       ap (λ (b : Bool). bit m k || b) t ∙ or-true (bit m k) ∙ sym (ap₂ _&&_ (lt-ltb k (suc n) (omega arith)) (ap test f ∙ e)))
-      (λ t. ap (λ (b : Bool). bit m k || b) t ∙ or-false (bit m k) ∙ other (eqb-false k n t))
+      (λ t. or-first (bit m k) t ∙ other (eqb-false k n t))
 
   line-not-set : test n ≡ false → bit m k ≡ (ltb k (suc n) && test k)
   line-not-set e =

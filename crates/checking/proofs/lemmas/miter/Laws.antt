@@ -19,7 +19,7 @@ use Rattle.circuit.specs.Refusal.{noRoom}
 use Rattle.circuit.specs.Words.{gatesOf, wordsOf, allValid, Counts, pairOutcome}
 use Rattle.circuit.specs.Run.{run}
 use Rattle.circuit.specs.Inverse.{inverse, putInverse}
-use Rattle.circuit.proofs.Promises.{told, demand-met, demand-failed, demanded, then-served, then-refused, then-both, above, written-refused, gates-length, gates-words, words-gates, words-append, words-length, valid-append, pair-served, served-pair, pair-wrong, run-append, run-inverse, inverse-run, inverse-valid, inverse-fits}
+use Rattle.circuit.proofs.Promises.{told, demand-met, demand-failed, demanded, then-served, then-refused, then-both, above, written-refused, gates-length, gates-words, words-gates, words-append, words-length, valid-append, pair-served, served-pair, pair-wrong, run-append, run-inverse, inverse-run, inverse-length, inverse-valid, inverse-fits}
 use Rattle.checking.specs.Miter.{miterGates, miterOutcome, miterBuffer}
 use Rattle.checking.specs.MiterLaws.{MiterServed, MiterRefused, MiterStands, MiterLaws}
 
@@ -115,7 +115,7 @@ module _ (na : ℕ) (a : List ℕ) (nb : ℕ) (b : List ℕ) where
         let c = m .count in
         let p = gates-length a in
         let q = gates-length b in
-        let r = lib.ListN.length-reverse (gatesOf b) in
+        let r = inverse-length (gatesOf b) in
         length-append (gatesOf a) (inverse (gatesOf b)) ∙ omega arith
 
     front-length : length front ≡ 3 * k
@@ -134,7 +134,7 @@ module _ (na : ℕ) (a : List ℕ) (nb : ℕ) (b : List ℕ) where
     back-length =
         let y = m .second-good .size in
         let q = gates-length b in
-        let r = lib.ListN.length-reverse (gatesOf b) in
+        let r = inverse-length (gatesOf b) in
         words-length (inverse (gatesOf b)) ∙ omega arith
 
     first-words : take (length a) (miterBuffer na a nb b out) ≡ a

@@ -1,6 +1,6 @@
 -- The laws of a gate with one control more than another, by lines: where it fires, and that both are valid. Assumes nothing.
 use mathlib.Core.Path.{_≡_, refl, sym, ap, _∙_, subst}
-use mathlib.Core.Bool.{Bool, true, false, not, _&&_, false≢true, true≢false}
+use mathlib.Core.Bool.{Bool, true, false, not, _&&_, false≢true}
 use Prim.Native.Nat.{ℕ, _<_, _≤_}
 use native.Mathlib.Omega.{arith}
 use lib.Dec.{eqb, ltb}
@@ -80,8 +80,7 @@ module _ (g less : Gate) (k : ℕ) (b : Bool) (o : OneMore g less k b) where
 
   -- the one control more stands on a line below n that is not the target
   one-of : (b : Bool) → b ≡ false → not b ≡ false → ⊥
-  one-of true e f = true≢false e
-  one-of false e f = true≢false f
+  one-of b e f = refuted f (ap not e)
 
   pub more-below : (n : ℕ) → valid n g ≡ true → k < n
   more-below n v =

@@ -1,16 +1,16 @@
 -- The match by masks is the match by lines: of every two gates one way, of valid ones the other way. Assumes nothing.
 use mathlib.Core.Path.{_≡_, refl, sym, ap, ap₂, _∙_, subst}
-use mathlib.Core.Bool.{Bool, true, false, not, cond, _&&_, _||_, xor, false≢true, true≢false, and-self, and-not-self}
+use mathlib.Core.Bool.{Bool, true, false, not, cond, _&&_, _||_, xor, and-self, and-not-self}
 use Prim.Native.Nat.{ℕ, _^_}
 use native.Mathlib.Omega.{arith}
 use lib.Dec.{eqb}
 use lib.Bits.{bitAnd, bitOr, bitXor, xor-self, or-self}
 use lib.Count.{ones}
-use borrow.Author.Tests.{eqb-true, eqb-false, eq-eqb, ne-eqb}
+use borrow.Author.Tests.{eqb-true, eqb-false, eq-eqb, ne-eqb, not-true}
 use Rattle.bits.specs.Digits.{bit}
 use Rattle.bits.proofs.Digits.{bit-and, bit-or, bit-xor, bit-pow, bit-none, bits-equal}
 use Rattle.bits.proofs.Single.{ones-zero, single-pow, pow-single}
-use Rattle.bits.proofs.Bools.{or-none, xor-false, xor-same, table₁}
+use Rattle.bits.proofs.Bools.{and-apart, or-none, none-or, or-first, xor-false, xor-same, not-held, refuted, either, table₁, unless₄}
 use Rattle.circuit.specs.declared.gate.Gate.{Gate}
 use Rattle.circuit.specs.Gate.{maxLines, valid}
 use Rattle.circuit.proofs.Promises.{valid-by-lines}
@@ -80,10 +80,6 @@ module _ (k : ℕ) (g h : Gate) (a : AlikeBut k g h) where
       (λ l d. both-and (g .negative) (h .negative) l (a .negative l d) ∙ sym (b .negative l d))))
       (sym t)
 
-  or-first : (x y : Bool) → y ≡ false → (x || y) ≡ x
-  or-first true y e = refl
-  or-first false y e = e
-
   inverted-lines : (r : Gate) → AlikeBut k r h → r .target ≡ h .target
       → ((bit (g .positive) k && bit (h .positive) k) || dn) ≡ bit (r .positive) k → ((bit (g .negative) k && bit (h .negative) k) || dp) ≡ bit (r .negative) k
       → controlInverted g h ≡ r
@@ -92,10 +88,10 @@ module _ (k : ℕ) (g h : Gate) (a : AlikeBut k g h) where
       gate-equal _ r
       (bits-equal _ _ (at-line (λ (l : ℕ). bit (bitOr (bitAnd (g .positive) (h .positive)) (bitXor (g .negative) (h .negative))) l ≡ bit (r .positive) l) k
       (bit-or _ _ k ∙ ap₂ _||_ (bit-and _ _ k) (bit-xor _ _ k) ∙ p)
-      (λ l d. bit-or _ _ l ∙ or-first _ _ (bit-xor _ _ l ∙ xor-same _ _ (a .negative l d)) ∙ both-and (g .positive) (h .positive) l (a .positive l d) ∙ sym (b .positive l d))))
+      (λ l d. bit-or _ _ l ∙ or-first _ (bit-xor _ _ l ∙ xor-same _ _ (a .negative l d)) ∙ both-and (g .positive) (h .positive) l (a .positive l d) ∙ sym (b .positive l d))))
       (bits-equal _ _ (at-line (λ (l : ℕ). bit (bitOr (bitAnd (g .negative) (h .negative)) (bitXor (g .positive) (h .positive))) l ≡ bit (r .negative) l) k
       (bit-or _ _ k ∙ ap₂ _||_ (bit-and _ _ k) (bit-xor _ _ k) ∙ q)
-      (λ l d. bit-or _ _ l ∙ or-first _ _ (bit-xor _ _ l ∙ xor-same _ _ (a .positive l d)) ∙ both-and (g .negative) (h .negative) l (a .negative l d) ∙ sym (b .negative l d))))
+      (λ l d. bit-or _ _ l ∙ or-first _ (bit-xor _ _ l ∙ xor-same _ _ (a .positive l d)) ∙ both-and (g .negative) (h .negative) l (a .negative l d) ∙ sym (b .negative l d))))
       (sym t)
 
 -- ---- a match by lines is found by masks
@@ -124,8 +120,7 @@ extra = table₁ _ _ refl
 
 extra-apart : (b : Bool) → xor b false ≡ xor (not b) false → ⊥
 unfolding xor
-extra-apart true e = true≢false e
-extra-apart false e = false≢true e
+extra-apart b e = refuted (xor-same _ _ e) (table₁ (λ b. xor (xor b false) (xor (not b) false)) (λ b. true) refl b)
 
 extra-on : (b : Bool) → ((b && false) || xor (not b) false) ≡ not b
 unfolding xor
@@ -141,8 +136,7 @@ extra′ = table₁ _ _ refl
 
 extra-apart′ : (b : Bool) → xor false b ≡ xor false (not b) → ⊥
 unfolding xor
-extra-apart′ true e = true≢false e
-extra-apart′ false e = false≢true e
+extra-apart′ b e = refuted (xor-same _ _ e) (table₁ (λ b. xor (xor false b) (xor false (not b))) (λ b. true) refl b)
 
 extra-on′ : (b : Bool) → ((false && b) || xor false (not b)) ≡ not b
 unfolding xor
@@ -227,50 +221,52 @@ module _ (g h : Gate) where
     here : (dp k g h alike || dn k g h alike) ≡ true
     here = sym (line-differs k) ∙ ap (λ (x : ℕ). bit x k) is ∙ bit-pow k k ∙ eq-eqb k k refl
 
--- on line k: gp, gn and hp, hn, of which no pair is both; where both masks differ the polarities are opposite
-data Opposite (gp gn hp hn : Bool) : Type 0 where
-  opposed : (b : Bool) → gp ≡ b → gn ≡ not b → hp ≡ not b → hn ≡ not (not b) → Opposite gp gn hp hn
+-- on line k, by the digits gp, gn of the masks of g and hp, hn of those of h: a gate with both polarities, and masks that differ in unlike ways
+abbrev clash : Bool → Bool → Bool → Bool → Bool
+clash gp gn hp hn = (gn && gp) || (hn && hp)
 
-opposite-line : (gp gn hp hn : Bool) → (gp ≡ true → gn ≡ false) → (hp ≡ true → hn ≡ false) → (xor gp hp || xor gn hn) ≡ true → xor gp hp ≡ xor gn hn → Opposite gp gn hp hn
+abbrev unlike : Bool → Bool → Bool → Bool → Bool
+unlike gp gn hp hn = xor (xor gp hp) (xor gn hn)
+
+-- where both masks differ the polarities are opposite
+opposite-line : (gp gn hp hn : Bool) → clash gp gn hp hn ≡ false → (xor gp hp || xor gn hn) ≡ true → xor gp hp ≡ xor gn hn → (gn ≡ not gp) × (hp ≡ not gp) × (hn ≡ not (not gp))
 unfolding xor
-opposite-line true true hp hn f e d s = absurd (true≢false (f refl))
-opposite-line true false true true f e d s = absurd (true≢false (e refl))
-opposite-line true false true false f e d s = absurd (false≢true d)
-opposite-line true false false true f e d s = opposed true refl refl refl refl
-opposite-line true false false false f e d s = absurd (true≢false s)
-opposite-line false true true true f e d s = absurd (true≢false (e refl))
-opposite-line false true true false f e d s = opposed false refl refl refl refl
-opposite-line false true false true f e d s = absurd (false≢true d)
-opposite-line false true false false f e d s = absurd (false≢true s)
-opposite-line false false true true f e d s = absurd (true≢false (e refl))
-opposite-line false false true false f e d s = absurd (true≢false s)
-opposite-line false false false true f e d s = absurd (false≢true s)
-opposite-line false false false false f e d s = absurd (false≢true d)
+opposite-line gp gn hp hn c d s =
+    let t : Bool → Bool → Bool → Bool → Bool = λ gp gn hp hn. clash gp gn hp hn || (not (xor gp hp || xor gn hn) || unlike gp gn hp hn) in
+    let e : t gp gn hp hn ≡ false = none-or c (none-or (ap not d) (xor-same (xor gp hp) (xor gn hn) s)) in (
+      unless₄ t (λ gp gn hp hn. gn) (λ gp gn hp hn. not gp) refl gp gn hp hn e,
+      unless₄ t (λ gp gn hp hn. hp) (λ gp gn hp hn. not gp) refl gp gn hp hn e,
+      unless₄ t (λ gp gn hp hn. hn) (λ gp gn hp hn. not (not gp)) refl gp gn hp hn e,
+    )
 
 -- where one mask differs, one gate has a control there and the other has none
 data Longer (gp gn hp hn : Bool) : Type 0 where
   first : (b : Bool) → gp ≡ b → gn ≡ not b → hp ≡ false → hn ≡ false → Longer gp gn hp hn
   second : (b : Bool) → hp ≡ b → hn ≡ not b → gp ≡ false → gn ≡ false → Longer gp gn hp hn
 
-longer-line : (gp gn hp hn : Bool) → (gp ≡ true → gn ≡ false) → (hp ≡ true → hn ≡ false) → (xor gp hp ≡ xor gn hn → ⊥) → Longer gp gn hp hn
+longer-line : (gp gn hp hn : Bool) → clash gp gn hp hn ≡ false → (xor gp hp ≡ xor gn hn → ⊥) → Longer gp gn hp hn
 unfolding xor
-longer-line true true hp hn f e s = absurd (true≢false (f refl))
-longer-line true false true true f e s = absurd (true≢false (e refl))
-longer-line true false true false f e s = absurd (s refl)
-longer-line true false false true f e s = absurd (s refl)
-longer-line true false false false f e s = first true refl refl refl refl
-longer-line false true true true f e s = absurd (true≢false (e refl))
-longer-line false true true false f e s = absurd (s refl)
-longer-line false true false true f e s = absurd (s refl)
-longer-line false true false false f e s = first false refl refl refl refl
-longer-line false false true true f e s = absurd (true≢false (e refl))
-longer-line false false true false f e s = second true refl refl refl refl
-longer-line false false false true f e s = second false refl refl refl refl
-longer-line false false false false f e s = absurd (s refl)
+longer-line gp gn hp hn c s =
+    let d : (clash gp gn hp hn || not (unlike gp gn hp hn)) ≡ false = none-or c (not-held _ (λ e. s (xor-false (xor gp hp) (xor gn hn) (not-true _ e)))) in
+    let t : Bool → Bool → Bool → Bool → Bool = λ gp gn hp hn. (clash gp gn hp hn || not (unlike gp gn hp hn)) || not (gp || gn) in
+    either (gp || gn)
+    (λ o.
+    let e : t gp gn hp hn ≡ false = none-or d (ap not o) in
+    first gp refl (unless₄ t (λ gp gn hp hn. gn) (λ gp gn hp hn. not gp) refl gp gn hp hn e)
+    (unless₄ t (λ gp gn hp hn. hp) (λ gp gn hp hn. false) refl gp gn hp hn e)
+    (unless₄ t (λ gp gn hp hn. hn) (λ gp gn hp hn. false) refl gp gn hp hn e))
+    (λ o.
+    let (p, q) = or-none gp gn o in
+    second hp refl (unless₄ (λ gp gn hp hn. (clash gp gn hp hn || not (unlike gp gn hp hn)) || (gp || gn)) (λ gp gn hp hn. hn) (λ gp gn hp hn. not hp) refl gp gn hp hn (none-or d o)) p q)
 
 module _ (g h : Gate) (vg : valid maxLines g ≡ true) (vh : valid maxLines h ≡ true) (t : g .target ≡ h .target) (k : ℕ) (is : differing g h ≡ 2 ^ k) where
   abbrev a : AlikeBut k g h
   a = alike g h k is
+
+  no-clash : clash (bit (g .positive) k) (bit (g .negative) k) (bit (h .positive) k) (bit (h .negative) k) ≡ false
+  no-clash =
+      none-or (and-apart (bit (g .negative) k) (bit (g .positive) k) (valid-by-lines maxLines g vg .apart k))
+      (and-apart (bit (h .negative) k) (bit (h .positive) k) (valid-by-lines maxLines h vh .apart k))
 
   -- the gate that remains has the lines of h but for line k
   removed-alike : AlikeBut k (controlRemoved g h) h
@@ -285,8 +281,8 @@ module _ (g h : Gate) (vg : valid maxLines g ≡ true) (vh : valid maxLines h �
   unfolding controlInverted
   inverted-alike =
       record {
-        positive = λ l d. bit-or _ _ l ∙ or-first k g h a _ _ (bit-xor _ _ l ∙ xor-same _ _ (a .negative l d)) ∙ both-and k g h a (g .positive) (h .positive) l (a .positive l d);
-        negative = λ l d. bit-or _ _ l ∙ or-first k g h a _ _ (bit-xor _ _ l ∙ xor-same _ _ (a .positive l d)) ∙ both-and k g h a (g .negative) (h .negative) l (a .negative l d);
+        positive = λ l d. bit-or _ _ l ∙ or-first _ (bit-xor _ _ l ∙ xor-same _ _ (a .negative l d)) ∙ both-and k g h a (g .positive) (h .positive) l (a .positive l d);
+        negative = λ l d. bit-or _ _ l ∙ or-first _ (bit-xor _ _ l ∙ xor-same _ _ (a .positive l d)) ∙ both-and k g h a (g .negative) (h .negative) l (a .negative l d);
       }
 
   one-more : (r less : Gate) (b : Bool) → AlikeBut k r less → r .target ≡ less .target → bit (r .positive) k ≡ b → bit (r .negative) k ≡ not b
@@ -297,20 +293,18 @@ module _ (g h : Gate) (vg : valid maxLines g ≡ true) (vh : valid maxLines h �
   removes : bitXor (g .positive) (h .positive) ≡ bitXor (g .negative) (h .negative) → Matches g h (Match.drop (controlRemoved g h))
   unfolding controlRemoved
   removes e =
-      go (opposite-line _ _ _ _ (valid-by-lines maxLines g vg .apart k) (valid-by-lines maxLines h vh .apart k) (here g h k is) (sym (bit-xor _ _ k) ∙ ap (λ (x : ℕ). bit x k) e ∙ bit-xor _ _ k))
-    where
-      go : Opposite (bit (g .positive) k) (bit (g .negative) k) (bit (h .positive) k) (bit (h .negative) k) → Matches g h (Match.drop (controlRemoved g h))
-      go (opposed b p q u v) =
-          let r = controlRemoved g h in
-          let x : bit (r .positive) k ≡ false = bit-and _ _ k ∙ ap₂ _&&_ p u ∙ and-not-self b in
-          let y : bit (r .negative) k ≡ false = bit-and _ _ k ∙ ap₂ _&&_ q v ∙ and-not-self (not b) in
-          let ah : AlikeBut k h r = alike-back k r h removed-alike in
-          drop r k b (one-more g r b (alike-both k g h r a ah) t p q x y) (one-more h r (not b) ah refl u v x y)
+      let r = controlRemoved g h in
+      let (q, u, v) = opposite-line _ (bit (g .negative) k) _ (bit (h .negative) k) no-clash (here g h k is) (sym (bit-xor _ _ k) ∙ ap (λ (x : ℕ). bit x k) e ∙ bit-xor _ _ k) in
+      let b = bit (g .positive) k in
+      let x : bit (r .positive) k ≡ false = bit-and _ _ k ∙ ap (λ (t : Bool). b && t) u ∙ and-not-self b in
+      let y : bit (r .negative) k ≡ false = bit-and _ _ k ∙ ap₂ _&&_ q v ∙ and-not-self (not b) in
+      let ah : AlikeBut k h r = alike-back k r h removed-alike in
+      drop r k b (one-more g r b (alike-both k g h r a ah) t refl q x y) (one-more h r (not b) ah refl u v x y)
 
   inverts : (bitXor (g .positive) (h .positive) ≡ bitXor (g .negative) (h .negative) → ⊥) → Matches g h (Match.turn (controlInverted g h))
   unfolding controlInverted
   inverts n =
-      go (longer-line _ _ _ _ (valid-by-lines maxLines g vg .apart k) (valid-by-lines maxLines h vh .apart k) (λ e. n (masks-same k g h a e)))
+      go (longer-line _ _ _ _ no-clash (λ e. n (masks-same k g h a e)))
     where
       go : Longer (bit (g .positive) k) (bit (g .negative) k) (bit (h .positive) k) (bit (h .negative) k) → Matches g h (Match.turn (controlInverted g h))
       go (first b p q u v) =

@@ -9,7 +9,7 @@ use lib.Dec.{eqb, leb, ltb}
 use lib.Bits.{bitOr}
 use borrow.Author.Tests.{eqb-true, eqb-false, eq-eqb, ne-eqb, le-leb, leb-true, ltb-true, ltb-false, lt-ltb, le-ltb}
 use Rattle.bits.specs.Digits.{bit}
-use Rattle.bits.proofs.Bools.{either, and-parts, both, or-none, none-or, table₄}
+use Rattle.bits.proofs.Bools.{either, and-parts, both, or-none, or-first, none-or, table₄}
 use Rattle.bits.proofs.Lists.{all-append, all-implies}
 use Rattle.bits.proofs.Digits.{bit-or, bit-pow, bit-none, bits-equal, bit-above}
 use Rattle.circuit.specs.declared.gate.Gate.{Gate}
@@ -50,8 +50,7 @@ mask-push s cs c =
     bits-equal _ _ (λ k.
     mask-append s cs (c ∷ []) k
     ∙ ap (λ (b : Bool). bit (maskOf s cs) k || b)
-    (mask-bit s c [] k ∙ ap (λ (b : Bool). (Bool·beq (c .positive) s && eqb k (c .line)) || b) (mask-none s k)
-    ∙ or-false (Bool·beq (c .positive) s && eqb k (c .line)) ∙ sym (one-bit (Bool·beq (c .positive) s) (c .line) k))
+    (mask-bit s c [] k ∙ or-first (Bool·beq (c .positive) s && eqb k (c .line)) (mask-none s k) ∙ sym (one-bit (Bool·beq (c .positive) s) (c .line) k))
     ∙ sym (bit-or (maskOf s cs) (cond (Bool·beq (c .positive) s) (2 ^ c .line) 0) k))
 
 -- a line stands among the controls exactly when it stands in one of the masks
@@ -169,20 +168,16 @@ abbrev pub maskIn : Bool → Gate → ℕ
 maskIn true g = g .positive
 maskIn false g = g .negative
 
-abbrev pick : Bool → Bool → Bool → Bool
-pick true p q = p
-pick false p q = q
-
-line-mask : (s : Bool) (n k : ℕ) (p q : Bool) → (p ≡ true → q ≡ false) → bit (maskOf s (onLine n p q)) k ≡ (eqb k n && pick s p q)
+line-mask : (s : Bool) (n k : ℕ) (p q : Bool) → (p ≡ true → q ≡ false) → bit (maskOf s (onLine n p q)) k ≡ (eqb k n && cond s p q)
 line-mask s n k true true h = absurd (true≢false (h refl))
-line-mask true n k true false h = mask-bit true _ [] k ∙ ap (λ (b : Bool). eqb k n || b) (mask-none true k) ∙ or-false (eqb k n) ∙ sym (and-true (eqb k n))
+line-mask true n k true false h = mask-bit true _ [] k ∙ or-first (eqb k n) (mask-none true k) ∙ sym (and-true (eqb k n))
 line-mask false n k true false h = mask-bit false _ [] k ∙ mask-none false k ∙ sym (and-false (eqb k n))
 line-mask true n k false true h = mask-bit true _ [] k ∙ mask-none true k ∙ sym (and-false (eqb k n))
-line-mask false n k false true h = mask-bit false _ [] k ∙ ap (λ (b : Bool). eqb k n || b) (mask-none false k) ∙ or-false (eqb k n) ∙ sym (and-true (eqb k n))
+line-mask false n k false true h = mask-bit false _ [] k ∙ or-first (eqb k n) (mask-none false k) ∙ sym (and-true (eqb k n))
 line-mask true n k false false h = mask-none true k ∙ sym (and-false (eqb k n))
 line-mask false n k false false h = mask-none false k ∙ sym (and-false (eqb k n))
 
-pick-mask : (s : Bool) (g : Gate) (k : ℕ) → pick s (bit (g .positive) k) (bit (g .negative) k) ≡ bit (maskIn s g) k
+pick-mask : (s : Bool) (g : Gate) (k : ℕ) → cond s (bit (g .positive) k) (bit (g .negative) k) ≡ bit (maskIn s g) k
 pick-mask true g k = refl
 pick-mask false g k = refl
 

@@ -43,15 +43,6 @@ pub record LineMet (g : Gate) (s k : ℕ) : Type 0 where
 abbrev onLine : ℕ → Bool → Bool → List Control
 onLine k p q = cond p (record { line = k; positive = true } ∷ []) (cond q (record { line = k; positive = false } ∷ []) [])
 
--- the controls below 0 and below n + 1
-pub controls-none : (g : Gate) → controlsBelow 0 g ≡ []
-unfolding controlsBelow
-controls-none g = refl
-
-pub controls-next : (n : ℕ) (g : Gate) → controlsBelow (suc n) g ≡ controlsBelow n g ++ controlAt g n
-unfolding controlsBelow
-controls-next n g = refl
-
 -- one for a line at most
 few-line : (k : ℕ) (p q : Bool) → length (onLine k p q) ≤ 1
 few-line k true q = omega arith

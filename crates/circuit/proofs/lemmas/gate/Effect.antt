@@ -13,56 +13,39 @@ use Rattle.circuit.specs.declared.gate.Gate.{Gate}
 use Rattle.bits.specs.Digits.{bit}
 use Rattle.circuit.specs.Gate.{maxLines, notGate, fires, valid, inverted, apply, missed, toggled}
 use Rattle.circuit.specs.Laws.{FiresByLines}
-use Rattle.bits.proofs.Bools.{and-parts, both, either, same-test, cond-true, cond-false, and-apart, xor-none, xor-back}
-use Rattle.bits.proofs.Digits.{bit-and, bit-or, bit-xor, bit-pow, bit-none, bits-equal, or-parts}
-use Rattle.circuit.proofs.lemmas.gate.Valid.{valid-facts, valid-apart, lines-valid, target-clear, Valid}
+use Rattle.bits.proofs.Bools.{and-parts, both, either, same-test, cond-true, cond-false, and-apart, apart-and, and-within, unless₃, xor-none, xor-back}
+use Rattle.bits.proofs.Digits.{bit-and, bit-or, bit-xor, bit-pow, bit-none, bits-equal, or-parts, line-clear, shared-none}
+use Rattle.circuit.proofs.lemmas.gate.Valid.{valid-facts, lines-valid, target-clear, Valid}
 
 -- ---- firing by lines
-
-on-line : (a b : Bool) → (a && b) ≡ b → b ≡ true → a ≡ true
-on-line true b e q = refl
-on-line false b e q = e ∙ q
-
-off-line : (a b : Bool) → (a && b) ≡ false → b ≡ true → a ≡ false
-off-line true b e q = absurd (false≢true (sym e ∙ q))
-off-line false b e q = refl
-
-line-on : (a b : Bool) → (b ≡ true → a ≡ true) → (a && b) ≡ b
-line-on true b h = refl
-line-on false true h = h refl
-line-on false false h = refl
 
 pub fires-lines : (g : Gate) (s : ℕ) → fires g s ≡ true → FiresByLines g s
 unfolding fires
 fires-lines g s e =
     let (p, q) = and-parts _ _ e in
     record {
-      on = λ k. on-line _ _ (sym (bit-and s (g .positive) k) ∙ ap (λ (x : ℕ). bit x k) (eqb-true _ _ p));
-      off = λ k. off-line _ _ (sym (bit-and s (g .negative) k) ∙ ap (λ (x : ℕ). bit x k) (eqb-true _ _ q) ∙ bit-none k);
+      on = λ k h. and-parts (bit s k) (bit (g .positive) k) (sym (bit-and s (g .positive) k) ∙ ap (λ (x : ℕ). bit x k) (eqb-true _ _ p) ∙ h) .0;
+      off = λ k. apart-and _ _ (sym (bit-and s (g .negative) k) ∙ ap (λ (x : ℕ). bit x k) (eqb-true _ _ q) ∙ bit-none k);
     }
 
 pub lines-fires : (g : Gate) (s : ℕ) → FiresByLines g s → fires g s ≡ true
 unfolding fires
 lines-fires g s f =
-    both (eq-eqb _ _ (bits-equal _ _ (λ k. bit-and s (g .positive) k ∙ line-on _ _ (f .on k))))
+    both (eq-eqb _ _ (bits-equal _ _ (λ k. bit-and s (g .positive) k ∙ and-within _ _ (f .on k))))
     (eq-eqb _ _ (bits-equal _ _ (λ k. bit-and s (g .negative) k ∙ and-apart _ _ (f .off k) ∙ sym (bit-none k))))
 
 -- ---- a gate fires on its output as on its input
 
-module _ (n : ℕ) (g : Gate) (v : Valid n g) where
-  masked : (a e m : Bool) → (e ≡ true → m ≡ false) → (xor a e && m) ≡ (a && m)
-  unfolding xor
-  masked true true true h = sym (h refl)
-  masked true true false h = refl
-  masked true false m h = refl
-  masked false true m h = h refl
-  masked false false m h = refl
+masked : (a e m : Bool) → (m && e) ≡ false → (xor a e && m) ≡ (a && m)
+unfolding xor
+masked = unless₃ _ _ _ refl
 
+module _ (n : ℕ) (g : Gate) (v : Valid n g) where
   mask-kept : (s m : ℕ) → bit m (g .target) ≡ false → bitAnd (bitXor s (2 ^ g .target)) m ≡ bitAnd s m
   mask-kept s m h =
       bits-equal _ _ (λ k.
-      bit-and _ _ k ∙ ap (λ (b : Bool). b && bit m k) (bit-xor _ _ k ∙ ap (xor (bit s k)) (bit-pow (g .target) k))
-      ∙ masked (bit s k) (eqb k (g .target)) (bit m k) (λ e. ap (bit m) (eqb-true _ _ e) ∙ h)
+      bit-and _ _ k ∙ ap (λ (b : Bool). b && bit m k) (bit-xor s _ k)
+      ∙ masked (bit s k) (bit (2 ^ g .target) k) (bit m k) (shared-none m (2 ^ g .target) (line-clear m (g .target) h) k)
       ∙ sym (bit-and s m k))
 
   pub fires-kept : (s : ℕ) → fires g (bitXor s (2 ^ g .target)) ≡ fires g s
@@ -93,40 +76,20 @@ fires-missed s p q =
     xor-same a b z = omega (arith, xor-add-and a b, and-le-l a b, and-le-r a b)
 
 -- the same of a gate, by one mask: on each line
-line-unmet : (b p q : Bool) → (p ≡ true → b ≡ true) → (q ≡ true → b ≡ false) → (xor b p && (p || q)) ≡ false
+line-missed : (b p q : Bool) → (p && q) ≡ false → (xor b p && (p || q)) ≡ (xor (b && p) p || (b && q))
 unfolding xor
-line-unmet true true q f g = refl
-line-unmet true false true f g = g refl
-line-unmet true false false f g = refl
-line-unmet false true q f g = sym (f refl)
-line-unmet false false q f g = refl
-
-line-met : (b p q : Bool) → (p ≡ true → q ≡ false) → (xor b p && (p || q)) ≡ false → (p ≡ true → b ≡ true) × (q ≡ true → b ≡ false)
-unfolding xor
-line-met true true q h e = ((λ x. refl), (λ x. absurd (false≢true (sym (h refl) ∙ x))))
-line-met true false true h e = ((λ x. absurd (false≢true x)), (λ x. e))
-line-met true false false h e = ((λ x. absurd (false≢true x)), (λ x. absurd (false≢true x)))
-line-met false true q h e = ((λ x. sym e), (λ x. refl))
-line-met false false q h e = ((λ x. absurd (false≢true x)), (λ x. refl))
+line-missed = unless₃ _ _ _ refl
 
 pub missed-none : (g : Gate) (s : ℕ) → valid maxLines g ≡ true → eqb (missed g s) 0 ≡ fires g s
-unfolding missed
-missed-none g s v =
-    same-test _ _
-    (λ e. met (λ k. sym (digit k) ∙ ap (λ (x : ℕ). bit x k) (eqb-true (bitAnd (bitXor s (g .positive)) (bitOr (g .positive) (g .negative))) 0 e) ∙ bit-none k))
-    (λ e.
-    let f = fires-lines g s e in
-    eq-eqb _ _ (bits-equal _ _ (λ k. digit k ∙ line-unmet (bit s k) (bit (g .positive) k) (bit (g .negative) k) (f .on k) (f .off k) ∙ sym (bit-none k))))
+unfolding missed fires
+missed-none g s v = ap (λ (x : ℕ). eqb x 0) (bits-equal _ _ same) ∙ fires-missed s (g .positive) (g .negative)
   where
-    digit : (k : ℕ) → bit (bitAnd (bitXor s (g .positive)) (bitOr (g .positive) (g .negative))) k
-        ≡ (xor (bit s k) (bit (g .positive) k) && (bit (g .positive) k || bit (g .negative) k))
-    digit k = bit-and _ _ k ∙ ap₂ _&&_ (bit-xor s (g .positive) k) (bit-or (g .positive) (g .negative) k)
-
-    met : ((k : ℕ) → (xor (bit s k) (bit (g .positive) k) && (bit (g .positive) k || bit (g .negative) k)) ≡ false) → fires g s ≡ true
-    met h =
-        let l : (k : ℕ) → (bit (g .positive) k ≡ true → bit s k ≡ true) × (bit (g .negative) k ≡ true → bit s k ≡ false) =
-        λ k. line-met (bit s k) (bit (g .positive) k) (bit (g .negative) k) (valid-apart maxLines g (valid-facts maxLines g v) k) (h k) in
-        lines-fires g s (record { on = λ k. l k .0; off = λ k. l k .1 })
+    same : (k : ℕ) → bit (bitAnd (bitXor s (g .positive)) (bitOr (g .positive) (g .negative))) k
+        ≡ bit (bitOr (bitXor (bitAnd s (g .positive)) (g .positive)) (bitAnd s (g .negative))) k
+    same k =
+        bit-and _ _ k ∙ ap₂ _&&_ (bit-xor s (g .positive) k) (bit-or (g .positive) (g .negative) k)
+        ∙ line-missed (bit s k) (bit (g .positive) k) (bit (g .negative) k) (shared-none (g .positive) (g .negative) (valid-facts maxLines g v .apart) k)
+        ∙ sym (bit-or _ _ k ∙ ap₂ _||_ (bit-xor _ _ k ∙ ap (λ (b : Bool). xor b (bit (g .positive) k)) (bit-and s (g .positive) k)) (bit-and s (g .negative) k))
 
 -- ---- the state after a gate
 

@@ -14,7 +14,7 @@ use Rattle.bits.specs.Digits.{bit, linesIn}
 use Rattle.circuit.specs.Gate.{maxLines, valid, controlCount}
 use Rattle.circuit.specs.Laws.{ValidByLines}
 use Rattle.bits.proofs.Bools.{and-parts, both, not-held, either, same-test, and-apart, or-none, none-or}
-use Rattle.bits.proofs.Digits.{bit-and, bit-or, bit-none, bits-equal, bit-above, below-of-bits, line-clear, clear-line, lines-ones, ones-both}
+use Rattle.bits.proofs.Digits.{bit-and, bit-or, bit-none, bits-equal, bit-above, below-of-bits, shared-none, line-clear, clear-line, lines-ones, ones-both}
 
 -- ---- `valid` as facts
 
@@ -93,8 +93,7 @@ both-below n p q e =
 
 -- two masks that share no line
 pub valid-apart : (n : ℕ) (g : Gate) → Valid n g → (k : ℕ) → bit (g .positive) k ≡ true → bit (g .negative) k ≡ false
-valid-apart n g v k e =
-    sym (ap (λ (t : Bool). t && bit (g .negative) k) e) ∙ sym (bit-and (g .positive) (g .negative) k) ∙ ap (λ (x : ℕ). bit x k) (v .apart) ∙ bit-none k
+valid-apart n g v k e = sym (ap (λ (t : Bool). t && bit (g .negative) k) e) ∙ shared-none (g .positive) (g .negative) (v .apart) k
 
 -- ---- validity by lines
 

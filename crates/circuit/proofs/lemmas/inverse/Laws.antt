@@ -78,6 +78,9 @@ inverse-run gs s = ap (λ (l : List Gate). run l (run (inverse gs) s)) (sym (inv
 pub inverse-append : (a b : List Gate) → inverse (a ++ b) ≡ inverse b ++ inverse a
 inverse-append a b = reverse-append a b
 
+pub inverse-length : (gs : List Gate) → length (inverse gs) ≡ length gs
+inverse-length gs = length-reverse gs
+
 -- the inverse of valid gates is valid
 pub inverse-valid : (n : ℕ) (gs : List Gate) → allValid n gs ≡ true → allValid n (inverse gs) ≡ true
 unfolding allValid
@@ -145,7 +148,7 @@ module _ (n : ℕ) (ws out : List ℕ) (k : ℕ) (c : Cascade n ws maxGates k) (
   hs = inverse (gatesOf ws)
 
   back-count : length hs ≡ k
-  back-count = length-reverse (gatesOf ws) ∙ cascade-count n ws maxGates k c
+  back-count = inverse-length (gatesOf ws) ∙ cascade-count n ws maxGates k c
 
   pub back-cascade : Cascade n (wordsOf hs) maxGates k
   back-cascade =

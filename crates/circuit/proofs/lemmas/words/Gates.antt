@@ -10,7 +10,7 @@ use lib.Seq.{take-nil, drop-nil}
 use borrow.Author.Tests.{le-leb, lt-leb}
 use Rattle.bits.specs.Lists.{over}
 use Rattle.bits.proofs.Bools.{and-parts, both, cond-true, cond-false}
-use Rattle.bits.proofs.Lists.{three}
+use Rattle.bits.proofs.Lists.{empty, three}
 use Rattle.circuit.specs.declared.gate.Gate.{Gate}
 use Rattle.circuit.specs.Gate.{notGate, valid}
 use Rattle.circuit.specs.Words.{gatesOf, gateAt, gateWords, wordsOf, putGate, allValid, gateIn}
@@ -62,10 +62,6 @@ gates-next ws i h =
 
 pub gates-end : (ws : List ℕ) (i : ℕ) → length ws / 3 ≤ i → gatesOf (drop (3 * i) ws) ≡ []
 gates-end ws i h = empty (gatesOf (drop (3 * i) ws)) (omega (arith, gates-length (drop (3 * i) ws), length-drop (3 * i) ws))
-  where
-    empty : (gs : List Gate) → length gs ≡ 0 → gs ≡ []
-    empty [] e = refl
-    empty (g ∷ gs) e = absurd (omega arith)
 
 -- ---- gates as words
 

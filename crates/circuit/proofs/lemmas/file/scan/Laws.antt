@@ -73,12 +73,6 @@ digit-low b e = let (x, y) = and-parts (leb 48 b) (leb b 57) e in leb-true 48 b 
 pub digit-high : (b : ℕ) → isDigit b ≡ true → b ≤ 57
 digit-high b e = let (x, y) = and-parts (leb 48 b) (leb b 57) e in leb-true b 57 y
 
--- LF is no digit, so a digit stands inside the text
-pub digit-inside : (r : List ℕ) (k : ℕ) → isDigit (getD r k 10) ≡ true → k < length r
-digit-inside [] k e = absurd (false≢true e)
-digit-inside (b ∷ r) zero e = omega arith
-digit-inside (b ∷ r) (suc k) e = let h = digit-inside r k e in omega arith
-
 -- ---- the number there, by its first three bytes
 
 abbrev numberAt : List ℕ → ℕ
