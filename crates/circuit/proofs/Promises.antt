@@ -4,7 +4,7 @@
 pub use Rattle.circuit.proofs.lemmas.Outcome.{never, unserved, why, demand-met, demand-failed, demanded, then-served, then-refused, then-both, then-either, then-fails, last-failed, same-refusal, told, written-served, written-refused, wrong-refused, fails-refused, same-refused, at-least, above, unequal}
 -- a gate, by its masks, its lines and its list of controls
 pub use Rattle.circuit.proofs.lemmas.gate.Valid.{valid-facts, valid-by-lines, lines-valid, valid-more, count-lines}
-pub use Rattle.circuit.proofs.lemmas.gate.Effect.{fires-lines, lines-fires, inverted-fired, inverted-idle, apply-gate, apply-bit, apply-none, apply-not, apply-twice, apply-below, missed-none, toggled-apply}
+pub use Rattle.circuit.proofs.lemmas.gate.Effect.{fires-lines, lines-fires, inverted-fired, inverted-idle, apply-gate, apply-bit, apply-none, apply-not, apply-twice, apply-below, missed-line, missed-none, toggled-apply}
 pub use Rattle.circuit.proofs.lemmas.gate.Controls.{met-none, met-one, met-next, met-append, few-controls, controls-fire, controls-count, controlOn, controls-lines, controls-below}
 -- gates and their words
 pub use Rattle.circuit.proofs.lemmas.words.Gates.{gates-length, gate-at, gate-none, gates-next, gates-end, words-none, words-one, words-next, words-append, words-length, words-take, words-drop, gates-words, words-gates, put-fits, put-short}

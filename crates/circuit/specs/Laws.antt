@@ -1,7 +1,7 @@
 -- What this crate proves of gates, of a caller's words, of cascades and of cascade files.
 use mathlib.Core.Path.{_≡_}
 use mathlib.Core.Logic.{_↔_}
-use mathlib.Core.Bool.{true, false, xor, _&&_}
+use mathlib.Core.Bool.{true, false, not, xor, _&&_, _||_}
 use mathlib.Core.List.{List, _++_, reverse}
 use Prim.Native.Nat.{ℕ, _*_, _%_, _^_, _<_, _≤_}
 use lib.Dec.{eqb}
@@ -41,7 +41,8 @@ pub record GateLaws : Type 0 where
   pub apply-line : (g : Gate) (s k : ℕ) → valid maxLines g ≡ true → bit (apply g s) k ≡ xor (bit s k) (fires g s && eqb k (g .target))
   pub apply-none : (g : Gate) (s : ℕ) → valid maxLines g ≡ false → apply g s ≡ s
   pub apply-not : (t s : ℕ) → t < maxLines → apply (notGate t) s ≡ bitXor s (2 ^ t)
-  -- of a gate that was tested
+  -- of a gate that was tested: a line is missed where it is a positive control and 0, or a negative one and 1; none is where the gate fires
+  pub missed-line : (g : Gate) (s k : ℕ) → valid maxLines g ≡ true → bit (missed g s) k ≡ ((bit (g .positive) k && not (bit s k)) || (bit (g .negative) k && bit s k))
   pub missed-none : (g : Gate) (s : ℕ) → valid maxLines g ≡ true → eqb (missed g s) 0 ≡ fires g s
   pub toggled-apply : (g : Gate) (s : ℕ) → valid maxLines g ≡ true → toggled g s ≡ apply g s
   pub apply-twice : (g : Gate) (s : ℕ) → apply g (apply g s) ≡ s

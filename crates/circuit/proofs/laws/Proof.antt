@@ -1,6 +1,6 @@
 -- `circuit::laws` meets its contract: the record of the laws. Assumes nothing.
 use Rattle.circuit.proofs.lemmas.gate.Valid.{valid-by-lines, lines-valid, valid-more, count-lines}
-use Rattle.circuit.proofs.lemmas.gate.Effect.{fires-lines, lines-fires, apply-bit, apply-none, apply-not, missed-none, toggled-apply, apply-twice, apply-below}
+use Rattle.circuit.proofs.lemmas.gate.Effect.{fires-lines, lines-fires, apply-bit, apply-none, apply-not, missed-line, missed-none, toggled-apply, apply-twice, apply-below}
 use Rattle.circuit.proofs.lemmas.gate.Controls.{controls-count, controls-fire}
 use Rattle.circuit.proofs.lemmas.words.Gates.{gates-words, words-gates}
 use Rattle.circuit.proofs.lemmas.words.Tests.{check-served, served-check, check-refused, refused-check, pair-served, served-pair, pair-refused}
@@ -23,6 +23,7 @@ returns c =
             apply-line = apply-bit;
             apply-none = apply-none;
             apply-not = apply-not;
+            missed-line = missed-line;
             missed-none = missed-none;
             toggled-apply = toggled-apply;
             apply-twice = apply-twice;

@@ -1,6 +1,6 @@
 -- The laws of a gate's effect: firing by lines and by one test, the new state digit by digit, and that a gate is its own inverse. Assumes nothing.
 use mathlib.Core.Path.{_≡_, refl, sym, ap, ap₂, _∙_}
-use mathlib.Core.Bool.{cond, Bool, true, false, _&&_, _||_, xor, false≢true}
+use mathlib.Core.Bool.{cond, Bool, true, false, not, _&&_, _||_, xor, false≢true}
 use Prim.Native.Nat.{ℕ, _*_, _%_, _^_, _<_}
 use native.Mathlib.Nat.{zero-mul, one-mul}
 use native.Mathlib.Omega.{arith}
@@ -13,7 +13,7 @@ use Rattle.circuit.specs.declared.gate.Gate.{Gate}
 use Rattle.bits.specs.Digits.{bit}
 use Rattle.circuit.specs.Gate.{maxLines, notGate, fires, valid, inverted, apply, missed, toggled}
 use Rattle.circuit.specs.Laws.{FiresByLines}
-use Rattle.bits.proofs.Bools.{and-parts, both, either, same-test, cond-true, cond-false, and-apart, apart-and, and-within, unless₃, xor-none, xor-back}
+use Rattle.bits.proofs.Bools.{and-parts, both, either, same-test, cond-true, cond-false, and-apart, apart-and, and-within, table₃, unless₃, xor-none, xor-back}
 use Rattle.bits.proofs.Digits.{bit-and, bit-or, bit-xor, bit-pow, bit-none, bits-equal, or-parts, line-clear, shared-none}
 use Rattle.circuit.proofs.lemmas.gate.Valid.{valid-facts, lines-valid, target-clear, Valid}
 
@@ -75,20 +75,29 @@ fires-missed s p q =
     xor-same : (a b : ℕ) → bitXor a b ≡ 0 → a ≡ b
     xor-same a b z = omega (arith, xor-add-and a b, and-le-l a b, and-le-r a b)
 
--- the same of a gate, by one mask: on each line
-line-missed : (b p q : Bool) → (p && q) ≡ false → (xor b p && (p || q)) ≡ (xor (b && p) p || (b && q))
+-- on each line: a positive control is missed where it is 0, a negative one where it is 1
+line-missed : (b p q : Bool) → (p && q) ≡ false → (xor b p && (p || q)) ≡ ((p && not b) || (q && b))
 unfolding xor
 line-missed = unless₃ _ _ _ refl
 
+pub missed-line : (g : Gate) (s k : ℕ) → valid maxLines g ≡ true → bit (missed g s) k ≡ ((bit (g .positive) k && not (bit s k)) || (bit (g .negative) k && bit s k))
+unfolding missed
+missed-line g s k v =
+    bit-and _ _ k ∙ ap₂ _&&_ (bit-xor s (g .positive) k) (bit-or (g .positive) (g .negative) k)
+    ∙ line-missed (bit s k) (bit (g .positive) k) (bit (g .negative) k) (shared-none (g .positive) (g .negative) (valid-facts maxLines g v .apart) k)
+
+-- the same by the mask that the test of firing makes
+line-fires : (b p q : Bool) → (xor (b && p) p || (b && q)) ≡ ((p && not b) || (q && b))
+unfolding xor
+line-fires = table₃ _ _ refl
+
 pub missed-none : (g : Gate) (s : ℕ) → valid maxLines g ≡ true → eqb (missed g s) 0 ≡ fires g s
-unfolding missed fires
+unfolding fires
 missed-none g s v = ap (λ (x : ℕ). eqb x 0) (bits-equal _ _ same) ∙ fires-missed s (g .positive) (g .negative)
   where
-    same : (k : ℕ) → bit (bitAnd (bitXor s (g .positive)) (bitOr (g .positive) (g .negative))) k
-        ≡ bit (bitOr (bitXor (bitAnd s (g .positive)) (g .positive)) (bitAnd s (g .negative))) k
+    same : (k : ℕ) → bit (missed g s) k ≡ bit (bitOr (bitXor (bitAnd s (g .positive)) (g .positive)) (bitAnd s (g .negative))) k
     same k =
-        bit-and _ _ k ∙ ap₂ _&&_ (bit-xor s (g .positive) k) (bit-or (g .positive) (g .negative) k)
-        ∙ line-missed (bit s k) (bit (g .positive) k) (bit (g .negative) k) (shared-none (g .positive) (g .negative) (valid-facts maxLines g v .apart) k)
+        missed-line g s k v ∙ sym (line-fires (bit s k) (bit (g .positive) k) (bit (g .negative) k))
         ∙ sym (bit-or _ _ k ∙ ap₂ _||_ (bit-xor _ _ k ∙ ap (λ (b : Bool). xor b (bit (g .positive) k)) (bit-and s (g .positive) k)) (bit-and s (g .negative) k))
 
 -- ---- the state after a gate
