@@ -23,16 +23,16 @@ def unfolds(name, crate="circuit"):
 
 def law(line):
     """A law with a line under its signature."""
-    return f"\nslip : ⊤\n{line}\nslip = tt\n"
+    return f"\nsample : ⊤\n{line}\nsample = tt\n"
 
 
-# What is told: the texts appended, by file, and in which file which words have to be said.
+# Each change: the texts appended, by file; then the file and the words that have to be told.
 CASES = {
     "unfolded by name": ({PAIRS: "\nuse Rattle.circuit.specs.Run.{runOutcome}\n" + law("unfolding runOutcome")}, PAIRS, unfolds("runOutcome")),
     "unfolded by the module": ({PAIRS: "\nuse Rattle.circuit.specs.Words as w\n" + law("unfolding w.allValid")}, PAIRS, unfolds("w.allValid")),
     "unfolded by the folder": ({PAIRS: "\nuse Rattle.circuit.specs as c\n" + law("unfolding c.Words.allValid")}, PAIRS, unfolds("c.Words.allValid")),
     "unfolded by the path": ({PAIRS: law("unfolding Rattle.circuit.specs.Words.allValid")}, PAIRS, unfolds("Rattle.circuit.specs.Words.allValid")),
-    "unfolded in a term": ({PAIRS: "\nslip : ⊤\nslip = unfold Rattle.circuit.specs.Words.allValid in tt\n"}, PAIRS, unfolds("Rattle.circuit.specs.Words.allValid")),
+    "unfolded in a term": ({PAIRS: "\nsample : ⊤\nsample = unfold Rattle.circuit.specs.Words.allValid in tt\n"}, PAIRS, unfolds("Rattle.circuit.specs.Words.allValid")),
     "unfolded on a second line": ({PAIRS: "\nuse Rattle.circuit.specs.Run.{runOutcome}\n" + law("unfolding pick\n    runOutcome")}, PAIRS, unfolds("runOutcome")),
     "passed on by a file": (
         {PAIRS: "\npub use Rattle.circuit.specs.Run.{runOutcome}\n", OTHER: "\nuse Rattle.text.proofs.Pairs.{runOutcome}\n" + law("unfolding runOutcome")},
@@ -45,7 +45,7 @@ CASES = {
     "a private lemma": ({PAIRS: "\nuse Rattle.circuit.proofs.lemmas.gate.Valid.{valid-facts}\n"}, PAIRS, "which circuit does not promise"),
     "all proofs": ({PAIRS: "\nuse Rattle.circuit.proofs as d\n"}, PAIRS, "which circuit does not promise"),
     "a whole crate": ({PAIRS: "\nuse Rattle.circuit as d\n"}, PAIRS, "which circuit does not promise"),
-    "a hole": ({PAIRS: "\nslip : ⊤\nslip = ?\n"}, PAIRS, "a hole"),
+    "a hole": ({PAIRS: "\nsample : ⊤\nsample = ?\n"}, PAIRS, "a hole"),
     "an open function with a requires": (
         {GATE: "\npub fn lowest_line(mask: u64) -> u64\n    requires { ⌜ 0 < mask ⌝ }\n    ensures { λ r. ⌜ r ≡ mask ⌝ }\n{\n    mask\n}\n"},
         GATE,

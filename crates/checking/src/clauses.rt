@@ -52,7 +52,7 @@ fn extra_clauses(k: u64) -> u64
     k
 }
 
-// The lines of the mask, and line k. By a shift of its own: with `circuit::gate::line` the loop of `list_sizes` has two instructions more.
+// The lines of the mask, and line k.
 fn with_line(mask: u64, k: u64) -> u64
     requires { ⌜ k < maxLines ⌝ }
     ensures { λ r. ⌜ r ≡ bitOr mask (2 ^ k) ⌝ }
