@@ -38,7 +38,7 @@ pub fn limited(x: u64) -> u64
     "specs/Rules.antt": "pub twice : ℕ → ℕ\ntwice x = 2 * x\n\npub thrice : ℕ → ℕ\nthrice x = 3 * x\n",
     "proofs/double/Proof.antt": "use Rattle.demo.proofs.double.Tie as tie\n\nreturns : tie.Need-returns\nreturns c = refl\n",
     "proofs/triple/Proof.antt": "use Rattle.demo.proofs.triple.Tie as tie\n\nreturns : tie.Need-returns\nreturns c = refl\n",
-    "proofs/Laws.antt": "use Rattle.demo.specs.Rules.{twice}\n\npub even : (x : ℕ) → twice x % 2 ≡ 0\neven x = refl\n",
+    "proofs/Laws.antt": "use Rattle.demo.specs.Rules.{twice, thrice}\n\npub even : (x : ℕ) → twice x % 2 ≡ 0\neven x = refl\n\npub third : (x : ℕ) → thrice x % 3 ≡ 0\nthird x = refl\n\npub sixth : (x : ℕ) → twice (thrice x) % 6 ≡ 0\nsixth x = even (third x)\n\npub other : 1 ≡ 1\nother = refl\n",
 }
 
 FALSE = "the two sides are `1` and `2`"
@@ -46,6 +46,7 @@ DOUBLE = "# wrong: x = 2\n# refused: proofs/double/Proof.antt returns\nfile: src
 TRIPLE = "# wrong: x = 1\n# refused: proofs/triple/Proof.antt returns\nfile: src/lib.rt\nold:     x * 3\nnew:     x * 4\n"
 LIMITED = "# wrong: x = 7\n# refused: demo::limited returns\nfile: src/lib.rt\nold: if x < LIMIT {\nnew: if x <= LIMIT {\n"
 LAW = "# refused: proofs/Laws.antt even\nfile: specs/Rules.antt\nold: twice x = 2 * x\nnew: twice x = 3 * x\n"
+THIRD = "# refused: proofs/Laws.antt third\nfile: specs/Rules.antt\nold: thrice x = 3 * x\nnew: thrice x = 4 * x\n"
 CONTRACT = "# wrong: x = 1\n# refused: proofs/double/Proof.antt returns\nfile: src/lib.rt\nold: ⌜ r ≡ twice x ⌝\nnew: ⌜ r ≡ thrice x ⌝\n"
 CONSTANT = "# wrong: x = 7\n# refused: demo::limited returns\nfile: src/lib.rt\nold: LIMIT: u64 = 7;\nnew: LIMIT: u64 = 8;\n"
 
@@ -66,6 +67,8 @@ AT_DOUBLE = error("proofs/double/Proof.antt", "returns")
 AT_TRIPLE = error("proofs/triple/Proof.antt", "returns")
 AT_LIMITED = need("demo::limited", "returns")
 AT_LAW = error("proofs/Laws.antt", "even")
+AT_THIRD = error("proofs/Laws.antt", "third")
+AT_SIXTH = error("proofs/Laws.antt", "sixth")
 
 # What is tried; the file of edits and its log; the exit status and a part of what is printed.
 CASES = [
@@ -87,10 +90,15 @@ CASES = [
     ("an edit of a definition beside one that it does not reach", group(one=LAW, two=TRIPLE), AT_LAW + AT_TRIPLE, 0, "2 refused"),
     ("an edit of a definition, with an error at another place that it reaches", group(one=LAW, two=TRIPLE), AT_LAW + AT_TRIPLE + AT_DOUBLE, 0, "2 refused"),
     ("an edit of a definition, with an error where it does not reach", group(one=LAW, two=TRIPLE), AT_LAW + AT_TRIPLE + error("proofs/Other.antt", "odd"), 1, "an error that none of its edits reaches, at proofs/Other.antt odd"),
-    ("an edit of a definition beside one that it reaches", group(one=LAW, two=DOUBLE), AT_LAW + AT_DOUBLE, 1, "one reaches proofs/double/Proof.antt, which two names"),
-    ("an edit of a contract beside one of a caller", group(one=CONTRACT, two=LIMITED), AT_DOUBLE + AT_LIMITED, 1, "one reaches demo::limited, which two names"),
+    ("an edit of a definition beside one that it reaches", group(one=LAW, two=DOUBLE), AT_LAW + AT_DOUBLE, 1, "one reaches proofs/double/Proof.antt returns, which two names"),
+    ("two edits of definitions, at two facts of one file", group(one=LAW, two=THIRD), AT_LAW + AT_THIRD + AT_SIXTH, 0, "2 refused"),
+    ("two edits of definitions, the second one not refused", group(one=LAW, two=THIRD), AT_LAW, 1, "demo/two: FAILED: its log has no error at proofs/Laws.antt third"),
+    ("two edits of definitions, at a fact that both reach", group(one=LAW, two=THIRD.replace("Laws.antt third", "Laws.antt sixth")), AT_LAW + AT_SIXTH, 1, "one reaches proofs/Laws.antt sixth, which two names"),
+    ("two edits of definitions, a fact that both reach refused before", group(one=LAW, two=THIRD), AT_LAW + AT_SIXTH + AT_THIRD, 1, "demo/two: FAILED: it names proofs/Laws.antt third; the log's first is proofs/Laws.antt sixth"),
+    ("an edit of a definition, with an error at a fact of that file that it does not reach", group(one=LAW, two=TRIPLE), AT_LAW + AT_TRIPLE + error("proofs/Laws.antt", "other"), 1, "an error that none of its edits reaches, at proofs/Laws.antt other"),
+    ("an edit of a contract beside one of a caller", group(one=CONTRACT, two=LIMITED), AT_DOUBLE + AT_LIMITED, 1, "one reaches demo::limited returns, which two names"),
     ("an edit of a constant beside one of another function", group(one=CONSTANT, two=TRIPLE), AT_LIMITED + AT_TRIPLE, 0, "2 refused"),
-    ("an edit that does not reach the place that it names", group(one=DOUBLE.replace("proofs/double/Proof.antt", "proofs/Laws.antt"), two=TRIPLE), AT_LAW + AT_TRIPLE, 1, "does not reach proofs/Laws.antt"),
+    ("an edit that does not reach the place that it names", group(one=DOUBLE.replace("proofs/double/Proof.antt", "proofs/Laws.antt"), two=TRIPLE), AT_LAW + AT_TRIPLE, 1, "does not reach proofs/Laws.antt returns"),
     ("an edit of the code that does not say where it is wrong", DOUBLE.replace("# wrong: x = 2\n", ""), AT_DOUBLE, 1, "has no line '# wrong: INPUT'"),
     ("an edit of a definition needs no such line", LAW, AT_LAW, 0, "1 refused"),
     ("an edit of two functions", group(one=DOUBLE + "old:     x * 3\nnew:     x * 4\n", two=TRIPLE), AT_DOUBLE + AT_TRIPLE, 1, "they can't share a check"),
