@@ -14,7 +14,7 @@ use Rattle.circuit.specs.Refusal.{refusal, noRoom}
 use Rattle.circuit.proofs.Promises.{demand-met, demand-failed, told, why}
 use Rattle.text.specs.declared.comparison.ComparedAnswer.{ComparedAnswer}
 use Rattle.text.specs.Answers.{fitOutcome, fitBuffer, WritesWhere}
-use Rattle.text.specs.Compare.{maxList, fileWords, miterWords, comparison, comparisonText, compareText, Rooms, RoomsFit, compareOutcome, compareBuffer}
+use Rattle.text.specs.Compare.{maxList, fileWords, miterWords, comparison, comparedText, compareText, Rooms, RoomsFit, compareOutcome, compareBuffer}
 use Rattle.text.specs.private.Comparing.{ofCompared, SaysCompared}
 use Rattle.text.proofs.Writes.{two-tests, writes-where}
 
@@ -60,12 +60,12 @@ module _ (first second : List ℕ) (lent : Rooms) (good : fileWords ≤ lent .fi
       ∙ demand-met _ _ _ _ (le-leb miterWords (lent .miter) good-3) ∙ demand-met _ _ _ _ (le-leb maxList (lent .clauses) good-4)
 
   pub compared-told : (answer : ComparedAnswer) (clauses : List ℤ) → SaysCompared answer clauses (comparison first second) → (r : Outcome ℕ) (last out : List ℕ)
-      → Yields r last (fitOutcome (comparisonText (ofCompared answer clauses)) (length out)) (fitBuffer (comparisonText (ofCompared answer clauses)) out)
+      → Yields r last (fitOutcome (comparedText (ofCompared answer clauses)) (length out)) (fitBuffer (comparedText (ofCompared answer clauses)) out)
       → Yields r last (compareOutcome first second lent (length out)) (compareBuffer first second lent out)
   unfolding compareBuffer fitBuffer compareText
   compared-told answer clauses s r last out y =
-      let e : comparisonText (ofCompared answer clauses) ≡ compareText first second = ap comparisonText (s .is) in
-      let g : fitOutcome (comparisonText (ofCompared answer clauses)) (length out) ≡ compareOutcome first second lent (length out) =
+      let e : comparedText (ofCompared answer clauses) ≡ compareText first second = ap comparedText (s .is) in
+      let g : fitOutcome (comparedText (ofCompared answer clauses)) (length out) ≡ compareOutcome first second lent (length out) =
       ap (λ (text : List ℕ). fitOutcome text (length out)) e ∙ sym (rooms-good (length out)) in
       record {
         answer = y .answer ∙ g;

@@ -13,9 +13,9 @@ use Rattle.circuit.specs.Refusal.{refusal, noRoom}
 use Rattle.circuit.specs.Text.{tab, lineFeed}
 use Rattle.circuit.proofs.Promises.{demand-met, demand-failed, told, why}
 use Rattle.text.specs.Dimacs.{blank, decimal, headerText}
-use Rattle.text.specs.Tomiter.{refusedWord, numbersText, refusalText}
+use Rattle.text.specs.FileOutcome.{refusedWord, numbersText, refusalText}
 use Rattle.text.specs.Answers.{fitOutcome, fitBuffer}
-use Rattle.text.specs.Compare.{differWord, differText, comparisonText}
+use Rattle.text.specs.Compare.{differWord, differText, comparedText}
 use Rattle.text.specs.declared.comparison.ComparedAnswer.{ComparedAnswer}
 use Rattle.text.specs.private.Comparing.{ofCompared}
 use Rattle.text.proofs.Decimal.{decimal-few}
@@ -41,10 +41,10 @@ module _ (text out : List ℕ) where
 
 -- an answer that is known
 pub answer-as : (x y : ComparedAnswer) (clauses : List ℤ) (r : Outcome ℕ) (last out : List ℕ) → x ≡ y
-    → Yields r last (fitOutcome (comparisonText (ofCompared y clauses)) (length out)) (fitBuffer (comparisonText (ofCompared y clauses)) out)
-    → Yields r last (fitOutcome (comparisonText (ofCompared x clauses)) (length out)) (fitBuffer (comparisonText (ofCompared x clauses)) out)
+    → Yields r last (fitOutcome (comparedText (ofCompared y clauses)) (length out)) (fitBuffer (comparedText (ofCompared y clauses)) out)
+    → Yields r last (fitOutcome (comparedText (ofCompared x clauses)) (length out)) (fitBuffer (comparedText (ofCompared x clauses)) out)
 answer-as x y clauses r last out e t =
-    subst (λ (z : ComparedAnswer). Yields r last (fitOutcome (comparisonText (ofCompared z clauses)) (length out)) (fitBuffer (comparisonText (ofCompared z clauses)) out)) (sym e) t
+    subst (λ (z : ComparedAnswer). Yields r last (fitOutcome (comparedText (ofCompared z clauses)) (length out)) (fitBuffer (comparedText (ofCompared z clauses)) out)) (sym e) t
 
 -- ---- how long
 
