@@ -13,7 +13,7 @@ ghost use Rattle.text.specs.Answers.{ofText, fitOutcome, fitBuffer};
 ghost use Rattle.text.specs.Dimacs.{decimal, dimacsOf};
 ghost use Rattle.text.specs.Plain.{plainClauses};
 ghost use Rattle.text.specs.FileOutcome.{numbersText, refusalText};
-ghost use Rattle.text.specs.private.Words.{storedIn, StoresPlain};
+ghost use Rattle.text.specs.private.Words.{storedIn, StoresList};
 ghost use Rattle.text.specs.Compare.{comparedText};
 ghost use Rattle.text.specs.private.Comparing.{ofCompared, ComparedReady};
 
@@ -53,7 +53,7 @@ pub(crate) fn fit_refusal(out: &mut [u8], why: Refusal, file: u64) -> TextAnswer
 
 // Writes the plain clauses that words store, over so many variables.
 fn fit_clauses(out: &mut [u8], variables: u64, words: &[ClauseWord]) -> TextAnswer
-    requires { ⌜ StoresPlain (now words) ⌝ }
+    requires { ⌜ StoresList (now words) ⌝ }
     ensures { λ r. ⌜ Yields (ofText r) (now (out .exit)) (fitOutcome (dimacsOf variables (plainClauses (storedIn (now (words .entry))))) (length (now (out .entry)))) (fitBuffer (dimacsOf variables (plainClauses (storedIn (now (words .entry))))) (now (out .entry))) ⌝ }
 {
     let sizes = crate::plain::list_sizes(words);

@@ -33,8 +33,8 @@ use Rattle.text.specs.Compare.{fileWords, maxList, Comparison, reduced, 
 use Rattle.text.specs.private.Comparing.{InRoom, MiterWords, MiterCascade, LeftIn, SaysFiles, SaysCompared, SaysAny}
 use Rattle.text.proofs.FileOutcome.{both-met, both-failed}
 use Rattle.text.proofs.list.Laws.{emit-stands}
-use Rattle.text.proofs.plain.Laws.{stored-in}
-use Rattle.text.proofs.plain.Short.{stands-plain}
+use Rattle.text.proofs.stored.Records.{stored-in}
+use Rattle.text.proofs.plain.Short.{stands-stored}
 
 -- ---- the reduction
 
@@ -142,7 +142,7 @@ module _ (n : ℕ) (ws : List ℕ) (m : MiterCascade n ws) where
           ready =
               record {
                 inside = st .inside;
-                stores = stands-plain t buffer (formulaOf n gs) st h;
+                stores = stands-stored t buffer (formulaOf n gs) st h;
               };
         }
 

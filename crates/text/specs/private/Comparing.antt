@@ -16,7 +16,7 @@ use Rattle.text.specs.declared.pair.FilesAnswer.the-variants as files
 use Rattle.text.specs.declared.comparison.ComparedAnswer.{ComparedAnswer}
 use Rattle.text.specs.declared.comparison.ComparedAnswer.the-variants as answer
 use Rattle.text.specs.private.Lists.{FileWords}
-use Rattle.text.specs.private.Words.{storedIn, StoresPlain}
+use Rattle.text.specs.private.Words.{storedIn, StoresList}
 use Rattle.text.specs.FileOutcome.{FileOutcome, answered, refusedAt}
 use Rattle.text.specs.Compare.{CascadePair, cascades, Comparison, reduced, swept, differing, unsolved}
 
@@ -80,7 +80,7 @@ ofCompared (answer.Refused why file) clauses = refusedAt (why .number) file (why
 -- the words of clauses stand at the start of the room
 pub record InClauses (words : ℕ) (clauses : List ℤ) : Type 0 where
   pub inside : words ≤ length clauses
-  pub stores : StoresPlain (take words clauses)
+  pub stores : StoresList (take words clauses)
 
 abbrev pub ComparedReady : ComparedAnswer → List ℤ → Type 0
 ComparedReady answer.Reduction clauses = Unit {0}
