@@ -29,8 +29,8 @@ use Rattle.text.specs.declared.pair.FilesAnswer.the-variants as files
 use Rattle.text.specs.private.Lists.{FileWords, ListStands}
 use Rattle.text.specs.Dimacs.{formulaOf}
 use Rattle.text.specs.FileOutcome.{FileOutcome, answered, refusedAt}
-use Rattle.text.specs.Compare.{fileWords, maxList, Comparison, reduced, unsolved, gatesLeft, sweptAs, listAs, compared, filesOf, comparedFiles, comparison}
-use Rattle.text.specs.private.Comparing.{InRoom, MiterWords, MiterCascade, LeftIn, SaysFiles, SaysCompared, SaysAny}
+use Rattle.text.specs.Compare.{maxList, Comparison, reduced, unsolved, gatesLeft, sweptAs, listAs, compared, filesOf, comparedFiles, comparison}
+use Rattle.text.specs.private.Comparing.{MiterWords, MiterCascade, LeftIn, SaysFiles, SaysCompared, SaysAny}
 use Rattle.text.proofs.FileOutcome.{both-met, both-failed}
 use Rattle.text.proofs.list.Laws.{emit-stands}
 use Rattle.text.proofs.stored.Records.{stored-in}
@@ -173,9 +173,6 @@ says-as r clauses x y e s = subst (SaysCompared r clauses) (sym e) s
 
 -- ---- two files
 
-pub room-few : (n i : ℕ) (room : List ℕ) → InRoom n i room → 3 * i ≤ fileWords
-room-few n i room h = let c = h .words .cascade in omega (arith, c .few, c .size, length-take-le (3 * i) room (h .inside))
-
 module _ (first second : List ℕ) where
   pub refused-as : (why : Refusal) (file : ℕ) (clauses : List ℤ) (a b : List ℕ) → SaysFiles (files.Refused why file) a b (filesOf first second)
       → SaysCompared (answer.Refused why file) clauses (comparison first second)
@@ -183,6 +180,6 @@ module _ (first second : List ℕ) where
   refused-as why file clauses a b s = record { is = ap comparedFiles (s .is); ready = tt }
 
   pub compared-as : (n i j : ℕ) (a b : List ℕ) → SaysFiles (files.Cascades n i j) a b (filesOf first second) → (r : ComparedAnswer) (clauses : List ℤ)
-      → SaysCompared r clauses (compared n (gatesOf (take (3 * i) a)) (gatesOf (take (3 * j) b))) → SaysCompared r clauses (comparison first second)
+      → SaysCompared r clauses (compared n (gatesOf (take i a)) (gatesOf (take j b))) → SaysCompared r clauses (comparison first second)
   unfolding comparison
   compared-as n i j a b s r clauses t = says-as r clauses _ _ (sym (ap comparedFiles (s .is))) t

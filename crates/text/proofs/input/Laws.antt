@@ -248,7 +248,7 @@ module _ (first second state : List ℕ) where
   refused-checked why file a b s = record { is = ap (λ (f : FileOutcome CascadePair). checkedFiles f state) (s .is); ready = tt }
 
   pub said-checked : (n i j : ℕ) (a b : List ℕ) → SaysFiles (files.Cascades n i j) a b (filesOf first second) → (r : CheckedAnswer)
-      → SaysChecked r (checkedOn n (gatesOf (take (3 * i) a)) (gatesOf (take (3 * j) b)) (stateRead n state)) → SaysChecked r (checked first second state)
+      → SaysChecked r (checkedOn n (gatesOf (take i a)) (gatesOf (take j b)) (stateRead n state)) → SaysChecked r (checked first second state)
   unfolding checked
   said-checked n i j a b s r t = subst (SaysChecked r) (ap (λ (f : FileOutcome CascadePair). checkedFiles f state) (s .is)) t
 

@@ -1,7 +1,7 @@
 -- What a file and two files say, case by case. Assumes nothing.
 use mathlib.Core.Path.{_≡_, sym, ap₂, subst, _∙_}
 use mathlib.Core.List.{List}
-use Prim.Native.Nat.{ℕ, _≤_, _<_}
+use Prim.Native.Nat.{ℕ, _*_, _≤_, _<_}
 use lib.Dec.{eqb, leb}
 use lib.ListN.{length}
 use borrow.Author.Tests.{eq-eqb, ne-eqb, le-leb, lt-leb}
@@ -27,7 +27,7 @@ module _ (text : List ℕ) where
   pub says-bad : (r : Refusal) (room : List ℕ) (bytes : ℕ) → wholeFile text ≡ refused (r .number) (r .place) → SaysWhole (whole.Refused r) room bytes (wholeFile text)
   says-bad r room bytes e = record { is = sym e; ready = tt }
 
-  pub says-good : (lines gates taken : ℕ) (room : List ℕ) → FileRead text lines gates taken room → taken ≡ length text → SaysWhole (whole.Cascade lines gates) room (length text) (wholeFile text)
+  pub says-good : (lines gates taken : ℕ) (room : List ℕ) → FileRead text lines gates taken room → taken ≡ length text → SaysWhole (whole.Cascade lines (3 * gates)) room (length text) (wholeFile text)
   says-good lines gates taken room w h =
       record {
         is =

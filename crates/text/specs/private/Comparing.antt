@@ -22,17 +22,17 @@ use Rattle.text.specs.Compare.{CascadePair, cascades, Comparison, reduce
 
 -- ---- a file
 
--- so many gates on n lines stand at the start of a room
-pub record InRoom (n gates : ℕ) (room : List ℕ) : Type 0 where
-  pub inside : 3 * gates ≤ length room
-  pub words : FileWords n (take (3 * gates) room)
+-- so many words of a cascade on n lines stand at the start of a room
+pub record InRoom (n count : ℕ) (room : List ℕ) : Type 0 where
+  pub inside : count ≤ length room
+  pub words : FileWords n (take count room)
 
 abbrev pub ofWhole : WholeAnswer → List ℕ → ℕ → Outcome Reading
-ofWhole (whole.Cascade lines gates) room bytes = served (record { lines = lines; gates = gatesOf (take (3 * gates) room); taken = bytes })
+ofWhole (whole.Cascade lines words) room bytes = served (record { lines = lines; gates = gatesOf (take words room); taken = bytes })
 ofWhole (whole.Refused r) room bytes = refused (r .number) (r .place)
 
 abbrev pub WholeReady : WholeAnswer → List ℕ → Type 0
-WholeReady (whole.Cascade lines gates) room = InRoom lines gates room
+WholeReady (whole.Cascade lines words) room = InRoom lines words room
 WholeReady (whole.Refused r) room = Unit {0}
 
 pub record SaysWhole (r : WholeAnswer) (room : List ℕ) (bytes : ℕ) (o : Outcome Reading) : Type 0 where
@@ -42,7 +42,7 @@ pub record SaysWhole (r : WholeAnswer) (room : List ℕ) (bytes : ℕ) (o : Outc
 -- ---- two files
 
 abbrev pub ofFiles : FilesAnswer → List ℕ → List ℕ → FileOutcome CascadePair
-ofFiles (files.Cascades lines i j) a b = answered (cascades lines (gatesOf (take (3 * i) a)) (gatesOf (take (3 * j) b)))
+ofFiles (files.Cascades lines i j) a b = answered (cascades lines (gatesOf (take i a)) (gatesOf (take j b)))
 ofFiles (files.Refused why file) a b = refusedAt (why .number) file (why .place)
 
 abbrev pub FilesReady : FilesAnswer → List ℕ → List ℕ → Type 0
