@@ -28,8 +28,7 @@ use Rattle.text.specs.CheckInputLaws.{saidOf, ChecksInput}
 use Rattle.text.proofs.Writes.{two-tests, writes-where}
 use Rattle.text.proofs.Longest.{refused-few}
 use Rattle.text.proofs.Verdicts.{Judged, judged, judged-is}
-use Rattle.text.proofs.Decimal.{decimal-few}
-use Rattle.text.proofs.answer.Laws.{refusal-long}
+use Rattle.text.proofs.answer.Laws.{refusal-few}
 use Rattle.text.proofs.input.Laws.{parts}
 
 -- ---- a state in characters
@@ -156,17 +155,13 @@ checks-only program p first second state = on-files program checkText p checks f
 
 -- ---- how long
 
-refusal-few : (number file place : ℕ) → number < 100 → file < 10 → place < 10000 → length (refusalText number file place) ≤ maxChecked
-refusal-few number file place a b c =
-    omega (arith, refusal-long number file place, decimal-few 1 number a, decimal-few 0 file b, decimal-few 3 place c)
-
 on-few : (n : ℕ) (a b : List Gate) → n ≤ 64 → (o : Option ℕ) → length (checkedText (checkedOn n a b o)) ≤ maxChecked
 on-few n a b h (some x) = let p = parts n (run a x) (run b x) in omega (arith, p .sum, p .high)
-on-few n a b h none = refusal-few 9 0 0 (omega arith) (omega arith) (omega arith)
+on-few n a b h none = omega (arith, refusal-few 9 0 0 (omega arith) (omega arith) (omega arith))
 
 files-few : (first second state : List ℕ) (f : FileOutcome CascadePair) → Judged first second f → length (checkedText (checkedFiles f state)) ≤ maxChecked
 files-few first second state (answered p) t = on-few (p .lines) (p .first) (p .second) (t .first-good .lines-high) (stateRead (p .lines) state)
-files-few first second state (refusedAt number file place) f = let (x, y, z) = refused-few first second number file place f in refusal-few number file place x y z
+files-few first second state (refusedAt number file place) f = let (x, y, z) = refused-few first second number file place f in omega (arith, refusal-few number file place x y z)
 
 pub text-fits : (first second state : List ℕ) → length (checkText first second state) ≤ maxChecked
 unfolding checkText checked

@@ -11,7 +11,7 @@ use borrow.Author.Tests.{eqb-true, leb-true}
 use Rattle.bits.proofs.Bools.{either}
 use Rattle.circuit.specs.declared.gate.Gate.{Gate}
 use Rattle.circuit.specs.Outcome.{Outcome, served, refused, before, then, fails}
-use Rattle.circuit.specs.Text.{tab, lineFeed}
+use Rattle.circuit.specs.Text.{lineFeed}
 use Rattle.circuit.specs.File.{Line, Reading, reading}
 use Rattle.circuit.specs.FileLaws.{FileCascade, HeaderOffence, no-lines, no-number, outside, ControlsOffence, form, value, later, LineOffence, no-gate, many, target-form, target-value, controls, controlled, not-rising, FileRefused, header-line, later-line}
 use Rattle.circuit.specs.FileLaws as laws
@@ -23,13 +23,13 @@ use Rattle.checking.specs.Stored.{storedClause, stored}
 use Rattle.checking.proofs.Promises.{clause-laws, stored-next}
 use Rattle.text.specs.Dimacs.{Formula, blank, decimal, literalText, literalsText, closing, clauseText, clausesText, headerText, dimacsOf}
 use Rattle.text.specs.WholeFile.{wholeFile, WholeRefused}
-use Rattle.text.specs.FileOutcome.{FileOutcome, answered, refusedAt, ofFile, refusalText}
+use Rattle.text.specs.FileOutcome.{FileOutcome, answered, refusedAt, ofFile}
 use Rattle.text.specs.Tomiter.{maxInput, maxWords, maxText, listVerdict, pairVerdict, secondVerdict, verdict, verdictText, tomiterText, tomiterOutcome}
 use Rattle.text.proofs.Decimal.{decimal-few}
 use Rattle.text.proofs.FileOutcome.{both-met, both-failed}
 use Rattle.text.proofs.WholeFile.{WholeJudged, whole-judged}
 use Rattle.text.proofs.Pairs.{Listable, listable}
-use Rattle.text.proofs.answer.Laws.{fit-fits}
+use Rattle.text.proofs.answer.Laws.{fit-fits, refusal-few}
 
 -- ---- the text of a clause list
 
@@ -75,12 +75,12 @@ Small (answered f) = (f .variables ≤ maxVariables) × (ClausesWithin (f .varia
 Small (refusedAt number file place) = (number < 100) × (file < 10) × (place < 10000)
 
 small-text : (v : FileOutcome Formula) → Small v → length (verdictText v) ≤ maxText
-unfolding dimacsOf refusalText
+unfolding dimacsOf
 small-text (answered f) (a, b, c) =
     let cs : List Clause = f .clauses in
     omega (arith, header-few (f .variables) (length cs) a (omega (arith, count-few cs)), clauses-few (f .variables) cs a b, length-append (headerText (f .variables) (length cs)) (clausesText cs))
 small-text (refusedAt number file place) (a, b, c) =
-    omega (arith, decimal-few 1 number a, decimal-few 0 file b, decimal-few 3 place c, length-append (decimal number) (tab ∷ (decimal file ++ (tab ∷ (decimal place ++ (lineFeed ∷ []))))), length-append (decimal file) (tab ∷ (decimal place ++ (lineFeed ∷ []))), length-append (decimal place) (lineFeed ∷ []))
+    omega (arith, refusal-few number file place a b c)
 
 -- ---- the numbers and places of refused files
 

@@ -16,7 +16,7 @@ use Rattle.bits.specs.Lists.{over, Put}
 use Rattle.bits.proofs.Bools.{both, and-second, cond-true, cond-false}
 use Rattle.bits.proofs.Lists.{over-prefix}
 use Rattle.circuit.specs.declared.refusal.Refusal.{Refusal}
-use Rattle.circuit.specs.Outcome.{Outcome, refused, written, Yields}
+use Rattle.circuit.specs.Outcome.{Outcome, refused, Yields}
 use Rattle.circuit.specs.Refusal.{refusal, noRoom}
 use Rattle.circuit.proofs.Promises.{demand-met, demand-failed, told, why}
 use Rattle.circuit.specs.Words.{gatesOf}
@@ -31,6 +31,7 @@ use Rattle.text.specs.Compare.{fileWords, CascadePair, filesOf, differWo
 use Rattle.text.specs.private.Comparing.{SaysFiles}
 use Rattle.text.specs.private.Checking.{ofChecked, SaysChecked}
 use Rattle.text.specs.CheckInput.{stateText, stateRead, agreeWord, outputsText, checkedOn, checkedFiles, checked, checkedText, checkText, inputOutcome, inputBuffer}
+use Rattle.text.proofs.answer.Laws.{fit-told}
 
 -- ---- reading
 
@@ -236,12 +237,6 @@ size-is n first second = omega (arith, parts n first second .sum, size-by (eqb f
 
 -- ---- an answer that is known
 
-pub checked-as : (x y : CheckedAnswer) (r : Outcome ℕ) (last out : List ℕ) → x ≡ y
-    → Yields r last (fitOutcome (checkedText (ofChecked y)) (length out)) (fitBuffer (checkedText (ofChecked y)) out)
-    → Yields r last (fitOutcome (checkedText (ofChecked x)) (length out)) (fitBuffer (checkedText (ofChecked x)) out)
-checked-as x y r last out e t =
-    subst (λ (z : CheckedAnswer). Yields r last (fitOutcome (checkedText (ofChecked z)) (length out)) (fitBuffer (checkedText (ofChecked z)) out)) (sym e) t
-
 module _ (first second state : List ℕ) where
   pub refused-checked : (why : Refusal) (file : ℕ) (a b : List ℕ) → SaysFiles (files.Refused why file) a b (filesOf first second) → SaysChecked (answer.Refused why file) (checked first second state)
   unfolding checked
@@ -278,8 +273,5 @@ module _ (first second state : List ℕ) (room-a room-b : ℕ) (out : List ℕ) 
 
       pub checked-told : (x : CheckedAnswer) → SaysChecked x (checked first second state) → (r : Outcome ℕ) (last : List ℕ)
           → Yields r last (fitOutcome (checkedText (ofChecked x)) (length out)) (fitBuffer (checkedText (ofChecked x)) out) → Yields r last outcome (inputBuffer first second state room-a room-b out)
-      unfolding inputBuffer fitBuffer checkText
-      checked-told x s r last y =
-          let e : checkedText (ofChecked x) ≡ checkText first second state = ap checkedText (s .is) in
-          let g : fitOutcome (checkedText (ofChecked x)) (length out) ≡ outcome = ap (λ (text : List ℕ). fitOutcome text (length out)) e ∙ sym rooms-good in
-          record { answer = y .answer ∙ g; buffer = y .buffer ∙ ap₂ (λ (o : Outcome ℕ) (text : List ℕ). written o text out) g e }
+      unfolding inputBuffer checkText
+      checked-told x s r last y = fit-told _ (checkText first second state) out outcome r last (ap checkedText (s .is)) rooms-good y
