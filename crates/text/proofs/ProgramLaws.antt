@@ -10,7 +10,7 @@ use Rattle.circuit.specs.Outcome.{Outcome, served, Yields}
 use Rattle.circuit.proofs.Promises.{demanded}
 use Rattle.circuit.specs.Refusal.{noRoom}
 use Rattle.text.specs.Answers.{fitOutcome, fitBuffer, WritesWhere}
-use Rattle.text.specs.Dimacs.{Formula}
+use Rattle.text.specs.Formula.{Formula}
 use Rattle.text.specs.FileOutcome.{FileOutcome, answered, refusedAt, refusalText}
 use Rattle.text.specs.Tomiter.{verdict, verdictText, tomiterText, tomiterOutcome, tomiterBuffer, WritesText}
 use Rattle.text.specs.BytesTell.{StartsProblem, TextTells, BytesTell}

@@ -21,7 +21,8 @@ use Rattle.checking.specs.Clauses.{Clause, OR, XOR, clausesOf, maxVariables}
 use Rattle.checking.specs.Satisfaction.{variableOf, LiteralsWithin, clauseLiterals, ClausesWithin}
 use Rattle.checking.specs.Stored.{storedClause, stored}
 use Rattle.checking.proofs.Promises.{clause-laws, stored-next}
-use Rattle.text.specs.Dimacs.{Formula, blank, decimal, literalText, literalsText, closing, clauseText, clausesText, headerText, dimacsOf}
+use Rattle.text.specs.Dimacs.{blank, decimal, literalText, literalsText, closing, clauseText, clausesText, headerText, dimacsOf}
+use Rattle.text.specs.Formula.{Formula}
 use Rattle.text.specs.WholeFile.{wholeFile, WholeRefused}
 use Rattle.text.specs.FileOutcome.{FileOutcome, answered, refusedAt, ofFile}
 use Rattle.text.specs.Tomiter.{maxInput, maxWords, maxText, listVerdict, pairVerdict, secondVerdict, verdict, verdictText, tomiterText, tomiterOutcome}

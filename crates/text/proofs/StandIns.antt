@@ -19,7 +19,8 @@ use Rattle.checking.specs.Miter.{miterGates}
 use Rattle.checking.specs.Clauses.{Clause, OR, upFrom, moved, gatesClauses, usedAfter, currentAfter, targeted, differenceClauses, clausesOf, variablesOf}
 use Rattle.checking.specs.Satisfaction.{ClausesWithin, holds, satisfies, Satisfying, Tells}
 use Rattle.checking.specs.Stored.{stored}
-use Rattle.text.specs.Dimacs.{Formula, Dimacs, dimacsOf, dimacsRead}
+use Rattle.text.specs.Dimacs.{Dimacs, dimacsOf, dimacsRead}
+use Rattle.text.specs.Formula.{Formula}
 use Rattle.text.specs.Compare.{maxFile}
 use Rattle.text.specs.FileOutcome.{refusalText, answerText}
 use Rattle.text.specs.Tomiter.{maxInput, maxWords}

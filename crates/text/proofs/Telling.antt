@@ -17,7 +17,8 @@ use Rattle.checking.specs.Clauses.{Clause, clausesOf, variablesOf}
 use Rattle.checking.specs.Satisfaction.{Tells}
 use Rattle.checking.specs.Stored.{stored}
 use Rattle.checking.proofs.Promises.{miter-laws, clause-laws, tells-same}
-use Rattle.text.specs.Dimacs.{Formula, formulaOf, headerText, dimacsOf, dimacsRead}
+use Rattle.text.specs.Dimacs.{headerText, dimacsOf, dimacsRead}
+use Rattle.text.specs.Formula.{Formula, formulaOf}
 use Rattle.text.specs.FileOutcome.{FileOutcome, answered, refusedAt, refusalText}
 use Rattle.text.specs.Tomiter.{maxInput, maxWords, listVerdict, pairVerdict, secondVerdict, verdict, verdictText, tomiterText}
 use Rattle.text.specs.BytesTell.{StartsProblem, TextTells}

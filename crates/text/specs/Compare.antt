@@ -16,7 +16,8 @@ use Rattle.checking.specs.Compare.{maxSweepLines, Difference, none, lowest, low
 use Rattle.checking.specs.Clauses.{clausesOf}
 use Rattle.checking.specs.Stored.{stored}
 use Rattle.text.specs.Answers.{fitOutcome}
-use Rattle.text.specs.Dimacs.{Formula, formulaOf, dimacsOf}
+use Rattle.text.specs.Dimacs.{dimacsOf}
+use Rattle.text.specs.Formula.{Formula, formulaOf}
 use Rattle.text.specs.FileOutcome.{FileOutcome, answered, ofBoth, ofFile, further, numbersText, answerText}
 use Rattle.text.specs.Plain.{plainClauses}
 use Rattle.text.specs.WholeFile.{wholeFile}
@@ -66,7 +67,7 @@ filesOf first second =
 -- equal, by the reduction or by the sweep; a state on which two cascades differ, and their outputs; or clauses that are left to a solver
 pub data Comparison : Type 0 where
   reduced swept : Comparison
-  differing : ℕ → ℕ → ℕ → Comparison
+  differOn : ℕ → ℕ → ℕ → Comparison
   unsolved : Formula → Comparison
 
 -- the gates that the full reduction of the miter leaves
@@ -76,7 +77,7 @@ gatesLeft a b = reduceGates (miterGates a b) .left
 -- by the lowest state on which two cascades differ, or none
 abbrev pub sweptAs : List Gate → List Gate → Difference → Comparison
 sweptAs a b none = swept
-sweptAs a b (lowest x) = differing x (run a x) (run b x)
+sweptAs a b (lowest x) = differOn x (run a x) (run b x)
 
 -- a clause list of more than 262,144 words: 10
 unfoldable pub listAs : ℕ → List Gate → FileOutcome Comparison
@@ -120,7 +121,7 @@ differText state first second = differWord ++ (tab ∷ numbersText state first s
 abbrev pub comparisonText : Comparison → List ℕ
 comparisonText reduced = equalText reductionWord
 comparisonText swept = equalText sweepWord
-comparisonText (differing state first second) = differText state first second
+comparisonText (differOn state first second) = differText state first second
 comparisonText (unsolved f) = dimacsOf (f .variables) (plainClauses (f .clauses))
 
 abbrev pub comparedText : FileOutcome Comparison → List ℕ

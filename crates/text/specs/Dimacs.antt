@@ -6,10 +6,9 @@ use Prim.Native.Nat.{ℕ, zero, suc, _+_, _*_, _-_, _/_, _%_}
 use lib.Dec.{eqb, ltb}
 use lib.IntN.{ℤ, pos, negsuc}
 use lib.ListN.{length}
-use Rattle.circuit.specs.declared.gate.Gate.{Gate}
 use Rattle.circuit.specs.Text.{lineFeed, minusSign, digit}
 use Rattle.circuit.specs.File.{partedBy, same, isDigit}
-use Rattle.checking.specs.Clauses.{Clause, OR, XOR, clausesOf, variablesOf}
+use Rattle.checking.specs.Clauses.{Clause, OR, XOR}
 
 -- ---- the text
 
@@ -62,15 +61,6 @@ clausesText (c ∷ cs) = clauseText c ++ clausesText cs
 unfoldable pub headerText : ℕ → ℕ → List ℕ
 headerText variables clauses =
     (problemWord ++ (blank ∷ cnfWord)) ++ (blank ∷ (decimal variables ++ (blank ∷ (decimal clauses ++ (lineFeed ∷ [])))))
-
--- a clause list and the number of its variables
-pub record Formula : Type 0 where
-  pub variables : ℕ
-  pub clauses : List Clause
-
--- those that are emitted for gates on n lines
-abbrev pub formulaOf : ℕ → List Gate → Formula
-formulaOf n gs = record { variables = variablesOf n gs; clauses = clausesOf n gs }
 
 -- the text of clauses over so many variables
 unfoldable pub dimacsOf : ℕ → List Clause → List ℕ

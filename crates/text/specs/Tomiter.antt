@@ -12,7 +12,8 @@ use Rattle.checking.specs.Miter.{miterGates}
 use Rattle.checking.specs.Clauses.{clausesOf}
 use Rattle.checking.specs.Stored.{stored}
 use Rattle.text.specs.Answers.{fitOutcome, fitBuffer}
-use Rattle.text.specs.Dimacs.{Formula, formulaOf, dimacsOf}
+use Rattle.text.specs.Dimacs.{dimacsOf}
+use Rattle.text.specs.Formula.{Formula, formulaOf}
 use Rattle.text.specs.FileOutcome.{FileOutcome, answered, ofBoth, ofFile, answerText}
 use Rattle.text.specs.BytesTell.{BytesTell}
 use Rattle.text.specs.WholeFile.{wholeFile}

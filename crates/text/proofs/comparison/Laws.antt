@@ -27,7 +27,7 @@ use Rattle.text.specs.declared.comparison.ComparedAnswer.{ComparedAnswer
 use Rattle.text.specs.declared.comparison.ComparedAnswer.the-variants as answer
 use Rattle.text.specs.declared.pair.FilesAnswer.the-variants as files
 use Rattle.text.specs.private.Lists.{FileWords, ListStands}
-use Rattle.text.specs.Dimacs.{formulaOf}
+use Rattle.text.specs.Formula.{formulaOf}
 use Rattle.text.specs.FileOutcome.{FileOutcome, answered, refusedAt}
 use Rattle.text.specs.Compare.{maxList, Comparison, reduced, unsolved, gatesLeft, sweptAs, listAs, compared, filesOf, comparedFiles, comparison}
 use Rattle.text.specs.private.Comparing.{MiterWords, MiterCascade, LeftIn, SaysFiles, SaysCompared, SaysAny}

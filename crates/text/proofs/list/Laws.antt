@@ -33,7 +33,7 @@ use Rattle.checking.proofs.Promises.{miter-laws, miter-refused, uncalled-refuse
 use Rattle.text.specs.declared.list.ListAnswer.{ListAnswer}
 use Rattle.text.specs.declared.list.ListAnswer.the-variants as list
 use Rattle.text.specs.WholeFile.{wholeFile}
-use Rattle.text.specs.Dimacs.{Formula, formulaOf}
+use Rattle.text.specs.Formula.{Formula, formulaOf}
 use Rattle.text.specs.FileOutcome.{FileOutcome, answered, refusedAt}
 use Rattle.text.specs.Tomiter.{maxInput, maxWords, listVerdict, pairVerdict, secondVerdict, verdict}
 use Rattle.text.specs.Compare.{fileWords, miterWords}

@@ -16,7 +16,7 @@ use Rattle.checking.specs.Clauses.{Clause, inputOf, moved, usedBy, literalOf, i
 use Rattle.checking.specs.Satisfaction.{LiteralWithin, clauseLiterals, ClausesWithin}
 use Rattle.checking.proofs.Promises.{clause-laws, clauses-none, clauses-next, differences-none, differences-next, list-parts}
 use Rattle.text.specs.Compare.{maxList}
-use Rattle.text.specs.Dimacs.{Formula}
+use Rattle.text.specs.Formula.{Formula}
 use Rattle.text.specs.private.Lists.{ListStands}
 use Rattle.text.specs.private.Words.{ShortClause, AllShort, StoresList}
 

@@ -11,7 +11,8 @@ use Rattle.bits.specs.Lists.{Put}
 use Rattle.circuit.specs.declared.refusal.Refusal.{Refusal}
 use Rattle.checking.specs.declared.clauses.Totals.{Totals}
 use Rattle.text.specs.declared.list.ListAnswer.the-variants as list
-use Rattle.text.specs.Dimacs.{Formula, clausesText, headerText, dimacsOf}
+use Rattle.text.specs.Dimacs.{clausesText, headerText, dimacsOf}
+use Rattle.text.specs.Formula.{Formula}
 use Rattle.text.specs.FileOutcome.{FileOutcome, answered, refusedAt, refusalText}
 use Rattle.text.specs.private.Words.{StoresList, storedText}
 use Rattle.text.specs.Tomiter.{verdictText}

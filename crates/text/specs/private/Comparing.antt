@@ -18,7 +18,7 @@ use Rattle.text.specs.declared.comparison.ComparedAnswer.the-variants as
 use Rattle.text.specs.private.Lists.{FileWords}
 use Rattle.text.specs.private.Words.{storedIn, StoresList}
 use Rattle.text.specs.FileOutcome.{FileOutcome, answered, refusedAt}
-use Rattle.text.specs.Compare.{CascadePair, cascades, Comparison, reduced, swept, differing, unsolved}
+use Rattle.text.specs.Compare.{CascadePair, cascades, Comparison, reduced, swept, differOn, unsolved}
 
 -- ---- a file
 
@@ -73,7 +73,7 @@ pub record LeftIn (n k : ℕ) (room : List ℕ) (gs : List Gate) : Type 0 where
 abbrev pub ofCompared : ComparedAnswer → List ℤ → FileOutcome Comparison
 ofCompared answer.Reduction clauses = answered reduced
 ofCompared answer.Sweep clauses = answered swept
-ofCompared (answer.Differ state first second) clauses = answered (differing state first second)
+ofCompared (answer.Differ state first second) clauses = answered (differOn state first second)
 ofCompared (answer.Clauses t) clauses = answered (unsolved (record { variables = t .variables; clauses = storedIn (take (t .words) clauses) }))
 ofCompared (answer.Refused why file) clauses = refusedAt (why .number) file (why .place)
 

@@ -12,7 +12,7 @@ use Rattle.checking.specs.Satisfaction.{ClausesWithin}
 use Rattle.checking.specs.Stored.{stored}
 use Rattle.text.specs.declared.list.ListAnswer.{ListAnswer}
 use Rattle.text.specs.declared.list.ListAnswer.the-variants as list
-use Rattle.text.specs.Dimacs.{Formula}
+use Rattle.text.specs.Formula.{Formula}
 use Rattle.text.specs.FileOutcome.{FileOutcome, answered, refusedAt}
 use Rattle.text.specs.private.Words.{AllShort}
 
