@@ -9,7 +9,7 @@ use Rattle.circuit.specs.File.{partedBy, fieldsOf}
 use Rattle.circuit.specs.Text.{tab, lineFeed}
 use Rattle.circuit.proofs.Promises.{parts-cut, parts-one}
 use Rattle.text.specs.Dimacs.{decimal, numberRead}
-use Rattle.text.specs.Tomiter.{numbersText, refusedWord, refusalText}
+use Rattle.text.specs.FileOutcome.{numbersText, refusedWord, refusalText}
 use Rattle.text.specs.Compare.{differWord, differText}
 use Rattle.text.proofs.Reading.{decimal-free, number-back}
 

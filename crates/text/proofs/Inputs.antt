@@ -19,8 +19,8 @@ use Rattle.circuit.specs.Run.{run, Differs}
 use Rattle.circuit.specs.Text.{digit}
 use Rattle.circuit.proofs.Promises.{demand-met}
 use Rattle.text.specs.Dimacs.{thenRead}
-use Rattle.text.specs.Tomiter.{refusalText}
-use Rattle.text.specs.Compare.{fileWords, Files, cascades, wrongFiles, filesOf, differWord}
+use Rattle.text.specs.FileOutcome.{FileOutcome, answered, refusedAt, refusalText}
+use Rattle.text.specs.Compare.{fileWords, CascadePair, cascades, filesOf, differWord}
 use Rattle.text.specs.Answers.{fitOutcome, WritesWhere}
 use Rattle.text.specs.TwoFiles.{TwoFiles, FilesRefused}
 use Rattle.text.specs.CheckInput.{maxChecked, stateText, stateRead, agreeWord, outputsText, checkedOn, checkedFiles, checked, checkedText, checkText, InputRoomsFit, inputOutcome, inputBuffer}
@@ -28,8 +28,7 @@ use Rattle.text.specs.CheckInputLaws.{saidOf, ChecksInput}
 use Rattle.text.proofs.Writes.{two-tests, writes-where}
 use Rattle.text.proofs.Longest.{refused-few}
 use Rattle.text.proofs.Verdicts.{Judged, judged, judged-is}
-use Rattle.text.proofs.Decimal.{decimal-few}
-use Rattle.text.proofs.answer.Laws.{refusal-long}
+use Rattle.text.proofs.answer.Laws.{refusal-few}
 use Rattle.text.proofs.input.Laws.{parts}
 
 -- ---- a state in characters
@@ -90,12 +89,12 @@ pub refused-told : (first second state : List ℕ) (number file place : ℕ) →
     → checkText first second state ≡ refusalText number file place
 unfolding checkText checked
 refused-told first second state number file place r =
-    ap (λ (f : Files). checkedText (checkedFiles f state)) (judged-is first second (wrongFiles number file place) r)
+    ap (λ (f : FileOutcome CascadePair). checkedText (checkedFiles f state)) (judged-is first second (refusedAt number file place) r)
 
 module _ (first second : List ℕ) (n : ℕ) (a b : List Gate) (t : TwoFiles first second n a b) where
   told-of : (state : List ℕ) → checkText first second state ≡ checkedText (checkedOn n a b (stateRead n state))
   unfolding checkText checked
-  told-of state = ap (λ (f : Files). checkedText (checkedFiles f state)) (judged-is first second (cascades n a b) t)
+  told-of state = ap (λ (f : FileOutcome CascadePair). checkedText (checkedFiles f state)) (judged-is first second (answered (cascades n a b)) t)
 
   module _ (x : ℕ) (h : x < 2 ^ n) where
     outputs-are : checkText first second (stateText n x) ≡ outputsText n (run a x) (run b x)
@@ -146,9 +145,9 @@ module _ (program : List ℕ → List ℕ → List ℕ → List ℕ) (other : Li
         in
         p .no-state first second n a b t state bad ∙ sym (q .no-state first second n a b t state bad)
 
-  on-files : (state : List ℕ) (f : Files) → Judged first second f → program first second state ≡ other first second state
-  on-files state (cascades n a b) t = on-text n a b t state (stateRead n state) refl
-  on-files state (wrongFiles number file place) r = p .refused-told first second state number file place r ∙ sym (q .refused-told first second state number file place r)
+  on-files : (state : List ℕ) (f : FileOutcome CascadePair) → Judged first second f → program first second state ≡ other first second state
+  on-files state (answered p) t = on-text (p .lines) (p .first) (p .second) t state (stateRead (p .lines) state) refl
+  on-files state (refusedAt number file place) r = p .refused-told first second state number file place r ∙ sym (q .refused-told first second state number file place r)
 
 pub checks-only : (program : List ℕ → List ℕ → List ℕ → List ℕ) → ChecksInput program → (first second state : List ℕ)
     → program first second state ≡ checkText first second state
@@ -156,17 +155,13 @@ checks-only program p first second state = on-files program checkText p checks f
 
 -- ---- how long
 
-refusal-few : (number file place : ℕ) → number < 100 → file < 10 → place < 10000 → length (refusalText number file place) ≤ maxChecked
-refusal-few number file place a b c =
-    omega (arith, refusal-long number file place, decimal-few 1 number a, decimal-few 0 file b, decimal-few 3 place c)
-
 on-few : (n : ℕ) (a b : List Gate) → n ≤ 64 → (o : Option ℕ) → length (checkedText (checkedOn n a b o)) ≤ maxChecked
 on-few n a b h (some x) = let p = parts n (run a x) (run b x) in omega (arith, p .sum, p .high)
-on-few n a b h none = refusal-few 9 0 0 (omega arith) (omega arith) (omega arith)
+on-few n a b h none = omega (arith, refusal-few 9 0 0 (omega arith) (omega arith) (omega arith))
 
-files-few : (first second state : List ℕ) (f : Files) → Judged first second f → length (checkedText (checkedFiles f state)) ≤ maxChecked
-files-few first second state (cascades n a b) t = on-few n a b (t .first-good .lines-high) (stateRead n state)
-files-few first second state (wrongFiles number file place) f = let (x, y, z) = refused-few first second number file place f in refusal-few number file place x y z
+files-few : (first second state : List ℕ) (f : FileOutcome CascadePair) → Judged first second f → length (checkedText (checkedFiles f state)) ≤ maxChecked
+files-few first second state (answered p) t = on-few (p .lines) (p .first) (p .second) (t .first-good .lines-high) (stateRead (p .lines) state)
+files-few first second state (refusedAt number file place) f = let (x, y, z) = refused-few first second number file place f in omega (arith, refusal-few number file place x y z)
 
 pub text-fits : (first second state : List ℕ) → length (checkText first second state) ≤ maxChecked
 unfolding checkText checked

@@ -20,8 +20,8 @@ use Rattle.checking.specs.Stored.{stored}
 use Rattle.checking.proofs.Promises.{sweep-says, clause-laws}
 use Rattle.text.specs.Dimacs.{headerText, clausesText, dimacsOf}
 use Rattle.text.specs.Plain.{plainClauses}
-use Rattle.text.specs.Tomiter.{refusalText}
-use Rattle.text.specs.Compare.{maxList, maxCompared, Files, cascades, wrongFiles, filesOf, Comparison, gatesLeft, sweptAs, listAs, compared, comparedFiles, comparison, comparisonText, compareText, Rooms, RoomsFit, compareOutcome}
+use Rattle.text.specs.FileOutcome.{FileOutcome, answered, refusedAt}
+use Rattle.text.specs.Compare.{maxList, maxCompared, CascadePair, filesOf, Comparison, gatesLeft, sweptAs, listAs, compared, comparedFiles, comparison, comparisonText, comparedText, compareText, Rooms, RoomsFit, compareOutcome}
 use Rattle.text.specs.TwoFiles.{TwoFiles, FilesRefused, first-long, second-long, first-file, second-file, lines-differ}
 use Rattle.text.proofs.Decimal.{decimal-few}
 use Rattle.text.proofs.Sizes.{variable-few, whole-few}
@@ -29,7 +29,7 @@ use Rattle.text.proofs.Rooms.{rooms-good}
 use Rattle.text.proofs.Verdicts.{Judged, judged, lines, kept, left-few}
 use Rattle.text.proofs.plain.Laws.{plain-few}
 use Rattle.text.proofs.plain.Short.{list-short, list-within}
-use Rattle.text.proofs.answer.Laws.{fit-fits, digits-few, differ-long, refusal-long, header-long}
+use Rattle.text.proofs.answer.Laws.{fit-fits, digits-few, differ-long, refusal-few, header-long}
 
 -- ---- refusals
 
@@ -39,10 +39,6 @@ refused-few first second _ _ _ (second-long _ _) = (omega arith, omega arith, om
 refused-few first second _ _ _ (first-file number place _ _ w) = let (a, b) = whole-few first number place w in (a, omega arith, b)
 refused-few first second _ _ _ (second-file n a number place _ _ _ _ w) = let (x, y) = whole-few second number place w in (x, omega arith, y)
 refused-few first second _ _ _ (lines-differ n a m b _ _ _ _ _ _ _) = (omega arith, omega arith, omega arith)
-
-refusal-few : (number file place : ℕ) → number < 100 → file < 10 → place < 10000 → length (refusalText number file place) ≤ maxCompared
-refusal-few number file place a b c =
-    omega (arith, refusal-long number file place, decimal-few 1 number a, decimal-few 0 file b, decimal-few 3 place c)
 
 dimacs-long : (v : ℕ) (ps : List Clause) → length (dimacsOf v ps) ≡ length (headerText v (length ps)) + length (clausesText ps)
 unfolding dimacsOf
@@ -69,7 +65,7 @@ module _ (first second : List ℕ) (n : ℕ) (a b : List Gate) (t : TwoFiles fir
   header-few : (v m : ℕ) → v ≤ maxVariables → m ≤ maxList → length (headerText v m) ≤ 18
   header-few v m h l = omega (arith, header-long v m, variable-few v h, decimal-few 5 m (omega arith), decimal-few 0 0 (omega arith))
 
-  list-few : length (comparisonText (listAs n gl)) ≤ maxCompared
+  list-few : length (comparedText (listAs n gl)) ≤ maxCompared
   unfolding listAs
   list-few =
       either (leb (length (stored cs)) maxList)
@@ -77,31 +73,31 @@ module _ (first second : List ℕ) (n : ℕ) (a b : List Gate) (t : TwoFiles fir
       let (x, y) = plain-few cs (list-short n gl) (list-within n gl (lines first second n a b t) (left-few first second n a b t) (kept first second n a b t .good)) in
       let few = leb-true (length (stored cs)) maxList u in
       let v : variablesOf n gl ≤ maxVariables = omega (arith, clause-laws .variables-few n gl, lines first second n a b t, left-few first second n a b t) in
-      subst (λ (c : Comparison). length (comparisonText c) ≤ maxCompared) (sym (cond-true (leb (length (stored cs)) maxList) _ _ u))
+      subst (λ (c : FileOutcome Comparison). length (comparedText c) ≤ maxCompared) (sym (cond-true (leb (length (stored cs)) maxList) _ _ u))
       (omega (arith, x, few, header-few (variablesOf n gl) (length (plainClauses cs)) v (omega (arith, y)), dimacs-long (variablesOf n gl) (plainClauses cs))))
       (λ u.
-      subst (λ (c : Comparison). length (comparisonText c) ≤ maxCompared) (sym (cond-false (leb (length (stored cs)) maxList) _ _ u))
-      (refusal-few 10 0 0 (omega arith) (omega arith) (omega arith)))
+      subst (λ (c : FileOutcome Comparison). length (comparedText c) ≤ maxCompared) (sym (cond-false (leb (length (stored cs)) maxList) _ _ u))
+      (omega (arith, refusal-few 10 0 0 (omega arith) (omega arith) (omega arith))))
 
-  pair-few : length (comparisonText (compared n a b)) ≤ maxCompared
+  pair-few : length (comparedText (compared n a b)) ≤ maxCompared
   unfolding compared
   pair-few =
       either (eqb (length gl) 0)
-      (λ u. subst (λ (c : Comparison). length (comparisonText c) ≤ maxCompared) (sym (cond-true (eqb (length gl) 0) _ _ u)) (omega arith))
+      (λ u. subst (λ (c : FileOutcome Comparison). length (comparedText c) ≤ maxCompared) (sym (cond-true (eqb (length gl) 0) _ _ u)) (omega arith))
       (λ u.
       either (leb n maxSweepLines)
       (λ v.
-      subst (λ (c : Comparison). length (comparisonText c) ≤ maxCompared)
+      subst (λ (c : FileOutcome Comparison). length (comparedText c) ≤ maxCompared)
       (sym (cond-false (eqb (length gl) 0) _ _ u ∙ cond-true (leb n maxSweepLines) _ _ v)) (difference-few (lowestFrom a b 0 (2 ^ n)) (sweep-says a b n)))
       (λ v.
-      subst (λ (c : Comparison). length (comparisonText c) ≤ maxCompared)
+      subst (λ (c : FileOutcome Comparison). length (comparedText c) ≤ maxCompared)
       (sym (cond-false (eqb (length gl) 0) _ _ u ∙ cond-false (leb n maxSweepLines) _ _ v)) list-few))
 
 -- ---- every text
 
-files-few : (first second : List ℕ) (f : Files) → Judged first second f → length (comparisonText (comparedFiles f)) ≤ maxCompared
-files-few first second (cascades n a b) t = pair-few first second n a b t
-files-few first second (wrongFiles number file place) f = let (x, y, z) = refused-few first second number file place f in refusal-few number file place x y z
+files-few : (first second : List ℕ) (f : FileOutcome CascadePair) → Judged first second f → length (comparedText (comparedFiles f)) ≤ maxCompared
+files-few first second (answered p) t = pair-few first second (p .lines) (p .first) (p .second) t
+files-few first second (refusedAt number file place) f = let (x, y, z) = refused-few first second number file place f in omega (arith, refusal-few number file place x y z)
 
 pub text-fits : (first second : List ℕ) → length (compareText first second) ≤ maxCompared
 unfolding compareText comparison

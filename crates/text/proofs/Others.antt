@@ -20,29 +20,18 @@ use Rattle.checking.specs.Clauses.{clausesOf}
 use Rattle.checking.specs.Stored.{stored}
 use Rattle.checking.proofs.Promises.{sweep-says}
 use Rattle.text.specs.Dimacs.{Dimacs, headerText, dimacsRead}
-use Rattle.text.specs.Tomiter.{refusalText}
+use Rattle.text.specs.FileOutcome.{FileOutcome, answered, refusedAt, refusalText, answerText}
 use Rattle.text.specs.BytesTell.{TextTells}
-use Rattle.text.specs.Compare.{maxList, Files, cascades, wrongFiles, filesOf, Comparison, reduced, gatesLeft, sweptAs, listAs, compared, comparedFiles, comparison, comparisonText, compareText, equalText, differText}
+use Rattle.text.specs.Compare.{maxList, CascadePair, cascades, filesOf, Comparison, reduced, gatesLeft, sweptAs, listAs, compared, comparedFiles, comparison, comparedText, compareText, equalText, differText}
 use Rattle.text.specs.TwoFiles.{TwoFiles, FilesRefused}
 use Rattle.text.specs.CompareLaws.{MayWrite, refuses, overflows, reduces, sweeps, differs, asks, Compares}
+use Rattle.text.proofs.FileOutcome.{not-refused, unanswered}
 use Rattle.text.proofs.Fields.{differ-apart}
 use Rattle.text.proofs.Strict.{text-was}
 use Rattle.text.proofs.Verdicts.{judged-is}
 use Rattle.text.proofs.StandIns.{once, once-runs, none-good, once-good, first, second, first-bytes, second-bytes}
 
 -- ---- the files decide the cascades
-
-abbrev linesIn : Files → ℕ
-linesIn (cascades n a b) = n
-linesIn (wrongFiles number file place) = 0
-
-abbrev firstIn : Files → List Gate
-firstIn (cascades n a b) = a
-firstIn (wrongFiles number file place) = []
-
-abbrev secondIn : Files → List Gate
-secondIn (cascades n a b) = b
-secondIn (wrongFiles number file place) = []
 
 -- the same cascades
 record Same (n m : ℕ) (a b c d : List Gate) : Type 0 where
@@ -52,15 +41,13 @@ record Same (n m : ℕ) (a b c d : List Gate) : Type 0 where
 
 same : (first second : List ℕ) (n m : ℕ) (a b c d : List Gate) → TwoFiles first second n a b → TwoFiles first second m c d → Same n m a b c d
 same first second n m a b c d s t =
-    let f = sym (judged-is first second (cascades n a b) s) ∙ judged-is first second (cascades m c d) t in
-    record { lines = ap linesIn f; first = ap firstIn f; second = ap secondIn f }
+    let f = unanswered (sym (judged-is first second (answered (cascades n a b)) s) ∙ judged-is first second (answered (cascades m c d)) t) in
+    record { lines = ap (λ (p : CascadePair). p .lines) f; first = ap (λ (p : CascadePair). p .first) f; second = ap (λ (p : CascadePair). p .second) f }
 
 -- two cascades are not refused
 not-both : (first second : List ℕ) (n : ℕ) (a b : List Gate) (number file place : ℕ) → TwoFiles first second n a b → FilesRefused first second number file place → ⊥
 not-both first second n a b number file place t r =
-    let f = sym (judged-is first second (cascades n a b) t) ∙ judged-is first second (wrongFiles number file place) r in
-    let z : _≡_ {A = ℕ} 0 1 = cc in
-    omega arith
+    not-refused (sym (judged-is first second (refusedAt number file place) r) ∙ judged-is first second (answered (cascades n a b)) t)
 
 -- ---- the kinds of texts start with different bytes
 
@@ -88,13 +75,9 @@ tells-start text n a b t = read-start text (t .read) (t .is-read)
 
 -- ---- what is wrong with the files is told
 
-abbrev refusedText : Files → List ℕ
-refusedText (cascades n a b) = []
-refusedText (wrongFiles number file place) = refusalText number file place
-
 module _ (one two : List ℕ) (number file place : ℕ) (r : FilesRefused one two number file place) where
   refused-case : (text : List ℕ) → MayWrite one two text → text ≡ refusalText number file place
-  refused-case text (refuses k f p e s) = e ∙ ap refusedText (sym (judged-is one two (wrongFiles k f p) s) ∙ judged-is one two (wrongFiles number file place) r)
+  refused-case text (refuses k f p e s) = e ∙ ap (answerText {A = CascadePair} (λ _. [])) (sym (judged-is one two (refusedAt k f p) s) ∙ judged-is one two (refusedAt number file place) r)
   refused-case text (overflows m c d s f g h i) = absurd (not-both one two m c d number file place s r)
   refused-case text (reduces m c d s f g h) = absurd (not-both one two m c d number file place s r)
   refused-case text (sweeps m c d s f g h i) = absurd (not-both one two m c d number file place s r)
@@ -190,20 +173,20 @@ differ-true program one two n a b x y z t e laws = difference-case one two n a b
 -- ---- the files decide the text
 
 module _ (one two : List ℕ) where
-  text-at : (f : Files) → filesOf one two ≡ f → compareText one two ≡ comparisonText (comparedFiles f)
+  text-at : (f : FileOutcome CascadePair) → filesOf one two ≡ f → compareText one two ≡ comparedText (comparedFiles f)
   unfolding compareText comparison
-  text-at f e = ap (λ (g : Files). comparisonText (comparedFiles g)) e
+  text-at f e = ap (λ (g : FileOutcome CascadePair). comparedText (comparedFiles g)) e
 
   module _ (n : ℕ) (a b : List Gate) (t : TwoFiles one two n a b) where
-    due : (c : Comparison) → compared n a b ≡ c → compareText one two ≡ comparisonText c
-    due c e = text-at (cascades n a b) (judged-is one two (cascades n a b) t) ∙ ap comparisonText e
+    due : (c : FileOutcome Comparison) → compared n a b ≡ c → compareText one two ≡ comparedText c
+    due c e = text-at (answered (cascades n a b)) (judged-is one two (answered (cascades n a b)) t) ∙ ap comparedText e
 
-    by-none : gatesLeft a b ≡ [] → compared n a b ≡ reduced
+    by-none : gatesLeft a b ≡ [] → compared n a b ≡ answered reduced
     unfolding compared
     by-none e = cond-true (eqb (length (gatesLeft a b)) 0) _ _ (eq-eqb _ _ (ap length e))
 
     module _ (more : gatesLeft a b ≡ [] → ⊥) where
-      by-swept : n ≤ maxSweepLines → compared n a b ≡ sweptAs a b (lowestFrom a b 0 (2 ^ n))
+      by-swept : n ≤ maxSweepLines → compared n a b ≡ answered (sweptAs a b (lowestFrom a b 0 (2 ^ n)))
       unfolding compared
       by-swept h = cond-false (eqb (length (gatesLeft a b)) 0) _ _ (ne-eqb _ _ (λ z. more (empty (gatesLeft a b) z))) ∙ cond-true (leb n maxSweepLines) _ _ (le-leb n maxSweepLines h)
 
@@ -228,11 +211,11 @@ module _ (one two : List ℕ) where
 
   decided : (text : List ℕ) → MayWrite one two text → text ≡ compareText one two
   unfolding listAs
-  decided text (refuses k f p e s) = e ∙ sym (text-at (wrongFiles k f p) (judged-is one two (wrongFiles k f p) s))
+  decided text (refuses k f p e s) = e ∙ sym (text-at (refusedAt k f p) (judged-is one two (refusedAt k f p) s))
   decided text (overflows n a b t e g h i) = e ∙ sym (due n a b t _ (by-listed n a b t g h ∙ cond-false (leb (length (stored (clausesOf n (gatesLeft a b)))) maxList) _ _ (lt-leb _ _ i)))
   decided text (reduces n a b t e g h) = e ∙ sym (due n a b t _ (by-none n a b t g))
-  decided text (sweeps n a b t e g h i) = e ∙ sym (due n a b t _ (by-swept n a b t g h ∙ ap (sweptAs a b) (none-found n a b t i (lowestFrom a b 0 (2 ^ n)) (sweep-says a b n))))
-  decided text (differs n a b t x e g h i j) = e ∙ sym (due n a b t _ (by-swept n a b t g h ∙ ap (sweptAs a b) (lowest-found n a b t x i j (lowestFrom a b 0 (2 ^ n)) (sweep-says a b n))))
+  decided text (sweeps n a b t e g h i) = e ∙ sym (due n a b t _ (by-swept n a b t g h ∙ ap (λ (d : Difference). answered (sweptAs a b d)) (none-found n a b t i (lowestFrom a b 0 (2 ^ n)) (sweep-says a b n))))
+  decided text (differs n a b t x e g h i j) = e ∙ sym (due n a b t _ (by-swept n a b t g h ∙ ap (λ (d : Difference). answered (sweptAs a b d)) (lowest-found n a b t x i j (lowestFrom a b 0 (2 ^ n)) (sweep-says a b n))))
   decided text (asks n a b t e f g h i j) = e ∙ sym (due n a b t _ (by-listed n a b t h i ∙ cond-true (leb (length (stored (clausesOf n (gatesLeft a b)))) maxList) _ _ (le-leb _ _ j)))
 
 pub compares-only : (program : List ℕ → List ℕ → List ℕ) → Compares program → (first second : List ℕ) → program first second ≡ compareText first second

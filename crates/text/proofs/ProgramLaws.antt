@@ -10,7 +10,9 @@ use Rattle.circuit.specs.Outcome.{Outcome, served, Yields}
 use Rattle.circuit.proofs.Promises.{demanded}
 use Rattle.circuit.specs.Refusal.{noRoom}
 use Rattle.text.specs.Answers.{fitOutcome, fitBuffer, WritesWhere}
-use Rattle.text.specs.Tomiter.{Verdict, listed, refusedAt, verdict, refusalText, verdictText, tomiterText, tomiterOutcome, tomiterBuffer, WritesText}
+use Rattle.text.specs.Formula.{Formula}
+use Rattle.text.specs.FileOutcome.{FileOutcome, answered, refusedAt, refusalText}
+use Rattle.text.specs.Tomiter.{verdict, verdictText, tomiterText, tomiterOutcome, tomiterBuffer, WritesText}
 use Rattle.text.specs.BytesTell.{StartsProblem, TextTells, BytesTell}
 use Rattle.text.specs.TextLaws.{ProgramRefused, RightText, clauses, refusal, ProgramLaws, AsBuilt}
 use Rattle.text.proofs.Fields.{refusal-apart}
@@ -24,8 +26,8 @@ text-refused : (input : List ℕ) (number file place : ℕ) → tomiterText inpu
 unfolding tomiterText
 text-refused input number file place e = refused-exactly input number file place .0 (go (verdict input) refl)
   where
-    go : (w : Verdict) → verdict input ≡ w → verdict input ≡ refusedAt number file place
-    go (listed v cs) q = absurd (refusal-starts number file place (subst StartsProblem (sym (ap verdictText q) ∙ e) (dimacs-starts v cs)))
+    go : (w : FileOutcome Formula) → verdict input ≡ w → verdict input ≡ refusedAt number file place
+    go (answered f) q = absurd (refusal-starts number file place (subst StartsProblem (sym (ap verdictText q) ∙ e) (dimacs-starts (f .variables) (f .clauses))))
     go (refusedAt k f p) q =
         let (a, b, c) = refusal-apart k f p number file place (sym (ap verdictText q) ∙ e) in
         q ∙ ap (λ (x : ℕ). refusedAt x f p) a ∙ ap (λ (x : ℕ). refusedAt number x p) b ∙ ap (refusedAt number file) c
@@ -37,8 +39,8 @@ refused-text input number file place f = ap verdictText (refused-exactly input n
 text-written : (input : List ℕ) → RightText input (tomiterText input)
 text-written input = go (verdict input) refl
   where
-    go : (w : Verdict) → verdict input ≡ w → RightText input (tomiterText input)
-    go (listed v cs) e = let (n, a, b, f) = listed-fits input v cs e in clauses n a b f (text-starts input n a b f) (text-told input n a b f)
+    go : (w : FileOutcome Formula) → verdict input ≡ w → RightText input (tomiterText input)
+    go (answered l) e = let (n, a, b, f) = listed-fits input l e in clauses n a b f (text-starts input n a b f) (text-told input n a b f)
     go (refusedAt number file place) e =
         let f = refused-exactly input number file place .0 e in
         refusal number file place f (refused-text input number file place f)

@@ -1,5 +1,5 @@
 -- The call that compares two files, by the rooms that are lent. Assumes nothing.
-use mathlib.Core.Path.{_≡_, refl, sym, ap, _∙_}
+use mathlib.Core.Path.{_≡_, refl, ap, _∙_}
 use mathlib.Core.Bool.{Bool, true, _&&_}
 use mathlib.Core.List.{List}
 use Prim.Native.Nat.{ℕ, _≤_, _<_}
@@ -9,13 +9,14 @@ use lib.ListN.{length}
 use borrow.Author.Tests.{le-leb, lt-leb, leb-true}
 use Rattle.bits.proofs.Bools.{and-parts, both}
 use Rattle.circuit.specs.declared.refusal.Refusal.{Refusal}
-use Rattle.circuit.specs.Outcome.{Outcome, served, refused, demand, written, Yields}
+use Rattle.circuit.specs.Outcome.{Outcome, served, refused, demand, Yields}
 use Rattle.circuit.specs.Refusal.{refusal, noRoom}
 use Rattle.circuit.proofs.Promises.{demand-met, demand-failed, told, why}
 use Rattle.text.specs.declared.comparison.ComparedAnswer.{ComparedAnswer}
 use Rattle.text.specs.Answers.{fitOutcome, fitBuffer, WritesWhere}
-use Rattle.text.specs.Compare.{maxList, fileWords, miterWords, comparison, comparisonText, compareText, Rooms, RoomsFit, compareOutcome, compareBuffer}
+use Rattle.text.specs.Compare.{maxList, fileWords, miterWords, comparison, comparedText, compareText, Rooms, RoomsFit, compareOutcome, compareBuffer}
 use Rattle.text.specs.private.Comparing.{ofCompared, SaysCompared}
+use Rattle.text.proofs.answer.Laws.{fit-told}
 use Rattle.text.proofs.Writes.{two-tests, writes-where}
 
 module _ (first second : List ℕ) (lent : Rooms) (out : List ℕ) where
@@ -60,17 +61,10 @@ module _ (first second : List ℕ) (lent : Rooms) (good : fileWords ≤ lent .fi
       ∙ demand-met _ _ _ _ (le-leb miterWords (lent .miter) good-3) ∙ demand-met _ _ _ _ (le-leb maxList (lent .clauses) good-4)
 
   pub compared-told : (answer : ComparedAnswer) (clauses : List ℤ) → SaysCompared answer clauses (comparison first second) → (r : Outcome ℕ) (last out : List ℕ)
-      → Yields r last (fitOutcome (comparisonText (ofCompared answer clauses)) (length out)) (fitBuffer (comparisonText (ofCompared answer clauses)) out)
+      → Yields r last (fitOutcome (comparedText (ofCompared answer clauses)) (length out)) (fitBuffer (comparedText (ofCompared answer clauses)) out)
       → Yields r last (compareOutcome first second lent (length out)) (compareBuffer first second lent out)
-  unfolding compareBuffer fitBuffer compareText
-  compared-told answer clauses s r last out y =
-      let e : comparisonText (ofCompared answer clauses) ≡ compareText first second = ap comparisonText (s .is) in
-      let g : fitOutcome (comparisonText (ofCompared answer clauses)) (length out) ≡ compareOutcome first second lent (length out) =
-      ap (λ (text : List ℕ). fitOutcome text (length out)) e ∙ sym (rooms-good (length out)) in
-      record {
-        answer = y .answer ∙ g;
-        buffer = y .buffer ∙ mathlib.Core.Path.ap₂ (λ (o : Outcome ℕ) (text : List ℕ). written o text out) g e;
-      }
+  unfolding compareBuffer compareText
+  compared-told answer clauses s r last out y = fit-told _ (compareText first second) out _ r last (ap comparedText (s .is)) (rooms-good (length out)) y
 
 -- ---- exactly where everything fits
 

@@ -12,7 +12,8 @@ use Rattle.checking.specs.Clauses.{moved, gatesClauses, usedAfter, currentAfter
 use Rattle.checking.specs.Stored.{stored}
 use Rattle.text.specs.Dimacs.{decimalWithin, decimal, literalsText, clausesText, headerText, dimacsOf}
 use Rattle.text.specs.WholeFile.{wholeFile}
-use Rattle.text.specs.Tomiter.{listVerdict, pairVerdict, secondVerdict, verdict, refusalText, tomiterText}
+use Rattle.text.specs.FileOutcome.{refusalText}
+use Rattle.text.specs.Tomiter.{listVerdict, pairVerdict, secondVerdict, verdict, tomiterText}
 use Rattle.text.specs.Plain.{negations, plainClauses}
 use Rattle.text.specs.Compare.{secondFile, filesOf, listAs, compared, comparison, differText, compareText}
 use Rattle.text.specs.CheckInput.{stateText, stateRead, checked, outputsText, checkText}

@@ -8,10 +8,10 @@ use lib.Dec.{eqb, leb}
 use lib.IntN.{ℤ, pos, negsuc}
 use lib.ListN.{length, drop, length-append}
 use borrow.Author.Tests.{eqb-true, leb-true}
-use Rattle.bits.proofs.Bools.{either, cond-true, cond-false}
+use Rattle.bits.proofs.Bools.{either}
 use Rattle.circuit.specs.declared.gate.Gate.{Gate}
 use Rattle.circuit.specs.Outcome.{Outcome, served, refused, before, then, fails}
-use Rattle.circuit.specs.Text.{tab, lineFeed}
+use Rattle.circuit.specs.Text.{lineFeed}
 use Rattle.circuit.specs.File.{Line, Reading, reading}
 use Rattle.circuit.specs.FileLaws.{FileCascade, HeaderOffence, no-lines, no-number, outside, ControlsOffence, form, value, later, LineOffence, no-gate, many, target-form, target-value, controls, controlled, not-rising, FileRefused, header-line, later-line}
 use Rattle.circuit.specs.FileLaws as laws
@@ -22,12 +22,15 @@ use Rattle.checking.specs.Satisfaction.{variableOf, LiteralsWithin, clauseLiter
 use Rattle.checking.specs.Stored.{storedClause, stored}
 use Rattle.checking.proofs.Promises.{clause-laws, stored-next}
 use Rattle.text.specs.Dimacs.{blank, decimal, literalText, literalsText, closing, clauseText, clausesText, headerText, dimacsOf}
+use Rattle.text.specs.Formula.{Formula}
 use Rattle.text.specs.WholeFile.{wholeFile, WholeRefused}
-use Rattle.text.specs.Tomiter.{maxInput, maxWords, maxText, Verdict, listed, refusedAt, ofFile, listVerdict, pairVerdict, secondVerdict, verdict, refusalText, verdictText, tomiterText, tomiterOutcome}
+use Rattle.text.specs.FileOutcome.{FileOutcome, answered, refusedAt, ofFile}
+use Rattle.text.specs.Tomiter.{maxInput, maxWords, maxText, listVerdict, pairVerdict, secondVerdict, verdict, verdictText, tomiterText, tomiterOutcome}
 use Rattle.text.proofs.Decimal.{decimal-few}
+use Rattle.text.proofs.FileOutcome.{both-met, both-failed}
 use Rattle.text.proofs.WholeFile.{WholeJudged, whole-judged}
 use Rattle.text.proofs.Pairs.{Listable, listable}
-use Rattle.text.proofs.answer.Laws.{fit-fits}
+use Rattle.text.proofs.answer.Laws.{fit-fits, refusal-few}
 
 -- ---- the text of a clause list
 
@@ -68,16 +71,17 @@ header-few v m h l =
 -- ---- what a verdict says
 
 -- so few variables and words, or so small numbers
-abbrev Small : Verdict → Type 0
-Small (listed v cs) = (v ≤ maxVariables) × (ClausesWithin v cs) × (length (stored cs) ≤ maxWords)
+abbrev Small : FileOutcome Formula → Type 0
+Small (answered f) = (f .variables ≤ maxVariables) × (ClausesWithin (f .variables) (f .clauses)) × (length (stored (f .clauses)) ≤ maxWords)
 Small (refusedAt number file place) = (number < 100) × (file < 10) × (place < 10000)
 
-small-text : (v : Verdict) → Small v → length (verdictText v) ≤ maxText
-unfolding dimacsOf refusalText
-small-text (listed v cs) (a, b, c) =
-    omega (arith, header-few v (length cs) a (omega (arith, count-few cs)), clauses-few v cs a b, length-append (headerText v (length cs)) (clausesText cs))
+small-text : (v : FileOutcome Formula) → Small v → length (verdictText v) ≤ maxText
+unfolding dimacsOf
+small-text (answered f) (a, b, c) =
+    let cs : List Clause = f .clauses in
+    omega (arith, header-few (f .variables) (length cs) a (omega (arith, count-few cs)), clauses-few (f .variables) cs a b, length-append (headerText (f .variables) (length cs)) (clausesText cs))
 small-text (refusedAt number file place) (a, b, c) =
-    omega (arith, decimal-few 1 number a, decimal-few 0 file b, decimal-few 3 place c, length-append (decimal number) (tab ∷ (decimal file ++ (tab ∷ (decimal place ++ (lineFeed ∷ []))))), length-append (decimal file) (tab ∷ (decimal place ++ (lineFeed ∷ []))), length-append (decimal place) (lineFeed ∷ []))
+    omega (arith, refusal-few number file place a b c)
 
 -- ---- the numbers and places of refused files
 
@@ -117,21 +121,21 @@ unfolding listVerdict
 list-small n gs g =
     either (leb (length (stored (clausesOf n gs))) maxWords)
     (λ t.
-    subst Small (sym (cond-true (leb (length (stored (clausesOf n gs))) maxWords) _ _ t))
+    subst Small (sym (both-met (leb (length (stored (clausesOf n gs))) maxWords) _ _ t))
     (omega (arith, clause-laws .variables-few n gs, g .lines, g .few), clause-laws .list-tells n gs (g .lines) (g .valid) .within, leb-true _ _ t))
-    (λ t. subst Small (sym (cond-false (leb (length (stored (clausesOf n gs))) maxWords) _ _ t)) (omega arith, omega arith, omega arith))
+    (λ t. subst Small (sym (both-failed (leb (length (stored (clausesOf n gs))) maxWords) _ _ t)) (omega arith, omega arith, omega arith))
 
 pair-small : (na : ℕ) (a : List Gate) (nb : ℕ) (b : List Gate) → FileCascade na a → FileCascade nb b → Small (pairVerdict na a nb b)
 unfolding pairVerdict
 pair-small na a nb b x y =
     either (eqb na nb)
     (λ t.
-    subst Small (sym (cond-true (eqb na nb) _ _ t))
+    subst Small (sym (both-met (eqb na nb) _ _ t))
     (list-small na (miterGates a b) (listable na a b x (subst (λ (n : ℕ). FileCascade n b) (sym (eqb-true na nb t)) y))))
-    (λ t. subst Small (sym (cond-false (eqb na nb) _ _ t)) (omega arith, omega arith, omega arith))
+    (λ t. subst Small (sym (both-failed (eqb na nb) _ _ t)) (omega arith, omega arith, omega arith))
 
 -- a file's refusal is small, and so is what follows
-file-small : (file : ℕ) (text : List ℕ) (more : Reading → Verdict) → file < 10 → ((c : Reading) → reading text ≡ served c → FileCascade (c .lines) (c .gates) → Small (more c))
+file-small : (file : ℕ) (text : List ℕ) (more : Reading → FileOutcome Formula) → file < 10 → ((c : Reading) → reading text ≡ served c → FileCascade (c .lines) (c .gates) → Small (more c))
     → (o : Outcome Reading) → reading text ≡ o → Small (ofFile file o more)
 file-small file text more h f (served c) e = f c e (reader .read-text text c e .0)
 file-small file text more h f (refused number place) e =
@@ -150,9 +154,9 @@ unfolding verdict
 verdict-small input =
     either (leb (length input) maxInput)
     (λ t.
-    subst Small (sym (cond-true (leb (length input) maxInput) _ _ t))
+    subst Small (sym (both-met (leb (length input) maxInput) _ _ t))
     (file-small 1 input _ (omega arith) (λ c e x. second-small (c .lines) (c .gates) (drop (c .taken) input) x) (reading input) refl))
-    (λ t. subst Small (sym (cond-false (leb (length input) maxInput) _ _ t)) (omega arith, omega arith, omega arith))
+    (λ t. subst Small (sym (both-failed (leb (length input) maxInput) _ _ t)) (omega arith, omega arith, omega arith))
 
 pub text-fits : (input : List ℕ) → length (tomiterText input) ≤ maxText
 unfolding tomiterText

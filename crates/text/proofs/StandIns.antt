@@ -20,10 +20,12 @@ use Rattle.checking.specs.Clauses.{Clause, OR, upFrom, moved, gatesClauses, use
 use Rattle.checking.specs.Satisfaction.{ClausesWithin, holds, satisfies, Satisfying, Tells}
 use Rattle.checking.specs.Stored.{stored}
 use Rattle.text.specs.Dimacs.{Dimacs, dimacsOf, dimacsRead}
+use Rattle.text.specs.Formula.{Formula}
 use Rattle.text.specs.Compare.{maxFile}
-use Rattle.text.specs.Tomiter.{maxInput, maxWords, refusalText}
+use Rattle.text.specs.FileOutcome.{refusalText, answerText}
+use Rattle.text.specs.Tomiter.{maxInput, maxWords}
 use Rattle.text.specs.BytesTell.{StartsProblem, TextTells}
-use Rattle.text.specs.TextLaws.{Fitting, ProgramLaws, contradictionText, contradiction, withoutFirstText, withoutFirst}
+use Rattle.text.specs.TextLaws.{Fitting, ProgramLaws, contradiction, withoutFirst}
 use Rattle.text.proofs.Reading.{text-back}
 use Rattle.text.proofs.Telling.{fitting-verdict, fitting-tells, refusal-starts}
 
@@ -102,7 +104,7 @@ unsatisfied v σ s = false≢true (s .satisfied)
 pub contradiction-fails : ProgramLaws contradiction → ⊥
 unfolding contradiction fold
 contradiction-fails laws =
-    let e : contradiction differing ≡ dimacsOf _ (OR [] ∷ []) = ap contradictionText (fitting-verdict differing 1 once [] differing-fits) in
+    let e : contradiction differing ≡ dimacsOf _ (OR [] ∷ []) = ap (answerText (λ (f : Formula). dimacsOf (f .variables) (OR [] ∷ []))) (fitting-verdict differing 1 once [] differing-fits) in
     let t = text-tells (contradiction differing) 1 once [] _ (OR [] ∷ []) e (tt, tt) (laws .told differing 1 once [] differing-fits) in
     let f : run once 0 ≡ 0 = t .equal .1 (unsatisfied _) 0 (omega arith) in
     let z : _≡_ {A = ℕ} 0 1 = sym f ∙ once-runs in
@@ -125,7 +127,7 @@ pub without-first-fails : ProgramLaws withoutFirst → ⊥
 unfolding withoutFirst
 without-first-fails laws =
     let e : withoutFirst equal ≡ dimacsOf (variablesOf 1 (miterGates once once)) (drop 1 (clausesOf 1 (miterGates once once))) =
-    ap withoutFirstText (fitting-verdict equal 1 once once equal-fits) in
+    ap (answerText (λ (f : Formula). dimacsOf (f .variables) (drop 1 (f .clauses)))) (fitting-verdict equal 1 once once equal-fits) in
     let t = text-tells (withoutFirst equal) 1 once once _ _ e (within-later (variablesOf 1 (miterGates once once)) (clausesOf 1 (miterGates once once)) (fitting-tells equal 1 once once equal-fits .within)) (laws .told equal 1 once once equal-fits) in
     t .equal .0 (λ x h. refl) free free-satisfies
 

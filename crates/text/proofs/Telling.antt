@@ -1,6 +1,5 @@
 -- The program's text tells on which states the cascades of two files differ. Assumes nothing.
 use mathlib.Core.Path.{_≡_, refl, sym, ap, ap₂, subst, _∙_}
-use mathlib.Core.Bool.{Bool, true, false}
 use mathlib.Core.List.{List, [], _++_}
 use Prim.Native.Nat.{ℕ, _≤_}
 use native.Mathlib.Omega.{arith}
@@ -8,11 +7,9 @@ use lib.Dec.{eqb, leb}
 use lib.ListN.{length, drop, take-append-drop}
 use lib.Seq.{drop-append-seam}
 use borrow.Author.Tests.{eq-eqb, eqb-true, le-leb, leb-true}
-use Rattle.bits.proofs.Bools.{cond-true}
 use Rattle.circuit.specs.declared.gate.Gate.{Gate}
-use Rattle.circuit.specs.Outcome.{Outcome, served, refused}
 use Rattle.circuit.specs.Text.{textOf}
-use Rattle.circuit.specs.File.{Reading, reading}
+use Rattle.circuit.specs.File.{reading}
 use Rattle.circuit.specs.FileLaws.{FileCascade}
 use Rattle.circuit.proofs.Promises.{reader, run-none}
 use Rattle.checking.specs.Miter.{miterGates}
@@ -21,10 +18,13 @@ use Rattle.checking.specs.Satisfaction.{Tells}
 use Rattle.checking.specs.Stored.{stored}
 use Rattle.checking.proofs.Promises.{miter-laws, clause-laws, tells-same}
 use Rattle.text.specs.Dimacs.{headerText, dimacsOf, dimacsRead}
-use Rattle.text.specs.Tomiter.{maxInput, maxWords, Verdict, listed, refusedAt, unless, ofFile, listVerdict, pairVerdict, secondVerdict, verdict, refusalText, verdictText, tomiterText}
+use Rattle.text.specs.Formula.{Formula, formulaOf}
+use Rattle.text.specs.FileOutcome.{FileOutcome, answered, refusedAt, refusalText}
+use Rattle.text.specs.Tomiter.{maxInput, maxWords, listVerdict, pairVerdict, secondVerdict, verdict, verdictText, tomiterText}
 use Rattle.text.specs.BytesTell.{StartsProblem, TextTells}
 use Rattle.text.specs.WholeFile.{wholeFile}
 use Rattle.text.specs.TextLaws.{Fitting}
+use Rattle.text.proofs.FileOutcome.{both-met, both-passed, file-passed}
 use Rattle.text.proofs.Pairs.{listable}
 use Rattle.text.proofs.Reading.{text-back}
 use Rattle.text.proofs.WholeFile.{WholeJudged, whole-judged, whole-is}
@@ -50,13 +50,13 @@ module _ (input : List ℕ) (n : ℕ) (a b : List Gate) (f : Fitting input n a b
   abbrev gs : List Gate
   gs = miterGates a b
 
-  fitting-pair : pairVerdict n a n b ≡ listed (variablesOf n gs) (clausesOf n gs)
+  fitting-pair : pairVerdict n a n b ≡ answered (formulaOf n gs)
   unfolding pairVerdict listVerdict
   fitting-pair =
-      cond-true (eqb n n) _ _ (eq-eqb n n refl)
-      ∙ cond-true (leb (length (stored (clausesOf n gs))) maxWords) _ _ (le-leb (length (stored (clausesOf n gs))) maxWords (f .words))
+      both-met (eqb n n) _ _ (eq-eqb n n refl)
+      ∙ both-met (leb (length (stored (clausesOf n gs))) maxWords) _ _ (le-leb (length (stored (clausesOf n gs))) maxWords (f .words))
 
-  pub fitting-verdict : verdict input ≡ listed (variablesOf n gs) (clausesOf n gs)
+  pub fitting-verdict : verdict input ≡ answered (formulaOf n gs)
   fitting-verdict =
       after-first input n a (textOf n b) (f .bytes) (f .first) (f .files) ∙ after-second n a n b (f .second) ∙ fitting-pair
 
@@ -79,29 +79,16 @@ unfolding refusalText
 refusal-starts number file place e = let z : _≡_ {A = ℕ} 114 112 = cc in omega arith
 
 -- what a verdict that lists clauses says of the tests before it
-pub not-refused : {number file place v : ℕ} {cs : List Clause} → refusedAt number file place ≡ listed v cs → ⊥
-not-refused e = let z : _≡_ {A = ℕ} 0 1 = cc in omega arith
-
-passed : (test : Bool) (number file place : ℕ) (more : Verdict) (v : ℕ) (cs : List Clause) → unless test (refusedAt number file place) more ≡ listed v cs
-    → (test ≡ true) × (more ≡ listed v cs)
-passed true number file place more v cs e = (refl, e)
-passed false number file place more v cs e = absurd (not-refused e)
-
-file-passed : (file : ℕ) (more : Reading → Verdict) (v : ℕ) (cs : List Clause) (o : Outcome Reading) → ofFile file o more ≡ listed v cs
-    → (c : Reading) × (o ≡ served c) × (more c ≡ listed v cs)
-file-passed file more v cs (served c) e = (c, refl, e)
-file-passed file more v cs (refused number place) e = absurd (not-refused e)
-
-module _ (input : List ℕ) (v : ℕ) (cs : List Clause) (e : verdict input ≡ listed v cs) where
+module _ (input : List ℕ) (f : Formula) (e : verdict input ≡ answered f) where
   pub listed-fits : (n : ℕ) × (a : List Gate) × (b : List Gate) × Fitting input n a b
   unfolding verdict secondVerdict pairVerdict listVerdict
   listed-fits =
-      let (short, e1) = passed (leb (length input) maxInput) _ 0 0 _ v cs e in
-      let (c, first, e2) = file-passed 1 _ v cs (reading input) e1 in
+      let (short, e1) = both-passed (leb (length input) maxInput) _ _ f e in
+      let (c, first, e2) = file-passed 1 (reading input) _ f e1 in
       let rest : List ℕ = drop (c .taken) input in
-      let (d, second, e4) = file-passed 2 _ v cs (wholeFile rest) e2 in
-      let (same, e5) = passed (eqb (c .lines) (d .lines)) _ 0 0 _ v cs e4 in
-      let (words, e6) = passed (leb (length (stored (clausesOf (c .lines) (miterGates (c .gates) (d .gates))))) maxWords) _ 0 0 _ v cs e5 in
+      let (d, second, e4) = file-passed 2 (wholeFile rest) _ f e2 in
+      let (same, e5) = both-passed (eqb (c .lines) (d .lines)) _ _ f e4 in
+      let (words, e6) = both-passed (leb (length (stored (clausesOf (c .lines) (miterGates (c .gates) (d .gates))))) maxWords) _ _ f e5 in
       let (good-a, text-a) = reader .read-text input c first in
       let (good-b, text-b) = subst (WholeJudged rest) second (whole-judged rest) in
       let lines : c .lines ≡ d .lines = eqb-true (c .lines) (d .lines) same in
@@ -127,14 +114,14 @@ as-built input n a b f = ap verdictText (fitting-verdict input n a b f)
 
 pub text-starts : (input : List ℕ) (n : ℕ) (a b : List Gate) → Fitting input n a b → StartsProblem (tomiterText input)
 unfolding tomiterText
-text-starts input n a b f = subst (λ (w : Verdict). StartsProblem (verdictText w)) (sym (fitting-verdict input n a b f)) (dimacs-starts _ _)
+text-starts input n a b f = subst (λ (w : FileOutcome Formula). StartsProblem (verdictText w)) (sym (fitting-verdict input n a b f)) (dimacs-starts _ _)
 
 pub text-fitting : (input : List ℕ) → StartsProblem (tomiterText input) → (n : ℕ) × (a : List Gate) × (b : List Gate) × Fitting input n a b
 unfolding tomiterText
 text-fitting input s = go (verdict input) refl s
   where
-    go : (w : Verdict) → verdict input ≡ w → StartsProblem (verdictText w) → (n : ℕ) × (a : List Gate) × (b : List Gate) × Fitting input n a b
-    go (listed v cs) e t = listed-fits input v cs e
+    go : (w : FileOutcome Formula) → verdict input ≡ w → StartsProblem (verdictText w) → (n : ℕ) × (a : List Gate) × (b : List Gate) × Fitting input n a b
+    go (answered f) e t = listed-fits input f e
     go (refusedAt number file place) e t = absurd (refusal-starts number file place t)
 
 pub text-told : (input : List ℕ) (n : ℕ) (a b : List Gate) → Fitting input n a b → TextTells (tomiterText input) n a b
@@ -144,7 +131,7 @@ text-told input n a b f =
     record {
       read = record { variables = variablesOf n (miterGates a b); count = length (clausesOf n (miterGates a b)); clauses = clausesOf n (miterGates a b) };
       is-read =
-          ap (λ (w : Verdict). dimacsRead (verdictText w)) (fitting-verdict input n a b f)
+          ap (λ (w : FileOutcome Formula). dimacsRead (verdictText w)) (fitting-verdict input n a b f)
           ∙ text-back (variablesOf n (miterGates a b)) (clausesOf n (miterGates a b)) (t .within);
       counted = refl;
       tells = t;

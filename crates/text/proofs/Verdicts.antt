@@ -31,7 +31,8 @@ use Rattle.checking.proofs.Promises.{miter-laws, reduce-laws, sweep-says, claus
 use Rattle.text.specs.Dimacs.{dimacsOf, dimacsRead}
 use Rattle.text.specs.Plain.{plainClauses}
 use Rattle.text.specs.BytesTell.{TextTells}
-use Rattle.text.specs.Compare.{maxFile, maxList, Files, cascades, wrongFiles, secondFile, filesOf, Comparison, gatesLeft, sweptAs, listAs, compared, comparedFiles, comparison, comparisonText, compareText}
+use Rattle.text.specs.FileOutcome.{FileOutcome, answered, refusedAt}
+use Rattle.text.specs.Compare.{maxFile, maxList, CascadePair, secondFile, filesOf, Comparison, gatesLeft, sweptAs, listAs, compared, comparedFiles, comparison, comparisonText, comparedText, compareText}
 use Rattle.text.specs.WholeFile.{wholeFile}
 use Rattle.text.specs.TwoFiles.{TwoFiles, FilesRefused, first-long, second-long, first-file, second-file, lines-differ}
 use Rattle.text.specs.CompareLaws.{MayWrite, refuses, overflows, reduces, sweeps, differs, asks, Compares}
@@ -44,9 +45,9 @@ use Rattle.text.proofs.pair.Laws as pair
 -- ---- two files
 
 module _ (first second : List ℕ) where
-  abbrev pub Judged : Files → Type 0
-  Judged (cascades n a b) = TwoFiles first second n a b
-  Judged (wrongFiles number file place) = FilesRefused first second number file place
+  abbrev pub Judged : FileOutcome CascadePair → Type 0
+  Judged (answered p) = TwoFiles first second (p .lines) (p .first) (p .second)
+  Judged (refusedAt number file place) = FilesRefused first second number file place
 
   module _ (short : length first ≤ maxFile) (short-2 : length second ≤ maxFile) where
     module _ (n : ℕ) (a : List Gate) (good : FileCascade n a) (is : first ≡ textOf n a) where
@@ -92,16 +93,16 @@ module _ (first second : List ℕ) where
     first-is : (n : ℕ) (a : List Gate) → FileCascade n a → first ≡ textOf n a → filesOf first second ≡ secondFile n a second
     first-is n a good e = pair.first-served first second short short-2 _ (whole-is first n a good e)
 
-  pub judged-is : (f : Files) → Judged f → filesOf first second ≡ f
-  judged-is (cascades n a b) t =
-      first-is (t .first-bytes) (t .second-bytes) n a (t .first-good) (t .first-text)
-      ∙ pair.second-same n a second _ (whole-is second n b (t .second-good) (t .second-text)) refl
-  judged-is (wrongFiles _ _ _) (first-long h) = pair.first-long first second h
-  judged-is (wrongFiles _ _ _) (second-long s h) = pair.second-long first second s h
-  judged-is (wrongFiles _ _ _) (first-file number place s s2 w) = pair.first-refused first second s s2 number place (whole-refused first number place .1 w)
-  judged-is (wrongFiles _ _ _) (second-file n a number place s s2 good e w) =
+  pub judged-is : (f : FileOutcome CascadePair) → Judged f → filesOf first second ≡ f
+  judged-is (answered p) t =
+      first-is (t .first-bytes) (t .second-bytes) (p .lines) (p .first) (t .first-good) (t .first-text)
+      ∙ pair.second-same (p .lines) (p .first) second _ (whole-is second (p .lines) (p .second) (t .second-good) (t .second-text)) refl
+  judged-is (refusedAt _ _ _) (first-long h) = pair.first-long first second h
+  judged-is (refusedAt _ _ _) (second-long s h) = pair.second-long first second s h
+  judged-is (refusedAt _ _ _) (first-file number place s s2 w) = pair.first-refused first second s s2 number place (whole-refused first number place .1 w)
+  judged-is (refusedAt _ _ _) (second-file n a number place s s2 good e w) =
       first-is s s2 n a good e ∙ pair.second-refused n a second number place (whole-refused second number place .1 w)
-  judged-is (wrongFiles _ _ _) (lines-differ n a m b s s2 good e good-b e-b ne) =
+  judged-is (refusedAt _ _ _) (lines-differ n a m b s s2 good e good-b e-b ne) =
       first-is s s2 n a good e ∙ pair.second-differs n a second _ (whole-is second m b good-b e-b) ne
 
 -- ---- two cascades
@@ -160,40 +161,40 @@ module _ (first second : List ℕ) (n : ℕ) (a b : List Gate) (t : TwoFiles fir
     by-difference h (lowest x) s = differs n a b t x refl some h (s .0) (s .1)
 
     -- the clauses
-    by-list : maxSweepLines < n → MayWrite first second (comparisonText (listAs n gl))
+    by-list : maxSweepLines < n → MayWrite first second (comparedText (listAs n gl))
     unfolding listAs text-tells
     by-list h =
         either (leb (length (stored cs)) maxList)
         (λ u.
-        let e : comparisonText (listAs n gl) ≡ dimacsOf (variablesOf n gl) (plainClauses cs) = ap comparisonText (cond-true (leb (length (stored cs)) maxList) _ _ u) in
+        let e : comparedText (listAs n gl) ≡ dimacsOf (variablesOf n gl) (plainClauses cs) = ap comparedText (cond-true (leb (length (stored cs)) maxList) _ _ u) in
         asks n a b t e (text-tells _ e) (plain-or cs) some h (leb-true (length (stored cs)) maxList u))
         (λ u.
-        overflows n a b t (ap comparisonText (cond-false (leb (length (stored cs)) maxList) _ _ u)) some h (leb-false (length (stored cs)) maxList u))
+        overflows n a b t (ap comparedText (cond-false (leb (length (stored cs)) maxList) _ _ u)) some h (leb-false (length (stored cs)) maxList u))
 
-  pub pair-verdict : MayWrite first second (comparisonText (compared n a b))
+  pub pair-verdict : MayWrite first second (comparedText (compared n a b))
   unfolding compared
   pair-verdict =
       either (eqb (length gl) 0)
       (λ u.
       let e : gl ≡ [] = empty gl (eqb-true (length gl) 0 u) in
-      reduces n a b t (ap comparisonText (cond-true (eqb (length gl) 0) _ _ u)) e (none-equal e))
+      reduces n a b t (ap comparedText (cond-true (eqb (length gl) 0) _ _ u)) e (none-equal e))
       (λ u.
       let some : gl ≡ [] → ⊥ = λ e. eqb-false (length gl) 0 u (ap length e) in
       either (leb n maxSweepLines)
       (λ v.
-      subst (λ (c : Comparison). MayWrite first second (comparisonText c))
+      subst (λ (c : FileOutcome Comparison). MayWrite first second (comparedText c))
       (sym (cond-false (eqb (length gl) 0) _ _ u ∙ cond-true (leb n maxSweepLines) _ _ v))
       (by-difference some (leb-true n maxSweepLines v) (lowestFrom a b 0 (2 ^ n)) (sweep-says a b n)))
       (λ v.
-      subst (λ (c : Comparison). MayWrite first second (comparisonText c))
+      subst (λ (c : FileOutcome Comparison). MayWrite first second (comparedText c))
       (sym (cond-false (eqb (length gl) 0) _ _ u ∙ cond-false (leb n maxSweepLines) _ _ v))
       (by-list some (leb-false n maxSweepLines v))))
 
 -- ---- the claim
 
-said : (first second : List ℕ) (f : Files) → Judged first second f → MayWrite first second (comparisonText (comparedFiles f))
-said first second (cascades n a b) t = pair-verdict first second n a b t
-said first second (wrongFiles number file place) f = refuses number file place refl f
+said : (first second : List ℕ) (f : FileOutcome CascadePair) → Judged first second f → MayWrite first second (comparedText (comparedFiles f))
+said first second (answered p) t = pair-verdict first second (p .lines) (p .first) (p .second) t
+said first second (refusedAt number file place) f = refuses number file place refl f
 
 pub compares : Compares compareText
 unfolding compareText comparison

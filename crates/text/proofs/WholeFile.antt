@@ -3,7 +3,7 @@ use mathlib.Core.Path.{_≡_, refl, sym, ap, subst, _∙_}
 use mathlib.Core.Logic.{_↔_}
 use mathlib.Core.Bool.{false}
 use mathlib.Core.List.{List, [], append-nil}
-use Prim.Native.Nat.{ℕ, _+_, _≤_, _<_}
+use Prim.Native.Nat.{ℕ, _≤_, _<_}
 use native.Mathlib.Omega.{arith}
 use lib.Dec.{eqb}
 use lib.ListN.{length, length-append}
@@ -16,7 +16,7 @@ use Rattle.circuit.specs.Text.{textOf}
 use Rattle.circuit.specs.File.{Reading, reading}
 use Rattle.circuit.specs.FileLaws.{FileCascade, ReadAs}
 use Rattle.circuit.proofs.Promises.{reader, read-as, demand-met, demand-failed, demanded, then-served, then-refused, then-both, wrong-refused, fails-refused}
-use Rattle.text.specs.WholeFile.{wholeFile, WholeRefused}
+use Rattle.text.specs.WholeFile.{lineAfterEnd, wholeFile, WholeRefused}
 
 -- ---- by what its reading gives
 
@@ -26,7 +26,7 @@ module _ (text : List ℕ) where
   whole-bad number place e = then-refused _ _ number place e
 
   module _ (c : Reading) (e : reading text ≡ served c) where
-    pub whole-after : (c .taken ≡ length text → ⊥) → wholeFile text ≡ refused wrongForm (length (c .gates) + 2)
+    pub whole-after : (c .taken ≡ length text → ⊥) → wholeFile text ≡ refused wrongForm (lineAfterEnd c)
     unfolding wholeFile
     whole-after h = then-served _ _ c e ∙ demand-failed _ _ _ _ (ne-eqb (c .taken) (length text) h)
 
@@ -45,7 +45,7 @@ pub whole-refused : (text : List ℕ) (number place : ℕ) → (wholeFile text �
 unfolding wholeFile
 whole-refused text =
     wrong-refused (reading text) _ _ _ _ (reader .read-refused text) (read-as text)
-    (λ c g. fails-refused (eqb (c .taken) (length text)) wrongForm (length (c .gates) + 2) c (c .taken < length text) (left c g))
+    (λ c g. fails-refused (eqb (c .taken) (length text)) wrongForm (lineAfterEnd c) c (c .taken < length text) (left c g))
   where
     left : (c : Reading) → ReadAs text c → (eqb (c .taken) (length text) ≡ false) ↔ (c .taken < length text)
     left c g =
@@ -58,7 +58,7 @@ whole-by text (refused number place) e = whole-refused text number place .0 e
 whole-by text (served c) e =
     let (d, r, m) = then-both (reading text) _ c e in
     let (good, is) = reader .read-text text d r in
-    let (all, s) = demanded (eqb (d .taken) (length text)) wrongForm (length (d .gates) + 2) (served d) c m in
+    let (all, s) = demanded (eqb (d .taken) (length text)) wrongForm (lineAfterEnd d) (served d) c m in
     let f : d ≡ c = cc in
     subst (λ (x : Reading). WholeJudged text (served x)) f (good, sym (take-all (d .taken) text (omega (arith, eqb-true (d .taken) (length text) all))) ∙ is)
 

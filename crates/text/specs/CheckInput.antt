@@ -11,8 +11,8 @@ use Rattle.circuit.specs.Refusal.{badState, noRoom}
 use Rattle.circuit.specs.Run.{run}
 use Rattle.circuit.specs.Text.{tab, lineFeed, digit}
 use Rattle.text.specs.Dimacs.{thenRead}
-use Rattle.text.specs.Tomiter.{refusalText}
-use Rattle.text.specs.Compare.{fileWords, Files, cascades, wrongFiles, filesOf, differWord}
+use Rattle.text.specs.FileOutcome.{FileOutcome, answered, refusedAt, further, answerText}
+use Rattle.text.specs.Compare.{fileWords, CascadePair, filesOf, differWord}
 use Rattle.text.specs.Answers.{fitOutcome}
 
 -- no text has more bytes: `differ`, two states of 64 lines after a tab each, and an LF
@@ -31,22 +31,25 @@ stateRead zero (b ∷ bs) = none
 stateRead (suc n) [] = none
 stateRead (suc n) (b ∷ bs) = cond (leb 48 b && leb b 49) (thenRead (λ (x : ℕ). (b - 48) + 2 * x) (stateRead n bs)) none
 
--- the outputs of both cascades on n lines, or a refusal's number, file and place
-pub data Checked : Type 0 where
-  outputs : ℕ → ℕ → ℕ → Checked
-  refusedAt : ℕ → ℕ → ℕ → Checked
+-- the outputs of both cascades on n lines
+pub record Outputs : Type 0 where
+  pub lines : ℕ
+  pub first : ℕ
+  pub second : ℕ
+
+abbrev pub outputs : ℕ → ℕ → ℕ → Outputs
+outputs n first second = record { lines = n; first = first; second = second }
 
 -- a state that is none: 9
-abbrev pub checkedOn : ℕ → List Gate → List Gate → Option ℕ → Checked
-checkedOn n a b (some x) = outputs n (run a x) (run b x)
+abbrev pub checkedOn : ℕ → List Gate → List Gate → Option ℕ → FileOutcome Outputs
+checkedOn n a b (some x) = answered (outputs n (run a x) (run b x))
 checkedOn n a b none = refusedAt badState 0 0
 
 -- what is wrong with the files comes first
-abbrev pub checkedFiles : Files → List ℕ → Checked
-checkedFiles (cascades n a b) state = checkedOn n a b (stateRead n state)
-checkedFiles (wrongFiles number file place) state = refusedAt number file place
+abbrev pub checkedFiles : FileOutcome CascadePair → List ℕ → FileOutcome Outputs
+checkedFiles files state = further files (λ p. checkedOn (p .lines) (p .first) (p .second) (stateRead (p .lines) state))
 
-unfoldable pub checked : List ℕ → List ℕ → List ℕ → Checked
+unfoldable pub checked : List ℕ → List ℕ → List ℕ → FileOutcome Outputs
 checked first second state = checkedFiles (filesOf first second) state
 
 -- `agree`
@@ -58,9 +61,8 @@ unfoldable pub outputsText : ℕ → ℕ → ℕ → List ℕ
 outputsText n first second =
     cond (eqb first second) agreeWord differWord ++ ((tab ∷ stateText n first) ++ ((tab ∷ stateText n second) ++ (lineFeed ∷ [])))
 
-abbrev pub checkedText : Checked → List ℕ
-checkedText (outputs n first second) = outputsText n first second
-checkedText (refusedAt number file place) = refusalText number file place
+abbrev pub checkedText : FileOutcome Outputs → List ℕ
+checkedText c = answerText (λ o. outputsText (o .lines) (o .first) (o .second)) c
 
 -- what is written
 unfoldable pub checkText : List ℕ → List ℕ → List ℕ → List ℕ

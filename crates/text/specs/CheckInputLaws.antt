@@ -11,7 +11,7 @@ use Rattle.circuit.specs.Outcome.{served}
 use Rattle.circuit.specs.Refusal.{badState}
 use Rattle.circuit.specs.Run.{run, Differs}
 use Rattle.circuit.specs.Text.{tab, lineFeed, digit}
-use Rattle.text.specs.Tomiter.{refusalText}
+use Rattle.text.specs.FileOutcome.{refusalText}
 use Rattle.text.specs.Answers.{WritesWhere}
 use Rattle.text.specs.Compare.{differWord}
 use Rattle.text.specs.Rows.{InputsHold, inputRows}

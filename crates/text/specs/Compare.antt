@@ -6,20 +6,20 @@ use lib.Dec.{eqb, leb}
 use lib.ListN.{length}
 use Rattle.circuit.specs.declared.gate.Gate.{Gate}
 use Rattle.circuit.specs.Gate.{maxGates, maxMiterGates}
-use Rattle.circuit.specs.Outcome.{Outcome, served, refused, demand, written}
+use Rattle.circuit.specs.Outcome.{Outcome, demand, written}
 use Rattle.circuit.specs.Refusal.{lineCountsDiffer, noRoom}
 use Rattle.circuit.specs.Run.{run}
 use Rattle.circuit.specs.Text.{tab, lineFeed}
-use Rattle.circuit.specs.File.{Reading}
 use Rattle.checking.specs.Miter.{miterGates}
 use Rattle.checking.specs.Reduce.{reduceGates}
 use Rattle.checking.specs.Compare.{maxSweepLines, Difference, none, lowest, lowestFrom}
-use Rattle.checking.specs.Clauses.{Clause, clausesOf, variablesOf}
+use Rattle.checking.specs.Clauses.{clausesOf}
 use Rattle.checking.specs.Stored.{stored}
 use Rattle.text.specs.Answers.{fitOutcome}
 use Rattle.text.specs.Dimacs.{dimacsOf}
+use Rattle.text.specs.Formula.{Formula, formulaOf}
+use Rattle.text.specs.FileOutcome.{FileOutcome, answered, ofBoth, ofFile, further, numbersText, answerText}
 use Rattle.text.specs.Plain.{plainClauses}
-use Rattle.text.specs.Tomiter.{numbersText, refusalText}
 use Rattle.text.specs.WholeFile.{wholeFile}
 
 -- a file has 262,144 bytes at most, and a clause list 262,144 words
@@ -42,38 +42,33 @@ maxCompared = 4194322
 
 -- ---- the files
 
--- two cascades on n lines; or a refusal's number, file (1, 2, or 0 for both) and place
-pub data Files : Type 0 where
-  cascades : ℕ → List Gate → List Gate → Files
-  wrongFiles : ℕ → ℕ → ℕ → Files
+-- two cascades on n lines
+pub record CascadePair : Type 0 where
+  pub lines : ℕ
+  pub first : List Gate
+  pub second : List Gate
 
--- goes on with the cascade of a file; what is wrong with it is said of that file
-abbrev pub inFile : ℕ → Outcome Reading → (Reading → Files) → Files
-inFile file (served c) more = more c
-inFile file (refused number place) more = wrongFiles number file place
+abbrev pub cascades : ℕ → List Gate → List Gate → CascadePair
+cascades n a b = record { lines = n; first = a; second = b }
 
 -- the second file beside the first one's cascade: its own refusal, then 8
-unfoldable pub secondFile : ℕ → List Gate → List ℕ → Files
-secondFile n gs second =
-    inFile 2 (wholeFile second) (λ d. cond (eqb n (d .lines)) (cascades n gs (d .gates)) (wrongFiles lineCountsDiffer 0 0))
+unfoldable pub secondFile : ℕ → List Gate → List ℕ → FileOutcome CascadePair
+secondFile n gs second = ofFile 2 (wholeFile second) (λ d. ofBoth (eqb n (d .lines)) lineCountsDiffer (answered (cascades n gs (d .gates))))
 
 -- more than 262,144 bytes: 10; the first file; the second one
-unfoldable pub filesOf : List ℕ → List ℕ → Files
+unfoldable pub filesOf : List ℕ → List ℕ → FileOutcome CascadePair
 filesOf first second =
-    cond (leb (length first) maxFile)
-    (cond (leb (length second) maxFile)
-    (inFile 1 (wholeFile first) (λ c. secondFile (c .lines) (c .gates) second))
-    (wrongFiles noRoom 0 0))
-    (wrongFiles noRoom 0 0)
+    ofBoth (leb (length first) maxFile) noRoom
+    (ofBoth (leb (length second) maxFile) noRoom
+    (ofFile 1 (wholeFile first) (λ c. secondFile (c .lines) (c .gates) second)))
 
 -- ---- the comparison
 
--- equal, by the reduction or by the sweep; a state on which two cascades differ, and their outputs; clauses over so many variables that are left to a solver; or a refusal's number, file and place
+-- equal, by the reduction or by the sweep; a state on which two cascades differ, and their outputs; or clauses that are left to a solver
 pub data Comparison : Type 0 where
   reduced swept : Comparison
-  differing : ℕ → ℕ → ℕ → Comparison
-  unsolved : ℕ → List Clause → Comparison
-  refusedAt : ℕ → ℕ → ℕ → Comparison
+  differOn : ℕ → ℕ → ℕ → Comparison
+  unsolved : Formula → Comparison
 
 -- the gates that the full reduction of the miter leaves
 abbrev pub gatesLeft : List Gate → List Gate → List Gate
@@ -82,23 +77,22 @@ gatesLeft a b = reduceGates (miterGates a b) .left
 -- by the lowest state on which two cascades differ, or none
 abbrev pub sweptAs : List Gate → List Gate → Difference → Comparison
 sweptAs a b none = swept
-sweptAs a b (lowest x) = differing x (run a x) (run b x)
+sweptAs a b (lowest x) = differOn x (run a x) (run b x)
 
 -- a clause list of more than 262,144 words: 10
-unfoldable pub listAs : ℕ → List Gate → Comparison
-listAs n gs = cond (leb (length (stored (clausesOf n gs))) maxList) (unsolved (variablesOf n gs) (clausesOf n gs)) (refusedAt noRoom 0 0)
+unfoldable pub listAs : ℕ → List Gate → FileOutcome Comparison
+listAs n gs = ofBoth (leb (length (stored (clausesOf n gs))) maxList) noRoom (answered (unsolved (formulaOf n gs)))
 
 -- the reduction decides where it leaves no gate; else the sweep, up to 16 lines; else the clauses of the gates left are for a solver
-unfoldable pub compared : ℕ → List Gate → List Gate → Comparison
+unfoldable pub compared : ℕ → List Gate → List Gate → FileOutcome Comparison
 compared n a b =
-    cond (eqb (length (gatesLeft a b)) 0) reduced
-    (cond (leb n maxSweepLines) (sweptAs a b (lowestFrom a b 0 (2 ^ n))) (listAs n (gatesLeft a b)))
+    cond (eqb (length (gatesLeft a b)) 0) (answered reduced)
+    (cond (leb n maxSweepLines) (answered (sweptAs a b (lowestFrom a b 0 (2 ^ n)))) (listAs n (gatesLeft a b)))
 
-abbrev pub comparedFiles : Files → Comparison
-comparedFiles (cascades n a b) = compared n a b
-comparedFiles (wrongFiles number file place) = refusedAt number file place
+abbrev pub comparedFiles : FileOutcome CascadePair → FileOutcome Comparison
+comparedFiles files = further files (λ p. compared (p .lines) (p .first) (p .second))
 
-unfoldable pub comparison : List ℕ → List ℕ → Comparison
+unfoldable pub comparison : List ℕ → List ℕ → FileOutcome Comparison
 comparison first second = comparedFiles (filesOf first second)
 
 -- ---- the text
@@ -127,13 +121,15 @@ differText state first second = differWord ++ (tab ∷ numbersText state first s
 abbrev pub comparisonText : Comparison → List ℕ
 comparisonText reduced = equalText reductionWord
 comparisonText swept = equalText sweepWord
-comparisonText (differing state first second) = differText state first second
-comparisonText (unsolved variables cs) = dimacsOf variables (plainClauses cs)
-comparisonText (refusedAt number file place) = refusalText number file place
+comparisonText (differOn state first second) = differText state first second
+comparisonText (unsolved f) = dimacsOf (f .variables) (plainClauses (f .clauses))
+
+abbrev pub comparedText : FileOutcome Comparison → List ℕ
+comparedText c = answerText comparisonText c
 
 -- what is written
 unfoldable pub compareText : List ℕ → List ℕ → List ℕ
-compareText first second = comparisonText (comparison first second)
+compareText first second = comparedText (comparison first second)
 
 -- ---- the call on slices
 

@@ -19,7 +19,7 @@ use Rattle.checking.specs.Stored.{stored}
 use Rattle.text.specs.Answers.{WritesWhere}
 use Rattle.text.specs.Dimacs.{decimal, Dimacs, dimacsOf, dimacsRead}
 use Rattle.text.specs.Plain.{plainClause, plainClauses, AllOr}
-use Rattle.text.specs.Tomiter.{refusalText}
+use Rattle.text.specs.FileOutcome.{refusalText}
 use Rattle.text.specs.BytesTell.{TextTells}
 use Rattle.text.specs.Compare.{maxList, maxCompared, gatesLeft, reductionWord, sweepWord, differWord, equalText, differText, compareText, Rooms, RoomsFit, compareOutcome, compareBuffer}
 use Rattle.text.specs.Rows.{FilesHold, filesRows}

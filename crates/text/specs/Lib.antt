@@ -1,5 +1,7 @@
 pub mod Dimacs
 pub mod BytesTell
+pub mod Formula
+pub mod FileOutcome
 pub mod WholeFile
 pub mod Tomiter
 pub mod Plain

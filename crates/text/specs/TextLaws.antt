@@ -20,7 +20,8 @@ use Rattle.text.specs.BytesTell.{StartsProblem, TextTells}
 use Rattle.text.specs.Answers.{WritesWhere}
 use Rattle.text.specs.WholeFile.{WholeRefused}
 use Rattle.text.specs.Rows.{RowsHold, textRows}
-use Rattle.text.specs.Tomiter.{maxInput, maxWords, maxText, Verdict, listed, refusedAt, verdict, refusedWord, refusalText, tomiterText, tomiterOutcome, tomiterBuffer}
+use Rattle.text.specs.FileOutcome.{refusedWord, refusalText, answerText}
+use Rattle.text.specs.Tomiter.{maxInput, maxWords, maxText, verdict, tomiterText, tomiterOutcome, tomiterBuffer}
 
 -- the input is the files of two cascades on n lines, and nothing is too long
 pub record Fitting (input : List ℕ) (n : ℕ) (a b : List Gate) : Type 0 where
@@ -67,19 +68,11 @@ AsBuilt program =
     (input : List ℕ) (n : ℕ) (a b : List Gate) → Fitting input n a b → program input ≡ dimacsOf (variablesOf n (miterGates a b)) (clausesOf n (miterGates a b))
 
 -- stand-ins, as programs: one fixed contradiction in place of every clause list, and the first clause left out
-abbrev pub contradictionText : Verdict → List ℕ
-contradictionText (listed variables cs) = dimacsOf variables (OR [] ∷ [])
-contradictionText (refusedAt number file place) = refusalText number file place
-
 unfoldable pub contradiction : List ℕ → List ℕ
-contradiction input = contradictionText (verdict input)
-
-abbrev pub withoutFirstText : Verdict → List ℕ
-withoutFirstText (listed variables cs) = dimacsOf variables (drop 1 cs)
-withoutFirstText (refusedAt number file place) = refusalText number file place
+contradiction input = answerText (λ f. dimacsOf (f .variables) (OR [] ∷ [])) (verdict input)
 
 unfoldable pub withoutFirst : List ℕ → List ℕ
-withoutFirst input = withoutFirstText (verdict input)
+withoutFirst input = answerText (λ f. dimacsOf (f .variables) (drop 1 (f .clauses))) (verdict input)
 
 pub record TextLaws : Type 0 where
   -- the text of clauses is read back: the header's counts, and the clauses

@@ -12,9 +12,9 @@ ghost use Rattle.circuit.specs.Outcome.{Yields};
 ghost use Rattle.text.specs.Answers.{ofText, fitOutcome, fitBuffer};
 ghost use Rattle.text.specs.Dimacs.{decimal, dimacsOf};
 ghost use Rattle.text.specs.Plain.{plainClauses};
-ghost use Rattle.text.specs.Tomiter.{numbersText, refusalText};
-ghost use Rattle.text.specs.private.Words.{storedIn, StoresPlain};
-ghost use Rattle.text.specs.Compare.{comparisonText};
+ghost use Rattle.text.specs.FileOutcome.{numbersText, refusalText};
+ghost use Rattle.text.specs.private.Words.{storedIn, StoresList};
+ghost use Rattle.text.specs.Compare.{comparedText};
 ghost use Rattle.text.specs.private.Comparing.{ofCompared, ComparedReady};
 
 // Writes a text that stands elsewhere.
@@ -53,7 +53,7 @@ pub(crate) fn fit_refusal(out: &mut [u8], why: Refusal, file: u64) -> TextAnswer
 
 // Writes the plain clauses that words store, over so many variables.
 fn fit_clauses(out: &mut [u8], variables: u64, words: &[ClauseWord]) -> TextAnswer
-    requires { ⌜ StoresPlain (now words) ⌝ }
+    requires { ⌜ StoresList (now words) ⌝ }
     ensures { λ r. ⌜ Yields (ofText r) (now (out .exit)) (fitOutcome (dimacsOf variables (plainClauses (storedIn (now (words .entry))))) (length (now (out .entry)))) (fitBuffer (dimacsOf variables (plainClauses (storedIn (now (words .entry))))) (now (out .entry))) ⌝ }
 {
     let sizes = crate::plain::list_sizes(words);
@@ -72,7 +72,7 @@ pub(crate) fn fit_answer(
     clauses: &[ClauseWord],
 ) -> TextAnswer
     requires { ⌜ ComparedReady answer (now clauses) ⌝ }
-    ensures { λ r. ⌜ Yields (ofText r) (now (out .exit)) (fitOutcome (comparisonText (ofCompared answer (now (clauses .entry)))) (length (now (out .entry)))) (fitBuffer (comparisonText (ofCompared answer (now (clauses .entry)))) (now (out .entry))) ⌝ }
+    ensures { λ r. ⌜ Yields (ofText r) (now (out .exit)) (fitOutcome (comparedText (ofCompared answer (now (clauses .entry)))) (length (now (out .entry)))) (fitBuffer (comparedText (ofCompared answer (now (clauses .entry)))) (now (out .entry))) ⌝ }
 {
     match answer {
         ComparedAnswer::Reduction => fit_text(out, b"equal\treduction\n"),

@@ -134,12 +134,8 @@ pub(crate) fn compare_files(
         FilesAnswer::Refused { why, file } => ComparedAnswer::Refused { why, file },
         FilesAnswer::Cascades {
             lines,
-            first: i,
-            second: j,
-        } => {
-            let p = Gate::WORDS * i;
-            let q = Gate::WORDS * j;
-            compare_pair(lines, &a[..p], &b[..q], room, clauses)
-        }
+            first: p,
+            second: q,
+        } => compare_pair(lines, &a[..p], &b[..q], room, clauses),
     }
 }

@@ -2,7 +2,6 @@
 
 use crate::TextAnswer;
 use crate::pair::FilesAnswer;
-use circuit::gate::Gate;
 use circuit::refusal::Refusal;
 ghost use mathlib.Core.Bool.{cond};
 ghost use mathlib.Core.Path.{_≡_};
@@ -166,13 +165,9 @@ pub(crate) fn check_files(
         FilesAnswer::Refused { why, file } => CheckedAnswer::Refused { why, file },
         FilesAnswer::Cascades {
             lines,
-            first: i,
-            second: j,
-        } => {
-            let p = Gate::WORDS * i;
-            let q = Gate::WORDS * j;
-            check_pair(lines, &a[..p], &b[..q], state)
-        }
+            first: p,
+            second: q,
+        } => check_pair(lines, &a[..p], &b[..q], state),
     }
 }
 

@@ -42,10 +42,7 @@ fn list_second(n: u64, a: &[u64], text: &[u8], clauses: &mut [ClauseWord]) -> Li
     let mut b = [0u64; crate::FILE_WORDS];
     match crate::pair::read_whole(text, &mut b) {
         WholeAnswer::Refused(why) => ListAnswer::Refused { why, file: 2 },
-        WholeAnswer::Cascade { lines, gates } => {
-            let end = Gate::WORDS * gates;
-            list_pair(n, a, lines, &b[..end], clauses)
-        }
+        WholeAnswer::Cascade { lines, words } => list_pair(n, a, lines, &b[..words], clauses),
     }
 }
 

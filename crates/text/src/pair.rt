@@ -1,21 +1,22 @@
 // Two cascade files, each to its last byte.
 
 use circuit::file::ReadAnswer;
+use circuit::gate::Gate;
 use circuit::refusal::Refusal;
-ghost use Prim.Native.Nat.{_*_, _≤_};
+ghost use Prim.Native.Nat.{_≤_};
 ghost use lib.ListN.{length, take};
 ghost use Rattle.circuit.specs.Words.{gatesOf};
 ghost use Rattle.text.specs.WholeFile.{wholeFile};
 ghost use Rattle.text.specs.Compare.{fileWords, secondFile, filesOf};
 ghost use Rattle.text.specs.private.Comparing.{InRoom, SaysWhole, SaysFiles};
 
-// The lines and the gates of a cascade whose words stand in the lent room; or a refusal.
+// The lines of a cascade and the number of its words, which stand in the lent room; or a refusal.
 pub enum WholeAnswer {
-    Cascade { lines: u64, gates: usize },
+    Cascade { lines: u64, words: usize },
     Refused(Refusal),
 }
 
-// The lines of two cascades and the gates of each, whose words stand in the lent rooms; or a refusal with its file, 1, 2, or 0 for both.
+// The lines of two cascades and the number of each one's words, which stand in the lent rooms; or a refusal with its file, 1, 2, or 0 for both.
 pub enum FilesAnswer {
     Cascades {
         lines: u64,
@@ -43,25 +44,26 @@ pub(crate) fn read_whole(text: &[u8], room: &mut [u64]) -> WholeAnswer
             if taken != text.len() {
                 return WholeAnswer::Refused(Refusal::wrong_form(gates as u64 + 2));
             }
+            let words = Gate::WORDS * gates;
             WholeAnswer::Cascade {
                 lines: header.lines,
-                gates,
+                words,
             }
         }
     }
 }
 
 // The second file's cascade beside the first one's, which stands in its room; else what is wrong with that file, or 8.
-fn read_second(lines: u64, gates: usize, second: &[u8], a: &[u64], b: &mut [u64]) -> FilesAnswer
-    requires { ⌜ InRoom lines gates (now a) ⌝ }
+fn read_second(lines: u64, words: usize, second: &[u8], a: &[u64], b: &mut [u64]) -> FilesAnswer
+    requires { ⌜ InRoom lines words (now a) ⌝ }
     requires { ⌜ fileWords ≤ length (now b) ⌝ }
-    ensures { λ r. ⌜ SaysFiles r (now (a .entry)) (now (b .exit)) (secondFile lines (gatesOf (take (3 * gates) (now (a .entry)))) (now (second .entry))) ⌝ }
+    ensures { λ r. ⌜ SaysFiles r (now (a .entry)) (now (b .exit)) (secondFile lines (gatesOf (take words (now (a .entry)))) (now (second .entry))) ⌝ }
 {
     match read_whole(second, b) {
         WholeAnswer::Refused(why) => FilesAnswer::Refused { why, file: 2 },
         WholeAnswer::Cascade {
             lines: other,
-            gates: count,
+            words: count,
         } => {
             if lines != other {
                 return FilesAnswer::Refused {
@@ -71,7 +73,7 @@ fn read_second(lines: u64, gates: usize, second: &[u8], a: &[u64], b: &mut [u64]
             }
             FilesAnswer::Cascades {
                 lines,
-                first: gates,
+                first: words,
                 second: count,
             }
         }
@@ -98,6 +100,6 @@ pub(crate) fn read_files(first: &[u8], second: &[u8], a: &mut [u64], b: &mut [u6
     }
     match read_whole(first, a) {
         WholeAnswer::Refused(why) => FilesAnswer::Refused { why, file: 1 },
-        WholeAnswer::Cascade { lines, gates } => read_second(lines, gates, second, a, b),
+        WholeAnswer::Cascade { lines, words } => read_second(lines, words, second, a, b),
     }
 }

@@ -13,7 +13,7 @@ ghost use Rattle.checking.specs.Stored.{wordLimit};
 ghost use Rattle.text.specs.Dimacs.{decimal, literalText, literalsText, closing, clausesText};
 ghost use Rattle.text.specs.Plain.{plainClause};
 ghost use Rattle.text.specs.Compare.{maxList};
-ghost use Rattle.text.specs.private.Words.{bothOrs, plainRecord, Plainable, StoresPlain, plainSizes};
+ghost use Rattle.text.specs.private.Words.{bothOrs, plainRecord, Plainable, StoresList, plainSizes};
 
 // The bytes of a text, and the clauses in it.
 pub struct PlainSizes {
@@ -107,7 +107,7 @@ fn record_clauses(kind: ClauseWord, literals: &[ClauseWord]) -> u64
 
 // The sizes of the plain clauses that words store.
 pub(crate) fn list_sizes(words: &[ClauseWord]) -> PlainSizes
-    requires { ⌜ StoresPlain (now words) ⌝ }
+    requires { ⌜ StoresList (now words) ⌝ }
     ensures { λ r. ⌜ r ≡ plainSizes (now (words .entry)) ⌝ }
 {
     let mut bytes = 0;

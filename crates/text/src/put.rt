@@ -7,7 +7,7 @@ ghost use lib.ListN.{length};
 ghost use Rattle.bits.specs.Lists.{Put};
 ghost use Rattle.circuit.specs.Text.{lineFeed, digit};
 ghost use Rattle.text.specs.Dimacs.{decimal};
-ghost use Rattle.text.specs.Tomiter.{numbersText};
+ghost use Rattle.text.specs.FileOutcome.{numbersText};
 
 // Writes a word.
 pub(crate) fn put_word(out: &mut [u8], word: &[u8]) -> usize

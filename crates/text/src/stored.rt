@@ -6,7 +6,7 @@ ghost use Prim.Native.Nat.{_≤_};
 ghost use lib.ListN.{length};
 ghost use Rattle.bits.specs.Lists.{Put};
 ghost use Rattle.text.specs.Dimacs.{headerText};
-ghost use Rattle.text.specs.private.Words.{Plainable, StoresPlain, formedText, storedText};
+ghost use Rattle.text.specs.private.Words.{Plainable, StoresList, formedText, storedText};
 
 // Writes a clause by its kind and its literals, where `plain` as OR clauses.
 fn put_formed(out: &mut [u8], plain: bool, kind: ClauseWord, literals: &[ClauseWord]) -> usize
@@ -22,7 +22,7 @@ fn put_formed(out: &mut [u8], plain: bool, kind: ClauseWord, literals: &[ClauseW
 
 // Writes the clauses that words store, where `plain` as OR clauses.
 fn put_clauses(out: &mut [u8], plain: bool, words: &[ClauseWord]) -> usize
-    requires { ⌜ StoresPlain (now words) ⌝ }
+    requires { ⌜ StoresList (now words) ⌝ }
     requires { ⌜ length (storedText plain (now words)) ≤ length (now out) ⌝ }
     ensures { λ r. ⌜ Put r (now (out .exit)) (storedText plain (now (words .entry))) (now (out .entry)) ⌝ }
 {
@@ -45,7 +45,7 @@ pub(crate) fn put_list(
     plain: bool,
     words: &[ClauseWord],
 ) -> usize
-    requires { ⌜ StoresPlain (now words) ⌝ }
+    requires { ⌜ StoresList (now words) ⌝ }
     requires { ⌜ length (headerText variables clauses ++ storedText plain (now words)) ≤ length (now out) ⌝ }
     ensures { λ r. ⌜ Put r (now (out .exit)) (headerText variables clauses ++ storedText plain (now (words .entry))) (now (out .entry)) ⌝ }
 {

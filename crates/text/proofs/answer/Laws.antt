@@ -1,23 +1,20 @@
 -- A text that is written where it fits, and how long the texts of answers are. Assumes nothing.
-use mathlib.Core.Path.{_≡_, refl, sym, ap, subst}
+use mathlib.Core.Path.{_≡_, refl, sym, ap, ap₂, subst, _∙_}
 use mathlib.Core.List.{List, [], _∷_, _++_}
 use Prim.Native.Nat.{ℕ, _+_, _^_, _≤_, _<_}
 use native.Mathlib.Omega.{arith}
-use lib.IntN.{ℤ}
 use lib.ListN.{length, length-append}
 use borrow.Author.Tests.{le-leb, lt-leb}
 use Rattle.bits.specs.Lists.{Put}
 use Rattle.circuit.specs.declared.refusal.Refusal.{Refusal}
-use Rattle.circuit.specs.Outcome.{Outcome, served, refused, Yields}
+use Rattle.circuit.specs.Outcome.{Outcome, served, refused, written, Yields}
 use Rattle.circuit.specs.Refusal.{refusal, noRoom}
 use Rattle.circuit.specs.Text.{tab, lineFeed}
 use Rattle.circuit.proofs.Promises.{demand-met, demand-failed, told, why}
 use Rattle.text.specs.Dimacs.{blank, decimal, headerText}
-use Rattle.text.specs.Tomiter.{refusedWord, numbersText, refusalText}
+use Rattle.text.specs.FileOutcome.{refusedWord, numbersText, refusalText}
 use Rattle.text.specs.Answers.{fitOutcome, fitBuffer}
-use Rattle.text.specs.Compare.{differWord, differText, comparisonText}
-use Rattle.text.specs.declared.comparison.ComparedAnswer.{ComparedAnswer}
-use Rattle.text.specs.private.Comparing.{ofCompared}
+use Rattle.text.specs.Compare.{differWord, differText}
 use Rattle.text.proofs.Decimal.{decimal-few}
 
 -- ---- where it fits
@@ -39,12 +36,18 @@ module _ (text out : List ℕ) where
   unfolding fitBuffer
   fit-put k last p h = told text out _ last (fitOutcome text (length out)) (served (length text)) (ap served (p .count)) (fit-fits text (length out) h) (p .buffer)
 
--- an answer that is known
-pub answer-as : (x y : ComparedAnswer) (clauses : List ℤ) (r : Outcome ℕ) (last out : List ℕ) → x ≡ y
-    → Yields r last (fitOutcome (comparisonText (ofCompared y clauses)) (length out)) (fitBuffer (comparisonText (ofCompared y clauses)) out)
-    → Yields r last (fitOutcome (comparisonText (ofCompared x clauses)) (length out)) (fitBuffer (comparisonText (ofCompared x clauses)) out)
-answer-as x y clauses r last out e t =
-    subst (λ (z : ComparedAnswer). Yields r last (fitOutcome (comparisonText (ofCompared z clauses)) (length out)) (fitBuffer (comparisonText (ofCompared z clauses)) out)) (sym e) t
+-- the text of an answer that is known
+pub fit-as : {R : Type 0} (text : R → List ℕ) (x y : R) (r : Outcome ℕ) (last out : List ℕ) → x ≡ y
+    → Yields r last (fitOutcome (text y) (length out)) (fitBuffer (text y) out) → Yields r last (fitOutcome (text x) (length out)) (fitBuffer (text x) out)
+fit-as {R} text x y r last out e t = subst (λ (z : R). Yields r last (fitOutcome (text z) (length out)) (fitBuffer (text z) out)) (sym e) t
+
+-- and of a call that writes it where its rooms are long enough
+pub fit-told : (text due out : List ℕ) (outcome r : Outcome ℕ) (last : List ℕ) → text ≡ due → outcome ≡ fitOutcome due (length out)
+    → Yields r last (fitOutcome text (length out)) (fitBuffer text out) → Yields r last outcome (written outcome due out)
+unfolding fitBuffer
+fit-told text due out outcome r last e o y =
+    let g : fitOutcome text (length out) ≡ outcome = ap (λ (t : List ℕ). fitOutcome t (length out)) e ∙ sym o in
+    record { answer = y .answer ∙ g; buffer = y .buffer ∙ ap₂ (λ (x : Outcome ℕ) (t : List ℕ). written x t out) g e }
 
 -- ---- how long
 
@@ -62,6 +65,10 @@ differ-long a b c = omega (arith, three-long (differWord ++ (tab ∷ [])) a b c)
 pub refusal-long : (a b c : ℕ) → length (refusalText a b c) ≡ length (decimal a) + length (decimal b) + length (decimal c) + 11
 unfolding refusalText
 refusal-long a b c = omega (arith, three-long (refusedWord ++ (tab ∷ [])) a b c)
+
+pub refusal-few : (number file place : ℕ) → number < 100 → file < 10 → place < 10000 → length (refusalText number file place) ≤ 18
+refusal-few number file place a b c =
+    omega (arith, refusal-long number file place, decimal-few 1 number a, decimal-few 0 file b, decimal-few 3 place c)
 
 one-long : length (decimal 0) ≡ 1
 one-long = ap length (Rattle.text.proofs.Decimal.decimal-short 0 (omega arith))

@@ -19,7 +19,7 @@ use Rattle.circuit.proofs.Promises.{never, demand-met, demand-failed, gates-len
 use Rattle.checking.specs.declared.clauses.Totals.{Totals}
 use Rattle.checking.specs.Reduce.{Reduced, reduceGates, numbered, reduceOutcome, reduceBuffer}
 use Rattle.checking.specs.Compare.{maxSweepLines, Difference, lowestFrom, differenceOutcome}
-use Rattle.checking.specs.Clauses.{Clause, clausesOf, variablesOf}
+use Rattle.checking.specs.Clauses.{Clause, clausesOf}
 use Rattle.checking.specs.Stored.{stored}
 use Rattle.checking.specs.Emit.{emitOutcome, emitBuffer}
 use Rattle.checking.proofs.Promises.{reduce-laws, difference-made, emit-cascade}
@@ -27,11 +27,14 @@ use Rattle.text.specs.declared.comparison.ComparedAnswer.{ComparedAnswer
 use Rattle.text.specs.declared.comparison.ComparedAnswer.the-variants as answer
 use Rattle.text.specs.declared.pair.FilesAnswer.the-variants as files
 use Rattle.text.specs.private.Lists.{FileWords, ListStands}
-use Rattle.text.specs.Compare.{fileWords, maxList, Comparison, reduced, unsolved, refusedAt, gatesLeft, sweptAs, listAs, compared, filesOf, comparedFiles, comparison}
-use Rattle.text.specs.private.Comparing.{InRoom, MiterWords, MiterCascade, LeftIn, SaysFiles, SaysCompared, SaysAny}
+use Rattle.text.specs.Formula.{formulaOf}
+use Rattle.text.specs.FileOutcome.{FileOutcome, answered, refusedAt}
+use Rattle.text.specs.Compare.{maxList, Comparison, reduced, unsolved, gatesLeft, sweptAs, listAs, compared, filesOf, comparedFiles, comparison}
+use Rattle.text.specs.private.Comparing.{MiterWords, MiterCascade, LeftIn, SaysFiles, SaysCompared, SaysAny}
+use Rattle.text.proofs.FileOutcome.{both-met, both-failed}
 use Rattle.text.proofs.list.Laws.{emit-stands}
-use Rattle.text.proofs.plain.Laws.{stored-in}
-use Rattle.text.proofs.plain.Short.{stands-plain}
+use Rattle.text.proofs.stored.Records.{stored-in}
+use Rattle.text.proofs.plain.Short.{stands-stored}
 
 -- ---- the reduction
 
@@ -76,10 +79,10 @@ module _ (n : ℕ) (a b : List ℕ) (wa : FileWords n a) (wb : FileWords n b) (f
   difference-is = difference-made n a n b _ (served-pair n a n b (record { first = wa .count; second = wb .count }) (record { first-good = wa .cascade; second-good = wb .cascade; lines = refl })) few
 
   pub swept-as : (r : ComparedAnswer) (d : Difference) (o : Outcome Difference) → o ≡ served d → o ≡ differenceOutcome n a n b
-      → ((clauses : List ℤ) → SaysCompared r clauses (sweptAs (gatesOf a) (gatesOf b) d)) → SaysAny r (sweptAs (gatesOf a) (gatesOf b) (lowestFrom (gatesOf a) (gatesOf b) 0 (2 ^ n)))
+      → ((clauses : List ℤ) → SaysCompared r clauses (answered (sweptAs (gatesOf a) (gatesOf b) d))) → SaysAny r (sweptAs (gatesOf a) (gatesOf b) (lowestFrom (gatesOf a) (gatesOf b) 0 (2 ^ n)))
   swept-as r d o e f s =
       let g : d ≡ lowestFrom (gatesOf a) (gatesOf b) 0 (2 ^ n) = let h = sym e ∙ f ∙ difference-is in cc in
-      record { says = λ clauses. subst (λ (x : Difference). SaysCompared r clauses (sweptAs (gatesOf a) (gatesOf b) x)) g (s clauses) }
+      record { says = λ clauses. subst (λ (x : Difference). SaysCompared r clauses (answered (sweptAs (gatesOf a) (gatesOf b) x))) g (s clauses) }
 
   pub never-refused : {P : Type 0} (o : Outcome Difference) (number place : ℕ) → o ≡ refused number place → o ≡ differenceOutcome n a n b → P
   never-refused o number place e f = absurd (never difference-is (sym f ∙ e))
@@ -95,11 +98,11 @@ module _ (n : ℕ) (ws : List ℕ) (m : MiterCascade n ws) where
 
   list-long : maxList < length (stored cs) → listAs n gs ≡ refusedAt noRoom 0 0
   unfolding listAs
-  list-long h = cond-false (leb (length (stored cs)) maxList) _ _ (lt-leb (length (stored cs)) maxList h)
+  list-long h = both-failed (leb (length (stored cs)) maxList) _ _ (lt-leb (length (stored cs)) maxList h)
 
-  list-fits : length (stored cs) ≤ maxList → listAs n gs ≡ unsolved (variablesOf n gs) cs
+  list-fits : length (stored cs) ≤ maxList → listAs n gs ≡ answered (unsolved (formulaOf n gs))
   unfolding listAs
-  list-fits h = cond-true (leb (length (stored cs)) maxList) _ _ (le-leb (length (stored cs)) maxList h)
+  list-fits h = both-met (leb (length (stored cs)) maxList) _ _ (le-leb (length (stored cs)) maxList h)
 
   -- a refusal says the refusal that it is
   says-long : (why : Refusal) (clauses : List ℤ) → _≡_ {A = Outcome ℕ} (refused (why .number) (why .place)) (refused noRoom 0) → maxList < length (stored cs)
@@ -121,7 +124,7 @@ module _ (n : ℕ) (ws : List ℕ) (m : MiterCascade n ws) where
       says-long why clauses (ap₂ refused x y) (omega (arith, leb-false (length (stored cs)) room t)))
 
   module _ (t : Totals) (buffer out : List ℤ) (o : emitOutcome n ws (length out) ≡ served t) (b : buffer ≡ emitBuffer n ws out) where
-    st : ListStands t buffer (variablesOf n gs) cs
+    st : ListStands t buffer (formulaOf n gs)
     st = emit-stands n ws (m .count) (m .cascade) t buffer out o b
 
     words-are : t .words ≡ length (stored cs)
@@ -134,12 +137,12 @@ module _ (n : ℕ) (ws : List ℕ) (m : MiterCascade n ws) where
     list-listed h =
         record {
           is =
-              ap₂ unsolved (st .variables-are) (stored-in (take (t .words) buffer) cs (st .words))
+              ap₂ (λ (v : ℕ) (l : List Clause). answered (unsolved (record { variables = v; clauses = l }))) (st .variables-are) (stored-in (take (t .words) buffer) cs (st .words))
               ∙ sym (list-fits (omega (arith, words-are)));
           ready =
               record {
                 inside = st .inside;
-                stores = stands-plain t buffer (variablesOf n gs) cs st h;
+                stores = stands-stored t buffer (formulaOf n gs) st h;
               };
         }
 
@@ -151,12 +154,12 @@ module _ (n : ℕ) (a b : List Gate) (k : ℕ) (room : List ℕ) (l : LeftIn n k
       let c = l .words .cascade in
       sym (ap length (l .gates-are)) ∙ gates-length (take (3 * k) room) ∙ omega (arith, c .size)
 
-  pub by-reduction : k ≡ 0 → compared n a b ≡ reduced
+  pub by-reduction : k ≡ 0 → compared n a b ≡ answered reduced
   unfolding compared
   by-reduction e = cond-true (eqb (length (gatesLeft a b)) 0) _ _ (eq-eqb _ _ (left-count ∙ e))
 
   module _ (some : k ≡ 0 → ⊥) where
-    pub by-sweep : n ≤ maxSweepLines → compared n a b ≡ sweptAs a b (lowestFrom a b 0 (2 ^ n))
+    pub by-sweep : n ≤ maxSweepLines → compared n a b ≡ answered (sweptAs a b (lowestFrom a b 0 (2 ^ n)))
     unfolding compared
     by-sweep h = cond-false (eqb (length (gatesLeft a b)) 0) _ _ (ne-eqb _ _ (λ e. some (sym left-count ∙ e))) ∙ cond-true (leb n maxSweepLines) _ _ (le-leb n maxSweepLines h)
 
@@ -165,13 +168,10 @@ module _ (n : ℕ) (a b : List Gate) (k : ℕ) (room : List ℕ) (l : LeftIn n k
     by-clauses h = cond-false (eqb (length (gatesLeft a b)) 0) _ _ (ne-eqb _ _ (λ e. some (sym left-count ∙ e))) ∙ cond-false (leb n maxSweepLines) _ _ (lt-leb n maxSweepLines h)
 
 -- the same comparison, said in another way
-pub says-as : (r : ComparedAnswer) (clauses : List ℤ) (x y : Comparison) → x ≡ y → SaysCompared r clauses y → SaysCompared r clauses x
+pub says-as : (r : ComparedAnswer) (clauses : List ℤ) (x y : FileOutcome Comparison) → x ≡ y → SaysCompared r clauses y → SaysCompared r clauses x
 says-as r clauses x y e s = subst (SaysCompared r clauses) (sym e) s
 
 -- ---- two files
-
-pub room-few : (n i : ℕ) (room : List ℕ) → InRoom n i room → 3 * i ≤ fileWords
-room-few n i room h = let c = h .words .cascade in omega (arith, c .few, c .size, length-take-le (3 * i) room (h .inside))
 
 module _ (first second : List ℕ) where
   pub refused-as : (why : Refusal) (file : ℕ) (clauses : List ℤ) (a b : List ℕ) → SaysFiles (files.Refused why file) a b (filesOf first second)
@@ -180,6 +180,6 @@ module _ (first second : List ℕ) where
   refused-as why file clauses a b s = record { is = ap comparedFiles (s .is); ready = tt }
 
   pub compared-as : (n i j : ℕ) (a b : List ℕ) → SaysFiles (files.Cascades n i j) a b (filesOf first second) → (r : ComparedAnswer) (clauses : List ℤ)
-      → SaysCompared r clauses (compared n (gatesOf (take (3 * i) a)) (gatesOf (take (3 * j) b))) → SaysCompared r clauses (comparison first second)
+      → SaysCompared r clauses (compared n (gatesOf (take i a)) (gatesOf (take j b))) → SaysCompared r clauses (comparison first second)
   unfolding comparison
   compared-as n i j a b s r clauses t = says-as r clauses _ _ (sym (ap comparedFiles (s .is))) t

@@ -16,7 +16,7 @@ use Rattle.bits.specs.Lists.{over, Put}
 use Rattle.bits.proofs.Bools.{both, and-second, cond-true, cond-false}
 use Rattle.bits.proofs.Lists.{over-prefix}
 use Rattle.circuit.specs.declared.refusal.Refusal.{Refusal}
-use Rattle.circuit.specs.Outcome.{Outcome, refused, written, Yields}
+use Rattle.circuit.specs.Outcome.{Outcome, refused, Yields}
 use Rattle.circuit.specs.Refusal.{refusal, noRoom}
 use Rattle.circuit.proofs.Promises.{demand-met, demand-failed, told, why}
 use Rattle.circuit.specs.Words.{gatesOf}
@@ -26,10 +26,12 @@ use Rattle.text.specs.declared.pair.FilesAnswer.the-variants as files
 use Rattle.text.specs.declared.input.CheckedAnswer.{CheckedAnswer}
 use Rattle.text.specs.declared.input.CheckedAnswer.the-variants as answer
 use Rattle.text.specs.Answers.{fitOutcome, fitBuffer}
-use Rattle.text.specs.Compare.{fileWords, Files, filesOf, differWord}
+use Rattle.text.specs.FileOutcome.{FileOutcome}
+use Rattle.text.specs.Compare.{fileWords, CascadePair, filesOf, differWord}
 use Rattle.text.specs.private.Comparing.{SaysFiles}
 use Rattle.text.specs.private.Checking.{ofChecked, SaysChecked}
 use Rattle.text.specs.CheckInput.{stateText, stateRead, agreeWord, outputsText, checkedOn, checkedFiles, checked, checkedText, checkText, inputOutcome, inputBuffer}
+use Rattle.text.proofs.answer.Laws.{fit-told}
 
 -- ---- reading
 
@@ -46,29 +48,29 @@ other-length (suc n) [] h = refl
 other-length (suc n) (b ∷ bs) h = none-then (leb 48 b && leb b 49) _ (stateRead n bs) (other-length n bs (λ e. h (ap suc e)))
 
 -- so many characters from place i on, read
-abbrev readFrom : List ℕ → ℕ → Option ℕ
-readFrom text i = stateRead (length text - i) (drop i text)
+abbrev spelledFrom : List ℕ → ℕ → Option ℕ
+spelledFrom text i = stateRead (length text - i) (drop i text)
 
 module _ (text : List ℕ) (j : ℕ) (h : j < length text) where
   abbrev b : ℕ
   b = getD text j 0
 
-  from-next : readFrom text j ≡ cond (leb 48 b && leb b 49) (thenRead (λ (x : ℕ). (b - 48) + 2 * x) (readFrom text (suc j))) none
+  from-next : spelledFrom text j ≡ cond (leb 48 b && leb b 49) (thenRead (λ (x : ℕ). (b - 48) + 2 * x) (spelledFrom text (suc j))) none
   unfolding stateRead
   from-next =
       let e : length text - j ≡ suc (length text - suc j) = omega arith in
       ap₂ stateRead e (drop-cons text j 0 h)
 
-none-down : (text : List ℕ) (j : ℕ) → j ≤ length text → readFrom text j ≡ none → stateRead (length text) text ≡ none
+none-down : (text : List ℕ) (j : ℕ) → j ≤ length text → spelledFrom text j ≡ none → stateRead (length text) text ≡ none
 none-down text zero h e = let z : length text - 0 ≡ length text = omega arith in ap (λ (n : ℕ). stateRead n text) (sym z) ∙ e
-none-down text (suc j) h e = none-down text j (omega arith) (from-next text j (omega arith) ∙ none-then (leb 48 (getD text j 0) && leb (getD text j 0) 49) _ (readFrom text (suc j)) e)
+none-down text (suc j) h e = none-down text j (omega arith) (from-next text j (omega arith) ∙ none-then (leb 48 (getD text j 0) && leb (getD text j 0) 49) _ (spelledFrom text (suc j)) e)
 
 -- the characters from place i on spell x
 pub record Spelling (n : ℕ) (text : List ℕ) (x i : ℕ) : Type 0 where
   pub whole : length text ≡ n
   pub few : n ≤ 64
   pub inside : i ≤ length text
-  pub is : readFrom text i ≡ some x
+  pub is : spelledFrom text i ≡ some x
   pub below : x < 2 ^ (length text - i)
 
 pub spelling-start : (n : ℕ) (text : List ℕ) → length text ≡ n → n ≤ 64 → Spelling n text 0 (length text)
@@ -93,8 +95,8 @@ module _ (n : ℕ) (text : List ℕ) (x i : ℕ) (s : Spelling n text x i) (h : 
   next : suc at ≡ i
   next = omega arith
 
-  rest : readFrom text (suc at) ≡ some x
-  rest = ap (readFrom text) next ∙ s .is
+  rest : spelledFrom text (suc at) ≡ some x
+  rest = ap (spelledFrom text) next ∙ s .is
 
   -- a character that is no 0 or 1
   pub spelled-none : (leb 48 (getD text at 0) && leb (getD text at 0) 49) ≡ false → none ≡ stateRead n text
@@ -235,21 +237,15 @@ size-is n first second = omega (arith, parts n first second .sum, size-by (eqb f
 
 -- ---- an answer that is known
 
-pub checked-as : (x y : CheckedAnswer) (r : Outcome ℕ) (last out : List ℕ) → x ≡ y
-    → Yields r last (fitOutcome (checkedText (ofChecked y)) (length out)) (fitBuffer (checkedText (ofChecked y)) out)
-    → Yields r last (fitOutcome (checkedText (ofChecked x)) (length out)) (fitBuffer (checkedText (ofChecked x)) out)
-checked-as x y r last out e t =
-    subst (λ (z : CheckedAnswer). Yields r last (fitOutcome (checkedText (ofChecked z)) (length out)) (fitBuffer (checkedText (ofChecked z)) out)) (sym e) t
-
 module _ (first second state : List ℕ) where
   pub refused-checked : (why : Refusal) (file : ℕ) (a b : List ℕ) → SaysFiles (files.Refused why file) a b (filesOf first second) → SaysChecked (answer.Refused why file) (checked first second state)
   unfolding checked
-  refused-checked why file a b s = record { is = ap (λ (f : Files). checkedFiles f state) (s .is); ready = tt }
+  refused-checked why file a b s = record { is = ap (λ (f : FileOutcome CascadePair). checkedFiles f state) (s .is); ready = tt }
 
   pub said-checked : (n i j : ℕ) (a b : List ℕ) → SaysFiles (files.Cascades n i j) a b (filesOf first second) → (r : CheckedAnswer)
-      → SaysChecked r (checkedOn n (gatesOf (take (3 * i) a)) (gatesOf (take (3 * j) b)) (stateRead n state)) → SaysChecked r (checked first second state)
+      → SaysChecked r (checkedOn n (gatesOf (take i a)) (gatesOf (take j b)) (stateRead n state)) → SaysChecked r (checked first second state)
   unfolding checked
-  said-checked n i j a b s r t = subst (SaysChecked r) (ap (λ (f : Files). checkedFiles f state) (s .is)) t
+  said-checked n i j a b s r t = subst (SaysChecked r) (ap (λ (f : FileOutcome CascadePair). checkedFiles f state) (s .is)) t
 
 -- ---- the call, by the rooms that are lent
 
@@ -277,8 +273,5 @@ module _ (first second state : List ℕ) (room-a room-b : ℕ) (out : List ℕ) 
 
       pub checked-told : (x : CheckedAnswer) → SaysChecked x (checked first second state) → (r : Outcome ℕ) (last : List ℕ)
           → Yields r last (fitOutcome (checkedText (ofChecked x)) (length out)) (fitBuffer (checkedText (ofChecked x)) out) → Yields r last outcome (inputBuffer first second state room-a room-b out)
-      unfolding inputBuffer fitBuffer checkText
-      checked-told x s r last y =
-          let e : checkedText (ofChecked x) ≡ checkText first second state = ap checkedText (s .is) in
-          let g : fitOutcome (checkedText (ofChecked x)) (length out) ≡ outcome = ap (λ (text : List ℕ). fitOutcome text (length out)) e ∙ sym rooms-good in
-          record { answer = y .answer ∙ g; buffer = y .buffer ∙ ap₂ (λ (o : Outcome ℕ) (text : List ℕ). written o text out) g e }
+      unfolding inputBuffer checkText
+      checked-told x s r last y = fit-told _ (checkText first second state) out outcome r last (ap checkedText (s .is)) rooms-good y

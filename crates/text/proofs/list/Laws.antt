@@ -10,7 +10,7 @@ use lib.ListN.{length, take, drop, length-append}
 use lib.Seq.{take-append-seam, take-at}
 use borrow.Author.Tests.{eqb-true, eqb-false, eq-eqb, ne-eqb, le-leb, lt-leb, leb-true}
 use Rattle.bits.specs.Lists.{over}
-use Rattle.bits.proofs.Bools.{either, cond-true, cond-false}
+use Rattle.bits.proofs.Bools.{either}
 use Rattle.bits.proofs.Lists.{over-length}
 use Rattle.circuit.specs.declared.gate.Gate.{Gate}
 use Rattle.circuit.specs.declared.refusal.Refusal.{Refusal}
@@ -33,17 +33,20 @@ use Rattle.checking.proofs.Promises.{miter-laws, miter-refused, uncalled-refuse
 use Rattle.text.specs.declared.list.ListAnswer.{ListAnswer}
 use Rattle.text.specs.declared.list.ListAnswer.the-variants as list
 use Rattle.text.specs.WholeFile.{wholeFile}
-use Rattle.text.specs.Tomiter.{maxInput, maxWords, Verdict, listed, refusedAt, ofFile, listVerdict, pairVerdict, secondVerdict, verdict}
+use Rattle.text.specs.Formula.{Formula, formulaOf}
+use Rattle.text.specs.FileOutcome.{FileOutcome, answered, refusedAt}
+use Rattle.text.specs.Tomiter.{maxInput, maxWords, listVerdict, pairVerdict, secondVerdict, verdict}
 use Rattle.text.specs.Compare.{fileWords, miterWords}
 use Rattle.text.specs.private.Lists.{FileWords, ListStands, Delivers}
+use Rattle.text.proofs.FileOutcome.{both-met, both-failed, file-served, file-refused}
 use Rattle.text.proofs.plain.Short.{list-short, list-within}
 
 -- the same verdict, said in another way
-pub says-as : (r : ListAnswer) (buffer : List ℤ) (v w : Verdict) → v ≡ w → Delivers r buffer w → Delivers r buffer v
+pub says-as : (r : ListAnswer) (buffer : List ℤ) (v w : FileOutcome Formula) → v ≡ w → Delivers r buffer w → Delivers r buffer v
 says-as r buffer v w e s = subst (Delivers r buffer) (sym e) s
 
 -- a refusal says the verdict that it is
-pub says-refusal : {A : Type 0} (why : Refusal) (file : ℕ) (buffer : List ℤ) (v : Verdict) (number place : ℕ) → v ≡ refusedAt number file place
+pub says-refusal : {A : Type 0} (why : Refusal) (file : ℕ) (buffer : List ℤ) (v : FileOutcome Formula) (number place : ℕ) → v ≡ refusedAt number file place
     → _≡_ {A = Outcome A} (refused (why .number) (why .place)) (refused number place) → Delivers (list.Refused why file) buffer v
 says-refusal why file buffer v number place e f =
     let n : why .number ≡ number = cc in
@@ -60,7 +63,7 @@ module _ (n : ℕ) (ws : List ℕ) (k : ℕ) (c : Cascade n ws maxMiterGates k) 
   cs = clausesOf n gs
 
   -- a served emission: its totals, and the list at the buffer's start
-  pub emit-stands : (t : Totals) (buffer out : List ℤ) → emitOutcome n ws (length out) ≡ served t → buffer ≡ emitBuffer n ws out → ListStands t buffer (variablesOf n gs) cs
+  pub emit-stands : (t : Totals) (buffer out : List ℤ) → emitOutcome n ws (length out) ≡ served t → buffer ≡ emitBuffer n ws out → ListStands t buffer (formulaOf n gs)
   emit-stands t buffer out o b =
       either (leb (length (stored cs)) (length out))
       (λ x.
@@ -80,11 +83,11 @@ module _ (n : ℕ) (ws : List ℕ) (k : ℕ) (c : Cascade n ws maxMiterGates k) 
 
   list-over : leb (length (stored cs)) maxWords ≡ false → listVerdict n gs ≡ refusedAt noRoom 0 0
   unfolding listVerdict
-  list-over t = cond-false (leb (length (stored cs)) maxWords) _ _ t
+  list-over t = both-failed (leb (length (stored cs)) maxWords) _ _ t
 
-  list-fits : leb (length (stored cs)) maxWords ≡ true → listVerdict n gs ≡ listed (variablesOf n gs) cs
+  list-fits : leb (length (stored cs)) maxWords ≡ true → listVerdict n gs ≡ answered (formulaOf n gs)
   unfolding listVerdict
-  list-fits t = cond-true (leb (length (stored cs)) maxWords) _ _ t
+  list-fits t = both-met (leb (length (stored cs)) maxWords) _ _ t
 
   module _ (room : ℕ) (long : room ≡ maxWords) where
     emit-at : emitOutcome n ws room ≡ demand (leb (length (stored cs)) maxWords) noRoom 0 (served (totals (variablesOf n gs) (length cs) (length (stored cs))))
@@ -126,11 +129,11 @@ module _ (na : ℕ) (a : List ℕ) (nb : ℕ) (b : List ℕ) (wa : FileWords na 
 
   pair-differs : (na ≡ nb → ⊥) → pairVerdict na (gatesOf a) nb (gatesOf b) ≡ refusedAt lineCountsDiffer 0 0
   unfolding pairVerdict
-  pair-differs h = cond-false (eqb na nb) _ _ (ne-eqb na nb h)
+  pair-differs h = both-failed (eqb na nb) _ _ (ne-eqb na nb h)
 
   pair-listed : na ≡ nb → pairVerdict na (gatesOf a) nb (gatesOf b) ≡ listVerdict na (miterGates (gatesOf a) (gatesOf b))
   unfolding pairVerdict
-  pair-listed e = cond-true (eqb na nb) _ _ (eq-eqb na nb e)
+  pair-listed e = both-met (eqb na nb) _ _ (eq-eqb na nb e)
 
   -- by the miter's clauses, after no call
   module _ (work : List ℕ) (lent : length work ≡ room) (out : List ℤ) (size : length out ≡ maxWords) (o : Outcome Totals) (told : o ≡ checkedOutcome na a nb b (callsOf []) work (length out)) where
@@ -249,13 +252,6 @@ module _ (text : List ℕ) (room : ℕ) (long : fileWords ≤ room) where
         within = omega (arith, ap length (s .starts), length-append (textOf lines hs) (s .rest), s .taken);
       }
 
-module _ (file : ℕ) (o : Outcome Reading) (more : Reading → Verdict) where
-  file-served : (c : Reading) → o ≡ served c → ofFile file o more ≡ more c
-  file-served c e = ap (λ (x : Outcome Reading). ofFile file x more) e
-
-  file-refused : (number place : ℕ) → o ≡ refused number place → ofFile file o more ≡ refusedAt number file place
-  file-refused number place e = ap (λ (x : Outcome Reading). ofFile file x more) e
-
 -- ---- the second file
 
 module _ (n : ℕ) (gs : List Gate) (text : List ℕ) where
@@ -271,15 +267,15 @@ module _ (n : ℕ) (gs : List Gate) (text : List ℕ) where
 
 pub input-long : (input : List ℕ) → maxInput < length input → verdict input ≡ refusedAt noRoom 0 0
 unfolding verdict
-input-long input h = cond-false (leb (length input) maxInput) _ _ (lt-leb (length input) maxInput h)
+input-long input h = both-failed (leb (length input) maxInput) _ _ (lt-leb (length input) maxInput h)
 
 module _ (input : List ℕ) (short : length input ≤ maxInput) where
   pub first-bad : (number place : ℕ) → reading input ≡ refused number place → verdict input ≡ refusedAt number 1 place
   unfolding verdict
   first-bad number place e =
-      cond-true (leb (length input) maxInput) _ _ (le-leb (length input) maxInput short) ∙ file-refused 1 (reading input) _ number place e
+      both-met (leb (length input) maxInput) _ _ (le-leb (length input) maxInput short) ∙ file-refused 1 (reading input) _ number place e
 
   pub first-good : (c : Reading) → reading input ≡ served c → verdict input ≡ secondVerdict (c .lines) (c .gates) (drop (c .taken) input)
   unfolding verdict
   first-good c e =
-      cond-true (leb (length input) maxInput) _ _ (le-leb (length input) maxInput short) ∙ file-served 1 (reading input) _ c e
+      both-met (leb (length input) maxInput) _ _ (le-leb (length input) maxInput short) ∙ file-served 1 (reading input) _ c e

@@ -1,32 +1,31 @@
--- The clauses of one record and of the records that are left, as they are written: their texts and how long these are. Assumes nothing.
+-- The clauses of one record as OR clauses alone: their texts and how long these are. Assumes nothing.
 use mathlib.Core.Path.{_≡_, refl, sym, ap, ap₂, subst, _∙_}
-use mathlib.Core.Bool.{Bool, true, false, true≢false}
+use mathlib.Core.Bool.{true, false, true≢false}
 use mathlib.Core.List.{List, [], _∷_, _++_, append-nil, append-assoc}
 use Prim.Native.Nat.{ℕ, zero, suc, _+_, _-_, _*_, _≤_, _<_}
 use native.Mathlib.Omega.{arith}
 use lib.IntN.{ℤ, pos, negsuc, negℤ, _-ℤ_, +ℤ-idl, negℤ-negℤ}
-use lib.ListN.{length, take, drop, getD, length-append, length-drop}
+use lib.ListN.{length, take, drop, getD, length-append}
 use lib.Signed.{ltZ}
 use borrow.Author.Tests.{ltb-true}
 use mir.Val.{SFits, toZ, ofZ}
 use mir.ValLaws.{toZ-ofZ}
 use borrow.Rule.Slice.PartMut.{putMid}
 use Rattle.bits.specs.Lists.{Put}
-use Rattle.circuit.proofs.Promises.{Written, written-none, written-more, written-put, put-as}
+use Rattle.circuit.proofs.Promises.{put-as}
 use Rattle.checking.specs.Clauses.{Clause, OR, XOR, maxVariables}
 use Rattle.checking.specs.Satisfaction.{variableOf, LiteralsWithin, clauseLiterals, ClausesWithin}
-use Rattle.checking.specs.Stored.{wordWidth, wordLimit, storedClause, stored, clausesIn}
-use Rattle.checking.proofs.Promises.{neg-size, read-back, stored-next}
-use Rattle.text.specs.declared.plain.PlainSizes.{PlainSizes}
+use Rattle.checking.specs.Stored.{wordWidth, wordLimit, storedClause, stored}
+use Rattle.checking.proofs.Promises.{neg-size, stored-next}
 use Rattle.text.specs.Dimacs.{blank, decimal, literalText, literalsText, closing, clauseText, clausesText}
 use Rattle.text.specs.Plain.{negations, plainClause, plainClauses}
 use Rattle.text.specs.Compare.{maxList}
-use Rattle.text.specs.private.Words.{recordText, readClauses, storedIn, bothOrs, plainRecord, TwoOrThree, ShortRecord, ShortClause, AllShort, Plainable, StoresPlain, formed, formedText, storedText, plainSizes}
+use Rattle.text.specs.private.Words.{bothOrs, plainRecord, TwoOrThree, ShortRecord, ShortClause, AllShort, Plainable}
 use Rattle.text.proofs.put.Laws.{two-put}
 use Rattle.text.proofs.Decimal.{decimal-few}
 use Rattle.text.proofs.Sizes.{literal-few, literals-few}
 use Rattle.text.proofs.dimacs.Signed.{word-is}
-use Rattle.text.proofs.dimacs.Loops.{literals-next, literals-end, kindOf, Next, next, record-text}
+use Rattle.text.proofs.dimacs.Loops.{literals-next, literals-end}
 
 -- ---- the opposite literal
 
@@ -307,239 +306,3 @@ module _ (ls : List ℤ) (size i : ℕ) (t : Closing ls size i) where
 
   pub closing-done : length ls ≤ i → size ≡ length (literalsText ls ++ closing)
   closing-done h = omega (arith, t .sum, ap length (literals-end ls i h), length-append (literalsText ls) closing)
-
--- ---- the records that are left
-
-pub stored-in : (ws : List ℤ) (cs : List Clause) → ws ≡ stored cs → storedIn ws ≡ cs
-unfolding storedIn
-stored-in ws cs e =
-    ap (λ (l : List ℤ). readClauses (clausesIn l)) (e ∙ sym (lib.Seq.take-append-seam (stored cs) [])) ∙ ap readClauses (read-back cs [])
-
--- the clauses that are stored from place i on
-pub record Left (ws : List ℤ) (i : ℕ) : Type 0 where
-  pub clauses : List Clause
-  pub words : drop i ws ≡ stored clauses
-  pub short : AllShort clauses
-  pub within : ClausesWithin maxVariables clauses
-  pub few : length ws ≤ maxList
-  pub inside : i ≤ length ws
-
-pub left-all : (ws : List ℤ) → StoresPlain ws → Left ws 0
-left-all ws s = record { clauses = s .clauses; words = s .words; short = s .short; within = s .within; few = s .few; inside = omega arith }
-
-clause-short : (c : Clause) → ShortClause c → ShortRecord (kindOf c) (clauseLiterals c)
-clause-short (OR ls) s = tt
-clause-short (XOR ls) s = s
-
-clause-record : (c : Clause) → plainRecord (kindOf c) (clauseLiterals c) ≡ plainClause c
-clause-record (OR ls) = refl
-clause-record (XOR ls) = refl
-
--- nothing is stored in no words
-none-stored : (cs : List Clause) → length (stored cs) ≡ 0 → cs ≡ []
-none-stored [] e = refl
-none-stored (OR ls ∷ cs) e = absurd (omega (arith, ap length (stored-next (OR ls) cs)))
-none-stored (XOR ls ∷ cs) e = absurd (omega (arith, ap length (stored-next (XOR ls) cs)))
-
-formed-nil : (plain : Bool) → formed plain [] ≡ []
-unfolding plainClauses
-formed-nil false = refl
-formed-nil true = refl
-
-pub left-done : (plain : Bool) (ws : List ℤ) (i : ℕ) (t : Left ws i) → length ws ≤ i → formed plain (t .clauses) ≡ []
-left-done plain ws i t h = ap (formed plain) (none-stored (t .clauses) (sym (ap length (t .words)) ∙ length-drop i ws ∙ omega arith)) ∙ formed-nil plain
-
-module _ (ws : List ℤ) (i : ℕ) (t : Left ws i) (h : i < length ws) where
-  pub left-next : Next ws i (t .clauses)
-  left-next = next ws i (t .clauses) (t .words) h
-
-  abbrev c : Clause
-  c = left-next .clause
-
-  abbrev later : List Clause
-  later = left-next .later
-
-  -- how many literals the next clause has
-  abbrev pub count : ℕ
-  count = length (clauseLiterals c)
-
-  pub left-inside : i + 2 + count ≤ length ws
-  left-inside = left-next .at-place .inside
-
-  pub left-count : getD ws (i + 1) (pos 0) ≡ pos count
-  left-count = left-next .at-place .second
-
-  shorts : AllShort (c ∷ later)
-  shorts = subst AllShort (left-next .is) (t .short)
-
-  withins : ClausesWithin maxVariables (c ∷ later)
-  withins = subst (ClausesWithin maxVariables) (left-next .is) (t .within)
-
-  plain-next : plainClauses (t .clauses) ≡ plainClause c ++ plainClauses later
-  plain-next = unfold plainClauses in ap plainClauses (left-next .is)
-
-  module _ (n : ℕ) (counted : n ≡ count) where
-    pub left-on : Left ws (i + 2 + n)
-    left-on =
-        record {
-          clauses = later;
-          words = ap (λ (k : ℕ). drop (i + 2 + k) ws) counted ∙ left-next .at-place .rest;
-          short = shorts .1;
-          within = withins .1;
-          few = t .few;
-          inside = omega (arith, left-inside);
-        }
-
-    module _ (kind : ℤ) (ls : List ℤ) (is : kind ≡ getD ws i (pos 0)) (are : ls ≡ take (i + 2 + n - (i + 2)) (drop (i + 2) ws)) where
-      kind-is : kind ≡ kindOf c
-      kind-is = is ∙ left-next .at-place .first
-
-      literals-are : ls ≡ clauseLiterals c
-      literals-are =
-          let e : i + 2 + n - (i + 2) ≡ count = omega arith in
-          are ∙ ap (λ (k : ℕ). take k (drop (i + 2) ws)) e ∙ left-next .at-place .part
-
-      record-next : plainRecord kind ls ≡ plainClause c
-      record-next = ap₂ plainRecord kind-is literals-are ∙ clause-record c
-
-      pub left-plainable : Plainable kind ls
-      left-plainable =
-          record {
-            short = subst (λ (k : ℤ). ShortRecord k ls) (sym kind-is) (subst (ShortRecord (kindOf c)) (sym literals-are) (clause-short c (shorts .0)));
-            few = omega (arith, ap length literals-are, left-inside, t .few);
-            within = subst (LiteralsWithin maxVariables) (sym literals-are) (withins .0);
-          }
-
-      -- the clauses left are the next one's and the later ones'
-      pub left-clauses : plainClauses (t .clauses) ≡ plainRecord kind ls ++ plainClauses (left-on .clauses)
-      unfolding left-on left-next
-      left-clauses = plain-next ∙ ap (λ (l : List Clause). l ++ plainClauses later) (sym record-next)
-
-      pub left-text : (plain : Bool) → clausesText (formed plain (t .clauses)) ≡ formedText plain kind ls ++ clausesText (formed plain (left-on .clauses))
-      unfolding clausesText left-on left-next
-      left-text false =
-          ap clausesText (left-next .is)
-          ∙ ap (λ (l : List ℕ). l ++ clausesText later) (sym (ap₂ recordText kind-is literals-are ∙ record-text c))
-      left-text true = ap clausesText left-clauses ∙ clauses-append (plainRecord kind ls) (plainClauses (left-on .clauses))
-
--- ---- what the loop over the sizes keeps
-
-pub record Sizing (ws : List ℤ) (bytes clauses i : ℕ) : Type 0 where
-  pub left : Left ws i
-  pub bytes-sum : bytes + length (clausesText (plainClauses (left .clauses))) ≡ length (storedText true ws)
-  pub clauses-sum : clauses + length (plainClauses (left .clauses)) ≡ length (plainClauses (storedIn ws))
-  pub bytes-few : length (storedText true ws) ≤ 16 * maxList
-  pub clauses-few : length (plainClauses (storedIn ws)) ≤ maxList
-
-pub sizing-start : (ws : List ℤ) → StoresPlain ws → Sizing ws 0 0 0
-unfolding left-all
-sizing-start ws s =
-    let e = stored-in ws (s .clauses) (s .words) in
-    let (a, b) = plain-few (s .clauses) (s .short) (s .within) in
-    let l = ap length (s .words) in
-    record {
-      left = left-all ws s;
-      bytes-sum = omega (arith, ap (λ (cs : List Clause). length (clausesText (plainClauses cs))) e);
-      clauses-sum = omega (arith, ap (λ (cs : List Clause). length (plainClauses cs)) e);
-      bytes-few = omega (arith, a, l, s .few, ap (λ (cs : List Clause). length (clausesText (plainClauses cs))) e);
-      clauses-few = omega (arith, b, l, s .few, ap (λ (cs : List Clause). length (plainClauses cs)) e);
-    }
-
-module _ (ws : List ℤ) (bytes clauses i : ℕ) (t : Sizing ws bytes clauses i) (h : i < length ws) (n : ℕ) (counted : n ≡ count ws i (t .left) h)
-    (kind : ℤ) (ls : List ℤ) (is : kind ≡ getD ws i (pos 0)) (are : ls ≡ take (i + 2 + n - (i + 2)) (drop (i + 2) ws)) where
-  abbrev on : Left ws (i + 2 + n)
-  on = left-on ws i (t .left) h n counted
-
-  bytes-next : length (clausesText (plainClauses (t .left .clauses))) ≡ length (clausesText (plainRecord kind ls)) + length (clausesText (plainClauses (on .clauses)))
-  bytes-next =
-      ap length (left-text ws i (t .left) h n counted kind ls is are true) ∙ length-append (clausesText (plainRecord kind ls)) (clausesText (plainClauses (on .clauses)))
-
-  clauses-next : length (plainClauses (t .left .clauses)) ≡ length (plainRecord kind ls) + length (plainClauses (on .clauses))
-  clauses-next = ap length (left-clauses ws i (t .left) h n counted kind ls is are) ∙ length-append (plainRecord kind ls) (plainClauses (on .clauses))
-
-  pub bytes-room : bytes + length (clausesText (plainRecord kind ls)) ≤ 16 * maxList
-  bytes-room = omega (arith, bytes-next, t .bytes-sum, t .bytes-few)
-
-  pub clauses-room : clauses + length (plainRecord kind ls) ≤ maxList
-  clauses-room = omega (arith, clauses-next, t .clauses-sum, t .clauses-few)
-
-  pub sizing-on : (a b : ℕ) → a ≡ length (clausesText (plainRecord kind ls)) → b ≡ length (plainRecord kind ls) → Sizing ws (bytes + a) (clauses + b) (i + 2 + n)
-  sizing-on a b e f =
-      record {
-        left = on;
-        bytes-sum = omega (arith, bytes-next, t .bytes-sum, e);
-        clauses-sum = omega (arith, clauses-next, t .clauses-sum, f);
-        bytes-few = t .bytes-few;
-        clauses-few = t .clauses-few;
-      }
-
-none-text : length (clausesText []) ≡ 0
-unfolding clausesText
-none-text = refl
-
-pub sizing-done : (ws : List ℤ) (bytes clauses i : ℕ) → Sizing ws bytes clauses i → length ws ≤ i → _≡_ {A = PlainSizes} (record { bytes = bytes; clauses = clauses }) (plainSizes ws)
-sizing-done ws bytes clauses i t h =
-    let e = left-done true ws i (t .left) h in
-    let a : bytes ≡ length (storedText true ws) = omega (arith, t .bytes-sum, ap (λ (cs : List Clause). length (clausesText cs)) e, none-text) in
-    let b : clauses ≡ length (plainClauses (storedIn ws)) = omega (arith, t .clauses-sum, ap length e) in
-    ap₂ (λ (x y : ℕ). record { bytes = x; clauses = y }) a b
-
--- ---- what the loop over the text keeps
-
-pub record Listing (plain : Bool) (ws : List ℤ) (first out : List ℕ) (at i : ℕ) : Type 0 where
-  pub front : List ℕ
-  pub left : Left ws i
-  pub filled : Written first out at front
-  pub whole : front ++ clausesText (formed plain (left .clauses)) ≡ storedText plain ws
-  pub room : length (storedText plain ws) ≤ length first
-
-pub listing-start : (plain : Bool) (ws : List ℤ) (out : List ℕ) → StoresPlain ws → length (storedText plain ws) ≤ length out → Listing plain ws out out 0 0
-unfolding left-all
-listing-start plain ws out s h =
-    record {
-      front = [];
-      left = left-all ws s;
-      filled = written-none out;
-      whole = ap (λ (cs : List Clause). clausesText (formed plain cs)) (sym (stored-in ws (s .clauses) (s .words)));
-      room = h;
-    }
-
-module _ (plain : Bool) (ws : List ℤ) (first out : List ℕ) (at i : ℕ) (t : Listing plain ws first out at i) where
-  listing-all : at + length (clausesText (formed plain (t .left .clauses))) ≤ length out
-  listing-all =
-      omega (arith, ap length (t .whole), length-append (t .front) (clausesText (formed plain (t .left .clauses))), t .room, t .filled .long, t .filled .same)
-
-  pub listing-at : at ≤ length out
-  listing-at = omega (arith, listing-all)
-
-  pub listing-done : length ws ≤ i → Put at out (storedText plain ws) first
-  unfolding clausesText
-  listing-done h =
-      put-as _ _ _ _ _ (sym (append-nil (t .front)) ∙ ap (λ (cs : List Clause). t .front ++ clausesText cs) (sym (left-done plain ws i (t .left) h)) ∙ t .whole)
-      (written-put _ _ _ _ (t .filled))
-
-  module _ (h : i < length ws) (n : ℕ) (counted : n ≡ count ws i (t .left) h)
-      (kind : ℤ) (ls : List ℤ) (is : kind ≡ getD ws i (pos 0)) (are : ls ≡ take (i + 2 + n - (i + 2)) (drop (i + 2) ws)) where
-    abbrev next-left : Left ws (i + 2 + n)
-    next-left = left-on ws i (t .left) h n counted
-
-    text-next : clausesText (formed plain (t .left .clauses)) ≡ formedText plain kind ls ++ clausesText (formed plain (next-left .clauses))
-    text-next = left-text ws i (t .left) h n counted kind ls is are plain
-
-    pub listing-room : at + length (formedText plain kind ls) ≤ length out
-    listing-room =
-        omega (arith, listing-all, ap length text-next, length-append (formedText plain kind ls) (clausesText (formed plain (next-left .clauses))))
-
-    pub listing-on : (r : ℕ) (last : List ℕ) → Put r last (formedText plain kind ls) (take (length out - at) (drop at out)) → length last ≡ length (take (length out - at) (drop at out))
-        → Listing plain ws first (putMid at (length out - at) out last) (at + r) (i + 2 + n)
-    listing-on r last p k =
-        record {
-          front = t .front ++ formedText plain kind ls;
-          left = next-left;
-          filled = written-more first out at (t .front) (t .filled) r last (formedText plain kind ls) listing-at p k;
-          whole =
-              append-assoc (t .front) (formedText plain kind ls) (clausesText (formed plain (next-left .clauses)))
-              ∙ ap (λ (l : List ℕ). t .front ++ l) (sym text-next)
-              ∙ t .whole;
-          room = t .room;
-        }

@@ -16,8 +16,9 @@ use Rattle.checking.specs.Clauses.{Clause, inputOf, moved, usedBy, literalOf, i
 use Rattle.checking.specs.Satisfaction.{LiteralWithin, clauseLiterals, ClausesWithin}
 use Rattle.checking.proofs.Promises.{clause-laws, clauses-none, clauses-next, differences-none, differences-next, list-parts}
 use Rattle.text.specs.Compare.{maxList}
+use Rattle.text.specs.Formula.{Formula}
 use Rattle.text.specs.private.Lists.{ListStands}
-use Rattle.text.specs.private.Words.{ShortClause, AllShort, StoresPlain}
+use Rattle.text.specs.private.Words.{ShortClause, AllShort, StoresList}
 
 -- ---- every XOR of a clause list has two or three literals
 
@@ -65,6 +66,6 @@ list-within n gs h l v = within-more (variablesOf n gs) maxVariables (clausesOf 
 
 -- ---- stored at the start of a buffer
 
-pub stands-plain : (t : Totals) (buffer : List ℤ) (variables : ℕ) (cs : List Clause) → ListStands t buffer variables cs → t .words ≤ maxList → StoresPlain (lib.ListN.take (t .words) buffer)
-stands-plain t buffer variables cs s h =
-    record { clauses = cs; words = s .words; short = s .short; within = s .within; few = omega (arith, length-take-le (t .words) buffer (s .inside)) }
+pub stands-stored : (t : Totals) (buffer : List ℤ) (f : Formula) → ListStands t buffer f → t .words ≤ maxList → StoresList (lib.ListN.take (t .words) buffer)
+stands-stored t buffer f s h =
+    record { clauses = f .clauses; words = s .words; short = s .short; within = s .within; few = omega (arith, length-take-le (t .words) buffer (s .inside)) }

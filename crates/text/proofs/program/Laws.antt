@@ -12,32 +12,34 @@ use Rattle.circuit.specs.declared.refusal.Refusal.{Refusal}
 use Rattle.checking.specs.declared.clauses.Totals.{Totals}
 use Rattle.text.specs.declared.list.ListAnswer.the-variants as list
 use Rattle.text.specs.Dimacs.{clausesText, headerText, dimacsOf}
-use Rattle.text.specs.private.Words.{StoresPlain, storedText}
-use Rattle.text.specs.Tomiter.{Verdict, listed, refusedAt, refusalText, verdictText}
+use Rattle.text.specs.Formula.{Formula}
+use Rattle.text.specs.FileOutcome.{FileOutcome, answered, refusedAt, refusalText}
+use Rattle.text.specs.private.Words.{StoresList, storedText}
+use Rattle.text.specs.Tomiter.{verdictText}
 use Rattle.text.specs.private.Lists.{Delivers}
 use Rattle.text.specs.Compare.{maxList}
-use Rattle.text.proofs.plain.Laws.{stored-in}
-use Rattle.text.proofs.plain.Short.{stands-plain}
+use Rattle.text.proofs.stored.Records.{stored-in}
+use Rattle.text.proofs.plain.Short.{stands-stored}
 
-pub refusal-text : (why : Refusal) (file : ℕ) (buffer : List ℤ) (v : Verdict) → Delivers (list.Refused why file) buffer v
+pub refusal-text : (why : Refusal) (file : ℕ) (buffer : List ℤ) (v : FileOutcome Formula) → Delivers (list.Refused why file) buffer v
     → refusalText (why .number) file (why .place) ≡ verdictText v
-refusal-text why file buffer (listed variables cs) s = absurd s
+refusal-text why file buffer (answered f) s = absurd s
 refusal-text why file buffer (refusedAt number f place) (a, b, c) =
     ap₂ (λ (x y : ℕ). refusalText x y (why .place)) a b ∙ ap (refusalText number f) c
 
 -- the buffer's first words store the clauses of the text
 pub record Written (t : Totals) (buffer : List ℤ) (bytes : List ℕ) : Type 0 where
   pub inside : t .words ≤ length buffer
-  pub stores : StoresPlain (take (t .words) buffer)
+  pub stores : StoresList (take (t .words) buffer)
   pub text : headerText (t .variables) (t .clauses) ++ storedText false (take (t .words) buffer) ≡ bytes
 
-pub list-text : (t : Totals) (buffer : List ℤ) (v : Verdict) → length buffer ≤ maxList → Delivers (list.Listed t) buffer v → Written t buffer (verdictText v)
+pub list-text : (t : Totals) (buffer : List ℤ) (v : FileOutcome Formula) → length buffer ≤ maxList → Delivers (list.Listed t) buffer v → Written t buffer (verdictText v)
 unfolding dimacsOf
-list-text t buffer (listed variables cs) few s =
+list-text t buffer (answered f) few s =
     record {
       inside = s .inside;
-      stores = stands-plain t buffer variables cs s (omega (arith, s .inside));
-      text = ap₂ _++_ (ap₂ headerText (s .variables-are) (s .count)) (ap clausesText (stored-in (take (t .words) buffer) cs (s .words)));
+      stores = stands-stored t buffer f s (omega (arith, s .inside));
+      text = ap₂ _++_ (ap₂ headerText (s .variables-are) (s .count)) (ap clausesText (stored-in (take (t .words) buffer) (f .clauses) (s .words)));
     }
 list-text t buffer (refusedAt number file place) few s = absurd s
 

@@ -16,22 +16,23 @@ use Rattle.text.specs.declared.pair.FilesAnswer.the-variants as files
 use Rattle.text.specs.declared.comparison.ComparedAnswer.{ComparedAnswer}
 use Rattle.text.specs.declared.comparison.ComparedAnswer.the-variants as answer
 use Rattle.text.specs.private.Lists.{FileWords}
-use Rattle.text.specs.private.Words.{storedIn, StoresPlain}
-use Rattle.text.specs.Compare.{Files, cascades, wrongFiles, Comparison, reduced, swept, differing, unsolved, refusedAt}
+use Rattle.text.specs.private.Words.{storedIn, StoresList}
+use Rattle.text.specs.FileOutcome.{FileOutcome, answered, refusedAt}
+use Rattle.text.specs.Compare.{CascadePair, cascades, Comparison, reduced, swept, differOn, unsolved}
 
 -- ---- a file
 
--- so many gates on n lines stand at the start of a room
-pub record InRoom (n gates : ℕ) (room : List ℕ) : Type 0 where
-  pub inside : 3 * gates ≤ length room
-  pub words : FileWords n (take (3 * gates) room)
+-- so many words of a cascade on n lines stand at the start of a room
+pub record InRoom (n count : ℕ) (room : List ℕ) : Type 0 where
+  pub inside : count ≤ length room
+  pub words : FileWords n (take count room)
 
 abbrev pub ofWhole : WholeAnswer → List ℕ → ℕ → Outcome Reading
-ofWhole (whole.Cascade lines gates) room bytes = served (record { lines = lines; gates = gatesOf (take (3 * gates) room); taken = bytes })
+ofWhole (whole.Cascade lines words) room bytes = served (record { lines = lines; gates = gatesOf (take words room); taken = bytes })
 ofWhole (whole.Refused r) room bytes = refused (r .number) (r .place)
 
 abbrev pub WholeReady : WholeAnswer → List ℕ → Type 0
-WholeReady (whole.Cascade lines gates) room = InRoom lines gates room
+WholeReady (whole.Cascade lines words) room = InRoom lines words room
 WholeReady (whole.Refused r) room = Unit {0}
 
 pub record SaysWhole (r : WholeAnswer) (room : List ℕ) (bytes : ℕ) (o : Outcome Reading) : Type 0 where
@@ -40,15 +41,15 @@ pub record SaysWhole (r : WholeAnswer) (room : List ℕ) (bytes : ℕ) (o : Outc
 
 -- ---- two files
 
-abbrev pub ofFiles : FilesAnswer → List ℕ → List ℕ → Files
-ofFiles (files.Cascades lines i j) a b = cascades lines (gatesOf (take (3 * i) a)) (gatesOf (take (3 * j) b))
-ofFiles (files.Refused why file) a b = wrongFiles (why .number) file (why .place)
+abbrev pub ofFiles : FilesAnswer → List ℕ → List ℕ → FileOutcome CascadePair
+ofFiles (files.Cascades lines i j) a b = answered (cascades lines (gatesOf (take i a)) (gatesOf (take j b)))
+ofFiles (files.Refused why file) a b = refusedAt (why .number) file (why .place)
 
 abbrev pub FilesReady : FilesAnswer → List ℕ → List ℕ → Type 0
 FilesReady (files.Cascades lines i j) a b = InRoom lines i a × InRoom lines j b
 FilesReady (files.Refused why file) a b = Unit {0}
 
-pub record SaysFiles (r : FilesAnswer) (a b : List ℕ) (f : Files) : Type 0 where
+pub record SaysFiles (r : FilesAnswer) (a b : List ℕ) (f : FileOutcome CascadePair) : Type 0 where
   pub is : ofFiles r a b ≡ f
   pub ready : FilesReady r a b
 
@@ -69,17 +70,17 @@ pub record LeftIn (n k : ℕ) (room : List ℕ) (gs : List Gate) : Type 0 where
   pub words : MiterWords n k room
   pub gates-are : gatesOf (take (3 * k) room) ≡ gs
 
-abbrev pub ofCompared : ComparedAnswer → List ℤ → Comparison
-ofCompared answer.Reduction clauses = reduced
-ofCompared answer.Sweep clauses = swept
-ofCompared (answer.Differ state first second) clauses = differing state first second
-ofCompared (answer.Clauses t) clauses = unsolved (t .variables) (storedIn (take (t .words) clauses))
+abbrev pub ofCompared : ComparedAnswer → List ℤ → FileOutcome Comparison
+ofCompared answer.Reduction clauses = answered reduced
+ofCompared answer.Sweep clauses = answered swept
+ofCompared (answer.Differ state first second) clauses = answered (differOn state first second)
+ofCompared (answer.Clauses t) clauses = answered (unsolved (record { variables = t .variables; clauses = storedIn (take (t .words) clauses) }))
 ofCompared (answer.Refused why file) clauses = refusedAt (why .number) file (why .place)
 
 -- the words of clauses stand at the start of the room
 pub record InClauses (words : ℕ) (clauses : List ℤ) : Type 0 where
   pub inside : words ≤ length clauses
-  pub stores : StoresPlain (take words clauses)
+  pub stores : StoresList (take words clauses)
 
 abbrev pub ComparedReady : ComparedAnswer → List ℤ → Type 0
 ComparedReady answer.Reduction clauses = Unit {0}
@@ -88,10 +89,10 @@ ComparedReady (answer.Differ state first second) clauses = Unit {0}
 ComparedReady (answer.Clauses t) clauses = InClauses (t .words) clauses
 ComparedReady (answer.Refused why file) clauses = Unit {0}
 
-pub record SaysCompared (r : ComparedAnswer) (clauses : List ℤ) (c : Comparison) : Type 0 where
+pub record SaysCompared (r : ComparedAnswer) (clauses : List ℤ) (c : FileOutcome Comparison) : Type 0 where
   pub is : ofCompared r clauses ≡ c
   pub ready : ComparedReady r clauses
 
 -- an answer that needs no clauses
 pub record SaysAny (r : ComparedAnswer) (c : Comparison) : Type 0 where
-  pub says : (clauses : List ℤ) → SaysCompared r clauses c
+  pub says : (clauses : List ℤ) → SaysCompared r clauses (answered c)

@@ -80,15 +80,15 @@ pub record Plainable (kind : ℤ) (ls : List ℤ) : Type 0 where
   pub few : length ls ≤ maxList
   pub within : LiteralsWithin maxVariables ls
 
--- the words store clauses that can be written so, and are no more than a list may have
-pub record StoresPlain (ws : List ℤ) : Type 0 where
+-- ---- either
+
+-- the words store clauses that can be written in either form, and are no more than a list may have
+pub record StoresList (ws : List ℤ) : Type 0 where
   pub clauses : List Clause
   pub words : ws ≡ stored clauses
   pub short : AllShort clauses
   pub within : ClausesWithin maxVariables clauses
   pub few : length ws ≤ maxList
-
--- ---- either
 
 -- clauses as they are, or as OR clauses alone
 abbrev pub formed : Bool → List Clause → List Clause

@@ -3,9 +3,9 @@ use mathlib.Core.Path.{sym, subst}
 use lib.Seq.{length-take-le}
 use Rattle.text.specs.declared.comparison.ComparedAnswer.{ComparedAnswer}
 use Rattle.text.specs.declared.comparison.ComparedAnswer.the-variants as answer
-use Rattle.text.specs.Compare.{differText}
-use Rattle.text.specs.private.Comparing.{InClauses, ComparedReady}
-use Rattle.text.proofs.answer.Laws.{answer-as}
+use Rattle.text.specs.Compare.{differText, comparedText}
+use Rattle.text.specs.private.Comparing.{ofCompared, InClauses, ComparedReady}
+use Rattle.text.proofs.answer.Laws.{fit-as}
 use borrow.Author.Needs.{needs}
 use Rattle.text.proofs.answer.fit_answer.Statement.{statement}
 use Rattle.text.proofs.answer.fit_answer.Tie as tie
@@ -60,32 +60,32 @@ same-length : tie.Need-same-length
 same-length c = search needs
 
 returns : tie.Need-returns
-returns c = answer-as _ _ (c .before .before .before .before .before .before .before .before .args .clauses .now) _ _ _ (c .before .before .before .before .before .enum-told .given .1) (c .before .before .fit-text .ensures)
+returns c = fit-as (λ (x : ComparedAnswer). comparedText (ofCompared x (c .before .before .before .before .before .before .before .before .args .clauses .now))) _ _ _ _ _ (c .before .before .before .before .before .enum-told .given .1) (c .before .before .fit-text .ensures)
 
 same-length-2 : tie.Need-same-length-2
 same-length-2 c = search needs
 
 returns-2 : tie.Need-returns-2
-returns-2 c = answer-as _ _ (c .before .before .before .before .before .before .before .before .args .clauses .now) _ _ _ (c .before .before .before .before .before .enum-told2 .given .1) (c .before .before .fit-text2 .ensures)
+returns-2 c = fit-as (λ (x : ComparedAnswer). comparedText (ofCompared x (c .before .before .before .before .before .before .before .before .args .clauses .now))) _ _ _ _ _ (c .before .before .before .before .before .enum-told2 .given .1) (c .before .before .fit-text2 .ensures)
 
 same-length-3 : tie.Need-same-length-3
 same-length-3 c = search needs
 
 returns-3 : tie.Need-returns-3
 unfolding differText
-returns-3 c = answer-as _ _ (c .before .before .before .before .before .before .before .before .before .args .clauses .now) _ _ _ (c .before .before .before .before .before .before .answer .given .1) (c .before .before .fit-three .ensures)
+returns-3 c = fit-as (λ (x : ComparedAnswer). comparedText (ofCompared x (c .before .before .before .before .before .before .before .before .before .args .clauses .now))) _ _ _ _ _ (c .before .before .before .before .before .before .answer .given .1) (c .before .before .fit-three .ensures)
 
 same-length-4 : tie.Need-same-length-4
 same-length-4 c = search needs
 
 returns-4 : tie.Need-returns-4
-returns-4 c = answer-as _ _ (c .before .before .before .before .before .before .before .before .args .clauses .now) _ _ _ (c .before .before .before .before .before .answer2 .given .1) (c .before .before .fit-refusal .ensures)
+returns-4 c = fit-as (λ (x : ComparedAnswer). comparedText (ofCompared x (c .before .before .before .before .before .before .before .before .args .clauses .now))) _ _ _ _ _ (c .before .before .before .before .before .answer2 .given .1) (c .before .before .fit-refusal .ensures)
 
 same-length-5 : tie.Need-same-length-5
 same-length-5 c = search needs
 
 returns-5 : tie.Need-returns-5
-returns-5 c = answer-as _ _ (c .before .before .before .before .before .before .before .before .before .args .clauses .now) _ _ _ (c .before .before .before .before .before .before .answer3 .given .1) (c .before .before .fit-clauses .ensures)
+returns-5 c = fit-as (λ (x : ComparedAnswer). comparedText (ofCompared x (c .before .before .before .before .before .before .before .before .before .args .clauses .now))) _ _ _ _ _ (c .before .before .before .before .before .before .answer3 .given .1) (c .before .before .fit-clauses .ensures)
 
 pub fit-answer-spec : {M : Type 1} → statement M
 fit-answer-spec =

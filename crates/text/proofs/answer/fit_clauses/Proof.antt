@@ -10,7 +10,7 @@ use Rattle.text.specs.declared.plain.PlainSizes.{PlainSizes}
 use Rattle.text.specs.Dimacs.{headerText, dimacsOf, decimal}
 use Rattle.text.specs.Plain.{plainClauses}
 use Rattle.text.specs.private.Words.{storedIn, storedText}
-use Rattle.text.proofs.plain.Laws.{sizing-start}
+use Rattle.text.proofs.plain.Sizing.{sizing-start}
 use Rattle.text.proofs.answer.Laws.{fit-refused, fit-put, digits-few, header-long}
 use borrow.Author.Needs.{needs}
 use Rattle.text.proofs.answer.fit_clauses.Statement.{statement}

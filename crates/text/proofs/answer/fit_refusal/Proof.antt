@@ -1,5 +1,5 @@
 -- `text::answer::fit_refusal` meets its contract. Assumes nothing.
-use Rattle.text.specs.Tomiter.{refusalText}
+use Rattle.text.specs.FileOutcome.{refusalText}
 use borrow.Author.Needs.{needs}
 use Rattle.text.proofs.answer.fit_refusal.Statement.{statement}
 use Rattle.text.proofs.answer.fit_refusal.Tie as tie

@@ -1,7 +1,7 @@
 -- `text::answer::fit_three` meets its contract. Assumes nothing.
 use mathlib.Core.List.{_++_}
 use native.Mathlib.Omega.{arith}
-use Rattle.text.specs.Tomiter.{numbersText}
+use Rattle.text.specs.FileOutcome.{numbersText}
 use Rattle.text.proofs.answer.Laws.{fit-refused, fit-put, digits-few, three-long}
 use borrow.Author.Needs.{needs}
 use Rattle.text.proofs.answer.fit_three.Statement.{statement}

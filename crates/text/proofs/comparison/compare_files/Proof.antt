@@ -1,12 +1,11 @@
 -- `text::comparison::compare_files` meets its contract. Assumes nothing.
 use mathlib.Core.Path.{sym, subst}
-use native.Mathlib.Omega.{arith}
 use lib.Seq.{length-take-le}
 use Rattle.text.specs.declared.pair.FilesAnswer.{FilesAnswer}
 use Rattle.text.specs.declared.pair.FilesAnswer.the-variants as files
 use Rattle.text.specs.Compare.{filesOf}
 use Rattle.text.specs.private.Comparing.{SaysFiles}
-use Rattle.text.proofs.comparison.Laws.{room-few, compared-as, refused-as}
+use Rattle.text.proofs.comparison.Laws.{compared-as, refused-as}
 use borrow.Author.Needs.{needs}
 use Rattle.text.proofs.comparison.compare_files.Statement.{statement}
 use Rattle.text.proofs.comparison.compare_files.Tie as tie
@@ -27,12 +26,6 @@ enum-known-why c = search needs
 
 enum-known-lines : tie.Need-enum-known-lines
 enum-known-lines c = search needs
-
-mul-p : tie.Need-mul-p
-mul-p c = omega (arith, room-few _ _ _ (good (c .before) .ready .0))
-
-mul-q : tie.Need-mul-q
-mul-q c = omega (arith, room-few _ _ _ (good (c .before) .ready .1))
 
 slice-reshare-prefix-compare-pair : tie.Need-slice-reshare-prefix-compare-pair
 slice-reshare-prefix-compare-pair c = good (c .before) .ready .0 .inside
@@ -88,8 +81,6 @@ compare-files-spec =
     read-files-requires
     enum-known-why
     enum-known-lines
-    mul-p
-    mul-q
     slice-reshare-prefix-compare-pair
     slice-aggregate-compare-pair
     slice-reshare-prefix-compare-pair-2

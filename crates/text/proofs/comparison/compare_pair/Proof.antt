@@ -1,6 +1,7 @@
 -- `text::comparison::compare_pair` meets its contract. Assumes nothing.
 use mathlib.Core.Path.{refl, sym, ap, _∙_}
 use native.Mathlib.Omega.{arith}
+use Rattle.text.specs.FileOutcome.{answered}
 use Rattle.text.specs.Compare.{reduced, listAs}
 use Rattle.text.proofs.comparison.Laws.{by-reduction, by-sweep, by-clauses, says-as}
 use borrow.Author.Needs.{needs}
@@ -15,7 +16,7 @@ same-length c = search needs
 
 returns : tie.Need-returns
 returns c =
-    says-as _ _ _ reduced (by-reduction _ _ _ _ _ (c .before .before .before .reduce-miter .ensures) (c .if1 .taken)) (record { is = refl; ready = tt })
+    says-as _ _ _ (answered reduced) (by-reduction _ _ _ _ _ (c .before .before .before .reduce-miter .ensures) (c .if1 .taken)) (record { is = refl; ready = tt })
 
 sweep-requires : tie.Need-sweep-requires
 sweep-requires c κs = search needs

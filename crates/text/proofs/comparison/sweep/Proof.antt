@@ -1,9 +1,11 @@
 -- `text::comparison::sweep` meets its contract. Assumes nothing.
 use mathlib.Core.Path.{refl, ap, ap₂, _∙_}
+use Prim.Native.Nat.{ℕ}
 use Rattle.circuit.specs.Gate.{maxLines}
 use Rattle.circuit.proofs.Promises.{valid-all-more, run-tested}
 use Rattle.checking.specs.Compare.{none, lowest, ofDifference}
-use Rattle.text.specs.Compare.{differing}
+use Rattle.text.specs.FileOutcome.{answered}
+use Rattle.text.specs.Compare.{differOn}
 use Rattle.text.proofs.comparison.Laws.{swept-as, never-refused}
 use borrow.Author.Needs.{needs}
 use Rattle.text.proofs.comparison.sweep.Statement.{statement}
@@ -35,7 +37,7 @@ returns c =
     let a = s .pre .0 .cascade in
     let b = s .pre .1 .0 .cascade in
     swept-as _ _ _ (s .pre .0) (s .pre .1 .0) (s .pre .1 .1) _ (lowest x) _ (ap ofDifference (c .before .before .before .state .given .1)) (f .ensures .answer)
-    (λ clauses. record { is = ap₂ (differing x) (c .before .run-tested .ensures ∙ run-tested _ (valid-all-more _ maxLines _ (a .lines-high) (a .gates)) x) (c .run-tested2 .ensures ∙ run-tested _ (valid-all-more _ maxLines _ (b .lines-high) (b .gates)) x); ready = tt })
+    (λ clauses. record { is = ap₂ (λ (y z : ℕ). answered (differOn x y z)) (c .before .run-tested .ensures ∙ run-tested _ (valid-all-more _ maxLines _ (a .lines-high) (a .gates)) x) (c .run-tested2 .ensures ∙ run-tested _ (valid-all-more _ maxLines _ (b .lines-high) (b .gates)) x); ready = tt })
 
 returns-2 : tie.Need-returns-2
 returns-2 c =

@@ -1,11 +1,13 @@
 -- `text::input::check_pair` meets its contract. Assumes nothing.
 use mathlib.Core.Path.{sym, ap, ap₂, _∙_}
-use Rattle.circuit.specs.declared.refusal.Refusal.{Refusal}
+use Prim.Native.Nat.{ℕ}
 use Rattle.circuit.specs.Gate.{maxLines}
 use Rattle.circuit.specs.Words.{gatesOf}
 use Rattle.circuit.proofs.Promises.{valid-all-more, run-tested}
-use Rattle.text.specs.CheckInput.{outputs, refusedAt, checkedOn}
+use Rattle.text.specs.FileOutcome.{answered}
+use Rattle.text.specs.CheckInput.{outputs, checkedOn}
 use Rattle.text.specs.private.Checking.{ofState}
+use Rattle.text.proofs.FileOutcome.{why-at}
 use borrow.Author.Needs.{needs}
 use Rattle.text.proofs.input.check_pair.Statement.{statement}
 use Rattle.text.proofs.input.check_pair.Tie as tie
@@ -34,7 +36,7 @@ returns c =
     let a = s .pre .0 .cascade in
     let b = s .pre .1 .cascade in
     record {
-      is = ap₂ (outputs (s .args .n)) (c .before .run-tested .ensures ∙ run-tested _ (valid-all-more _ maxLines _ (a .lines-high) (a .gates)) _) (c .run-tested2 .ensures ∙ run-tested _ (valid-all-more _ maxLines _ (b .lines-high) (b .gates)) _) ∙ ap (checkedOn (s .args .n) (gatesOf (s .args .a .now)) (gatesOf (s .args .b .now))) (sym (ap ofState (c .before .before .before .x .given .1)) ∙ c .before .before .before .before .before .read-state .ensures);
+      is = ap₂ (λ (x y : ℕ). answered (outputs (s .args .n) x y)) (c .before .run-tested .ensures ∙ run-tested _ (valid-all-more _ maxLines _ (a .lines-high) (a .gates)) _) (c .run-tested2 .ensures ∙ run-tested _ (valid-all-more _ maxLines _ (b .lines-high) (b .gates)) _) ∙ ap (checkedOn (s .args .n) (gatesOf (s .args .a .now)) (gatesOf (s .args .b .now))) (sym (ap ofState (c .before .before .before .x .given .1)) ∙ c .before .before .before .before .before .read-state .ensures);
       ready = a .lines-high;
     }
 
@@ -42,7 +44,7 @@ returns-2 : tie.Need-returns-2
 returns-2 c =
     let s = c .before .before .before .before .before .before .before in
     record {
-      is = ap (λ (r : Refusal). refusedAt (r .number) 0 (r .place)) (c .bad-state .ensures) ∙ ap (checkedOn (s .args .n) (gatesOf (s .args .a .now)) (gatesOf (s .args .b .now))) (sym (ap ofState (c .before .enum-told .given .1)) ∙ c .before .before .before .read-state .ensures);
+      is = why-at 0 (c .bad-state .ensures) ∙ ap (checkedOn (s .args .n) (gatesOf (s .args .a .now)) (gatesOf (s .args .b .now))) (sym (ap ofState (c .before .enum-told .given .1)) ∙ c .before .before .before .read-state .ensures);
       ready = tt;
     }
 

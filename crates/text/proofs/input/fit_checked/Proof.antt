@@ -1,8 +1,9 @@
 -- `text::input::fit_checked` meets its contract. Assumes nothing.
 use mathlib.Core.Path.{subst}
 use Rattle.text.specs.declared.input.CheckedAnswer.{CheckedAnswer}
-use Rattle.text.specs.private.Checking.{CheckedReady}
-use Rattle.text.proofs.input.Laws.{checked-as}
+use Rattle.text.specs.CheckInput.{checkedText}
+use Rattle.text.specs.private.Checking.{ofChecked, CheckedReady}
+use Rattle.text.proofs.answer.Laws.{fit-as}
 use borrow.Author.Needs.{needs}
 use Rattle.text.proofs.input.fit_checked.Statement.{statement}
 use Rattle.text.proofs.input.fit_checked.Tie as tie
@@ -27,13 +28,13 @@ same-length : tie.Need-same-length
 same-length c = search needs
 
 returns : tie.Need-returns
-returns c = checked-as _ _ _ _ _ (c .before .before .before .before .before .answer .given .1) (c .before .before .fit-outputs .ensures)
+returns c = fit-as (λ (x : CheckedAnswer). checkedText (ofChecked x)) _ _ _ _ _ (c .before .before .before .before .before .answer .given .1) (c .before .before .fit-outputs .ensures)
 
 same-length-2 : tie.Need-same-length-2
 same-length-2 c = search needs
 
 returns-2 : tie.Need-returns-2
-returns-2 c = checked-as _ _ _ _ _ (c .before .before .before .before .before .answer2 .given .1) (c .before .before .fit-refusal .ensures)
+returns-2 c = fit-as (λ (x : CheckedAnswer). checkedText (ofChecked x)) _ _ _ _ _ (c .before .before .before .before .before .answer2 .given .1) (c .before .before .fit-refusal .ensures)
 
 pub fit-checked-spec : {M : Type 1} → statement M
 fit-checked-spec =

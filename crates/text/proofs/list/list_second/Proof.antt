@@ -1,7 +1,6 @@
 -- `text::list::list_second` meets its contract. Assumes nothing.
 use mathlib.Core.Path.{refl, sym}
 use Prim.Native.Nat.{ℕ}
-use native.Mathlib.Omega.{arith}
 use lib.ListN.{length}
 use lib.Seq.{length-take-le}
 use Rattle.text.specs.declared.pair.WholeAnswer.the-variants as whole
@@ -9,7 +8,6 @@ use Rattle.text.specs.WholeFile.{wholeFile}
 use Rattle.text.specs.private.Comparing.{SaysWhole}
 use Rattle.text.proofs.list.Laws.{says-as, says-refusal, verdict-refused, verdict-served}
 use Rattle.text.proofs.pair.Laws.{told-whole}
-use Rattle.text.proofs.comparison.Laws.{room-few}
 use borrow.Author.Needs.{needs}
 use Rattle.text.proofs.list.list_second.Statement.{statement}
 use Rattle.text.proofs.list.list_second.Tie as tie
@@ -30,9 +28,6 @@ enum-known-why c = search needs
 
 enum-known-lines : tie.Need-enum-known-lines
 enum-known-lines c = search needs
-
-mul-end : tie.Need-mul-end
-mul-end c = omega (arith, room-few _ _ _ (good (c .before) .ready))
 
 array-share-prefix-b : tie.Need-array-share-prefix-b
 array-share-prefix-b c = good (c .before) .ready .inside
@@ -70,7 +65,6 @@ list-second-spec =
     read-whole-requires
     enum-known-why
     enum-known-lines
-    mul-end
     array-share-prefix-b
     slice-aggregate-list-pair
     list-pair-requires

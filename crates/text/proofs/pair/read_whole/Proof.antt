@@ -47,6 +47,9 @@ returns c =
     says-bad (s .args .text .now) (c .wrong-form .result) _ _
     (whole-after (s .args .text .now) _ (w .is) (c .before .if1 .taken) ∙ ap (λ (k : ℕ). refused wrongForm (k + 2)) (sym (w .count)) ∙ sym (why {A = Reading} (c .wrong-form .ensures)))
 
+mul-words : tie.Need-mul-words
+mul-words c = omega (arith, read (c .before .before) .few)
+
 same-length-2 : tie.Need-same-length-2
 same-length-2 c = search needs
 
@@ -74,6 +77,7 @@ read-whole-spec =
     wrong-form-requires
     same-length
     returns
+    mul-words
     same-length-2
     returns-2
     same-length-3

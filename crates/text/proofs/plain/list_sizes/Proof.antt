@@ -5,7 +5,8 @@ use native.Mathlib.Omega.{arith}
 use lib.ListN.{length}
 use Rattle.checking.specs.Satisfaction.{variableOf}
 use Rattle.text.proofs.dimacs.Signed.{word-is}
-use Rattle.text.proofs.plain.Laws.{count, left-inside, left-count, left-plainable, Sizing, sizing-start, bytes-room, clauses-room, sizing-on, sizing-done}
+use Rattle.text.proofs.stored.Records.{count, left-inside, left-count, left-plainable}
+use Rattle.text.proofs.plain.Sizing.{Sizing, sizing-start, bytes-room, clauses-room, sizing-on, sizing-done}
 use borrow.Author.Needs.{needs, sfits-of}
 use Rattle.text.proofs.plain.list_sizes.Statement.{statement}
 use Rattle.text.proofs.plain.list_sizes.Tie as tie

@@ -5,7 +5,8 @@ use lib.ListN.{length}
 use lib.Seq.{length-take-le}
 use Rattle.circuit.proofs.Promises.{put-as}
 use Rattle.text.specs.declared.list.ListAnswer.{ListAnswer}
-use Rattle.text.specs.Tomiter.{refusalText, verdict, tomiterText}
+use Rattle.text.specs.FileOutcome.{refusalText}
+use Rattle.text.specs.Tomiter.{verdict, tomiterText}
 use Rattle.text.specs.private.Lists.{Delivers}
 use Rattle.text.proofs.Sizes.{text-fits}
 use Rattle.text.proofs.answer.Laws.{refusal-long}

@@ -7,7 +7,7 @@ use lib.ListN.{length-append}
 use Rattle.circuit.specs.Text.{tab, lineFeed}
 use Rattle.circuit.proofs.Promises.{written-first, written-more, written-put, put-as}
 use Rattle.text.specs.Dimacs.{decimal}
-use Rattle.text.specs.Tomiter.{numbersText}
+use Rattle.text.specs.FileOutcome.{numbersText}
 use borrow.Author.Needs.{needs}
 use Rattle.text.proofs.put.put_three.Statement.{statement}
 use Rattle.text.proofs.put.put_three.Tie as tie

@@ -7,7 +7,8 @@ use borrow.Author.Needs.{needs, sfits-of}
 use Rattle.checking.specs.Satisfaction.{variableOf}
 use Rattle.circuit.proofs.Promises.{rest-length}
 use Rattle.text.proofs.dimacs.Signed.{word-is}
-use Rattle.text.proofs.plain.Laws.{count, left-inside, left-count, left-plainable, Listing, listing-start, listing-at, listing-room, listing-on, listing-done}
+use Rattle.text.proofs.stored.Records.{count, left-inside, left-count, left-plainable}
+use Rattle.text.proofs.stored.Listing.{Listing, listing-start, listing-at, listing-room, listing-on, listing-done}
 use Rattle.text.proofs.stored.put_clauses.Statement.{statement}
 use Rattle.text.proofs.stored.put_clauses.Tie as tie
 
