@@ -145,13 +145,13 @@ pub(crate) fn control_count(g: Gate) -> u64
     let positive = g.positive;
     let negative = g.negative;
     let lines = positive | negative;
+    if (lines & std::num::wrapping_sub_u64(lines, 1)) != 0 {
+        return g.control_count();
+    }
     if lines == 0 {
         return 0;
     }
-    if (lines & (lines - 1)) == 0 {
-        return 1;
-    }
-    g.control_count()
+    1
 }
 
 // The gate's clauses at the buffer's start, with `used` variables numbered so far; how many words.
@@ -165,21 +165,21 @@ pub(crate) fn put_gate(g: Gate, n: u64, current: &[u64], used: u64, out: &mut [C
     let target = g.target;
     let v = current[target as usize];
     let k = control_count(g);
+    if 2 <= k {
+        return put_many(positive, lines, k, n, current, used, v, out);
+    }
     if k == 0 {
         put_4(out, 1, 2, literal(used + 1, true), literal(v, true));
         return 4;
     }
-    if k == 1 {
-        let line = circuit::gate::lowest(lines);
-        put_5(
-            out,
-            1,
-            3,
-            literal(used + 1, false),
-            literal(v, true),
-            literal(current[line as usize], circuit::gate::has(positive, line)),
-        );
-        return 5;
-    }
-    put_many(positive, lines, k, n, current, used, v, out)
+    let line = circuit::gate::lowest(lines);
+    put_5(
+        out,
+        1,
+        3,
+        literal(used + 1, false),
+        literal(v, true),
+        literal(current[line as usize], circuit::gate::has(positive, line)),
+    );
+    5
 }

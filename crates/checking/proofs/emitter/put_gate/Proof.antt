@@ -41,6 +41,27 @@ control-count-requires c κs = let s = c .before .before in valid-more (s .args 
 v-small : (c : tie.After-control-count) → byLine (start c .args .current .now) (start c .args .g .target) < wordLimit
 v-small c = target-small _ _ _ _ _ (start c .pre)
 
+put-many-requires : tie.Need-put-many-requires
+put-many-requires c κs =
+    let k = c .before .before in
+    (start k .pre .currents, many-ready _ _ _ _ _ (start k .pre) _ (k .control-count .ensures) (c .before .if1 .taken))
+
+same-length : tie.Need-same-length
+same-length c = search needs
+
+returns : tie.Need-returns
+returns c =
+    let m = c .before in
+    let t = m .before .before in
+    let k = t .before in
+    let s = start k in
+    record {
+      answer = m .put-many .ensures .answer ∙ words-many _ _ _ _ _ (s .pre) _ (k .control-count .ensures) (t .if1 .taken);
+      buffer =
+          m .put-many .ensures .buffer
+          ∙ ap (λ (l : List ℤ). over l (s .args .out .now)) (sym (written-many _ _ _ _ _ (s .pre) _ (k .control-count .ensures) (t .if1 .taken)));
+    }
+
 add-literal : tie.Need-add-literal
 add-literal c = search needs
 
@@ -48,30 +69,32 @@ literal-requires : tie.Need-literal-requires
 literal-requires c κs = search needs
 
 literal-requires-2 : tie.Need-literal-requires-2
-literal-requires-2 c κs = v-small (c .before .before .before)
+literal-requires-2 c κs = v-small (c .before .before .before .before)
 
 put-4-requires : tie.Need-put-4-requires
 put-4-requires c κs =
     let t = c .before .before .before in
-    room-none _ _ _ _ _ (start (t .before) .pre) _ (t .before .control-count .ensures) (t .if1 .taken)
+    let k = t .before .before in
+    room-none _ _ _ _ _ (start k .pre) _ (k .control-count .ensures) (t .if2 .taken)
 
-same-length : tie.Need-same-length
-same-length c = search needs
+same-length-2 : tie.Need-same-length-2
+same-length-2 c = search needs
 
-returns : tie.Need-returns
-returns c =
+returns-2 : tie.Need-returns-2
+returns-2 c =
     let four = c .before in
     let two = four .before in
     let t = two .before .before .before in
-    let s = start (t .before) in
-    let w = written-none _ _ _ _ _ (s .pre) _ (t .before .control-count .ensures) (t .if1 .taken) in
+    let k = t .before .before in
+    let s = start k in
+    let w = written-none _ _ _ _ _ (s .pre) _ (k .control-count .ensures) (t .if2 .taken) in
     record {
       answer = sym (ap length w);
       buffer =
           four .put-4 .ensures
           ∙ ap₂ (λ (x y : ℤ). over (pos 1 ∷ pos 2 ∷ x ∷ y ∷ []) (s .args .out .now))
           (literal-kept (two .before .literal .result) true (s .args .used + 1) (omega (arith, s .pre .few)) (two .before .literal .ensures))
-          (literal-kept (two .literal2 .result) true (byLine (s .args .current .now) (s .args .g .target)) (v-small (t .before)) (two .literal2 .ensures))
+          (literal-kept (two .literal2 .result) true (byLine (s .args .current .now) (s .args .g .target)) (v-small k) (two .literal2 .ensures))
           ∙ ap (λ (l : List ℤ). over l (s .args .out .now)) (sym w);
     }
 
@@ -87,11 +110,14 @@ literal-requires-3 c κs = search needs
 literal-requires-4 : tie.Need-literal-requires-4
 literal-requires-4 c κs = v-small (c .before .before .before .before .before)
 
--- the line of the one control, and its variable
+-- one control, its line and its variable
+alone : (c : tie.Else2) → c .before .before .control-count .result ≡ 1
+alone c = omega arith
+
 line-in : (c : tie.After-lowest) → c .lowest .result < start (c .before .before .before) .args .n
 line-in c =
     let k = c .before .before .before in
-    line-below _ _ _ _ _ (start k .pre) _ (k .control-count .ensures) (c .before .if2 .taken) (c .lowest .result) (c .lowest .ensures)
+    line-below _ _ _ _ _ (start k .pre) _ (k .control-count .ensures) (alone (c .before)) (c .lowest .result) (c .lowest .ensures)
 
 variable-small : (c : tie.After-lowest) → byLine (start (c .before .before .before) .args .current .now) (c .lowest .result) < wordLimit
 variable-small c = start (c .before .before .before) .pre .currents .small (c .lowest .result) (line-in c)
@@ -116,13 +142,13 @@ put-5-requires : tie.Need-put-5-requires
 put-5-requires c κs =
     let t = c .before .before .before .before .before .before .before in
     let k = t .before .before in
-    room-one _ _ _ _ _ (start k .pre) _ (k .control-count .ensures) (t .if2 .taken)
+    room-one _ _ _ _ _ (start k .pre) _ (k .control-count .ensures) (alone t)
 
-same-length-2 : tie.Need-same-length-2
-same-length-2 c = search needs
+same-length-3 : tie.Need-same-length-3
+same-length-3 c = search needs
 
-returns-2 : tie.Need-returns-2
-returns-2 c =
+returns-3 : tie.Need-returns-3
+returns-3 c =
     let five = c .before in
     let last = five .before in
     let h = last .before in
@@ -132,7 +158,7 @@ returns-2 c =
     let s = start k in
     let o = s .args .out .now in
     let line = low .lowest .result in
-    let w = written-one _ _ _ _ _ (s .pre) _ (k .control-count .ensures) (low .before .if2 .taken) line (low .lowest .ensures) in
+    let w = written-one _ _ _ _ _ (s .pre) _ (k .control-count .ensures) (alone (low .before)) line (low .lowest .ensures) in
     let v = byLine (s .args .current .now) line in
     let below : line % maxLines ≡ line = omega (arith, line-in low, s .pre .currents .lines) in
     record {
@@ -147,28 +173,6 @@ returns-2 c =
           ∙ ap (λ (l : List ℤ). over l o) (sym w);
     }
 
-put-many-requires : tie.Need-put-many-requires
-put-many-requires c κs =
-    let e = c .before in
-    let k = e .before .before in
-    (start k .pre .currents, many-ready _ _ _ _ _ (start k .pre) _ (k .control-count .ensures) (e .before .if1 .left) (e .if2 .left))
-
-same-length-3 : tie.Need-same-length-3
-same-length-3 c = search needs
-
-returns-3 : tie.Need-returns-3
-returns-3 c =
-    let m = c .before in
-    let e = m .before .before in
-    let k = e .before .before in
-    let s = start k in
-    record {
-      answer = m .put-many .ensures .answer ∙ words-many _ _ _ _ _ (s .pre) _ (k .control-count .ensures) (e .before .if1 .left) (e .if2 .left);
-      buffer =
-          m .put-many .ensures .buffer
-          ∙ ap (λ (l : List ℤ). over l (s .args .out .now)) (sym (written-many _ _ _ _ _ (s .pre) _ (k .control-count .ensures) (e .before .if1 .left) (e .if2 .left)));
-    }
-
 pub put-gate-spec : {M : Type 1} → statement M
 put-gate-spec =
     tie.close
@@ -176,12 +180,15 @@ put-gate-spec =
     mul-v
     shared-slice-read-v
     control-count-requires
+    put-many-requires
+    same-length
+    returns
     add-literal
     literal-requires
     literal-requires-2
     put-4-requires
-    same-length
-    returns
+    same-length-2
+    returns-2
     lowest-requires
     add-literal-2
     literal-requires-3
@@ -191,8 +198,5 @@ put-gate-spec =
     has-requires
     literal-requires-5
     put-5-requires
-    same-length-2
-    returns-2
-    put-many-requires
     same-length-3
     returns-3)

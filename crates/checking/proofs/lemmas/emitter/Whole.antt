@@ -2,7 +2,7 @@
 use mathlib.Core.Path.{_≡_, refl, sym, ap, _∙_, subst}
 use mathlib.Core.Logic.{⊎-elim}
 use mathlib.Core.List.{List, [], _∷_, map, map-map}
-use Prim.Native.Nat.{ℕ, zero, suc, _+_, _*_, _-_, _^_, _≤_, _<_}
+use Prim.Native.Nat.{ℕ, suc, _+_, _*_, _-_, _^_, _≤_, _<_}
 use native.Mathlib.Nat.{eq-zero-or-pos}
 use native.Mathlib.Numerals.{add-one}
 use native.Mathlib.Omega.{arith}
@@ -122,15 +122,7 @@ module _ (n used : ℕ) (current : List ℕ) (g : Gate) (room : ℕ) (ready : Re
           ∙ ap (λ (w : ℕ). pos 1 ∷ pos 3 ∷ minus w ∷ plus target ∷ literalAt current (g .positive) line ∷ []) (sym (add-one used))
 
     -- more
-    module _ (a : k ≡ 0 → ⊥) (b : k ≡ 1 → ⊥) where
-      two : 2 ≤ k
-      two = from k a b
-        where
-          from : (j : ℕ) → (j ≡ 0 → ⊥) → (j ≡ 1 → ⊥) → 2 ≤ j
-          from zero x y = absurd (x refl)
-          from (suc zero) x y = absurd (y refl)
-          from (suc (suc j)) x y = omega arith
-
+    module _ (two : 2 ≤ k) where
       pub many-ready : Many lines k n used target room
       many-ready =
           record {
