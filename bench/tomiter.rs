@@ -2,6 +2,8 @@
 //! own, on an input near its limits. Fails where it takes more than `LIMIT` times as long, each less its
 //! time on an empty input, or where the two write different bytes.
 
+#[path = "../tests/built.rs"]
+mod built;
 #[allow(dead_code)]
 mod inputs;
 #[allow(dead_code)]
@@ -15,7 +17,6 @@ use std::time::Instant;
 
 const LIMIT: f64 = 1.3;
 const ROUNDS: usize = 601;
-const LIBRARY: &str = "target/bin/tomiter";
 const PLAIN: &str = "target/bench/plain_tomiter";
 const INPUT: &str = "target/bench/input";
 const EMPTY: &str = "/dev/null";
@@ -64,7 +65,8 @@ fn median(mut times: Vec<f64>) -> f64 {
 /// The ratio of the two programs on an input, each less its own time on an empty one in the same round.
 fn row(name: &str, input: &str) -> f64 {
     std::fs::write(INPUT, input).unwrap();
-    let bytes = written(LIBRARY);
+    let library = built::built("tomiter");
+    let bytes = written(&library);
     assert_eq!(
         bytes,
         written(PLAIN),
@@ -73,7 +75,7 @@ fn row(name: &str, input: &str) -> f64 {
     assert!(bytes.starts_with(b"p cnf"), "{name}: refused");
     let (mut whole, mut job) = ([vec![], vec![]], [vec![], vec![]]);
     for _ in 0..ROUNDS {
-        for (side, program) in [LIBRARY, PLAIN].into_iter().enumerate() {
+        for (side, program) in [library.as_str(), PLAIN].into_iter().enumerate() {
             let (start, all) = (time(program, EMPTY), time(program, INPUT));
             whole[side].push(all);
             job[side].push(all - start);

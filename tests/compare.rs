@@ -2,6 +2,7 @@
 //! long, and compares every byte that they write with the rules, which are written once more here. The
 //! argument is the seed, where another than the fixed one is wanted.
 
+mod built;
 #[allow(dead_code)]
 mod files;
 #[allow(dead_code)]
@@ -19,8 +20,6 @@ use std::collections::BTreeMap;
 use std::process::Command;
 
 const SEED: u64 = 20_260_116;
-const COMPARE: &str = "target/bin/compare";
-const CHECK_INPUT: &str = "target/bin/check_input";
 const MOST_BYTES: usize = 262_144;
 const MOST_WORDS: usize = 262_144;
 const MOST_SWEPT: u64 = 16;
@@ -137,6 +136,8 @@ fn checked(first: &[u8], second: &[u8], state: &str) -> (String, String) {
 // ---- the programs
 
 struct Seen {
+    compare: String,
+    check_input: String,
     cases: u64,
     kinds: BTreeMap<String, u64>,
     folder: std::path::PathBuf,
@@ -168,12 +169,12 @@ impl Seen {
 
     fn compare(&mut self, first: &[u8], second: &[u8]) {
         self.put(first, second);
-        self.run(COMPARE, &[], compared(first, second));
+        self.run(&self.compare.clone(), &[], compared(first, second));
     }
 
     fn check(&mut self, first: &[u8], second: &[u8], state: &str) {
         self.put(first, second);
-        self.run(CHECK_INPUT, &[state], checked(first, second, state));
+        self.run(&self.check_input.clone(), &[state], checked(first, second, state));
     }
 }
 
@@ -271,12 +272,12 @@ fn check_all(random: &mut Random, seen: &mut Seen) {
 }
 
 /// A file that cannot be read is told by its name, on both outputs.
-fn check_unread() {
-    for (program, words) in [(COMPARE, &["/nonexistent/one", "/dev/null"][..]), (COMPARE, &["/dev/null", "/"][..]), (COMPARE, &[][..]), (CHECK_INPUT, &["/dev/null"][..])] {
+fn check_unread(compare: &str, check_input: &str) {
+    for (program, words) in [(compare, &["/nonexistent/one", "/dev/null"][..]), (compare, &["/dev/null", "/"][..]), (compare, &[][..]), (check_input, &["/dev/null"][..])] {
         let output = Command::new(program).args(words).output().expect("the program runs");
         assert!(output.stdout == b"failed\n" && !output.stderr.is_empty(), "{program} {words:?}: not told");
     }
-    let output = Command::new(COMPARE).args(["/dev/null", "/nonexistent/two"]).output().expect("the program runs");
+    let output = Command::new(compare).args(["/dev/null", "/nonexistent/two"]).output().expect("the program runs");
     assert!(String::from_utf8_lossy(&output.stderr).contains("/nonexistent/two"));
 }
 
@@ -287,9 +288,10 @@ fn main() {
     };
     let folder = std::env::temp_dir().join(format!("compare-{}", std::process::id()));
     std::fs::create_dir(&folder).expect("a folder");
-    let mut seen = Seen { cases: 0, kinds: BTreeMap::new(), folder };
+    let (compare, check_input) = (built::built("compare"), built::built("check_input"));
+    check_unread(&compare, &check_input);
+    let mut seen = Seen { compare, check_input, cases: 0, kinds: BTreeMap::new(), folder };
     check_all(&mut Random::new(seed), &mut seen);
-    check_unread();
     std::fs::remove_dir_all(&seen.folder).expect("the folder goes");
     let mut wanted: Vec<String> = ["equal, reduction", "equal, sweep", "differ", "clauses", "refused 8, file 0", "refused 10, file 0", "check: agree", "check: differ", "check: refused 9"].map(String::from).to_vec();
     for file in 1..=2 {

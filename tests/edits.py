@@ -35,9 +35,35 @@ pub fn limited(x: u64) -> u64
     if x < LIMIT { double(x) } else { LIMIT }
 }
 """,
-    "specs/Rules.antt": "pub twice : ℕ → ℕ\ntwice x = 2 * x\n\npub thrice : ℕ → ℕ\nthrice x = 3 * x\n",
+    "specs/Rules.antt": "pub twice : ℕ → ℕ\ntwice x = 2 * x\n\npub thrice : ℕ → ℕ\nthrice x = 3 * x\n\npub data Side : Type 0 where\n  left right : Side\n",
     "proofs/double/Proof.antt": "use Rattle.demo.proofs.double.Tie as tie\n\nreturns : tie.Need-returns\nreturns c = refl\n",
     "proofs/triple/Proof.antt": "use Rattle.demo.proofs.triple.Tie as tie\n\nreturns : tie.Need-returns\nreturns c = refl\n",
+    "specs/Uses.antt": "pub first : ℕ\nfirst = 1\n\nuse Rattle.demo.specs.Rules.{twice}\n\npub second : ℕ\nsecond = twice 1\n",
+    "proofs/Blocks.antt": """use Rattle.demo.specs.Rules.{twice, thrice as three, right}
+use Rattle.demo.specs.Uses.{second}
+
+module _ (x : ℕ)
+    (y : ℕ) where -- two numbers
+  pub inner : three x ≡ three x
+  inner = refl
+
+  module _ (z : ℕ) where
+    pub deep : three x ≡ three x
+    deep = inner
+
+module _ (h : twice 1 ≡ 2) where
+    pub given : 1 ≡ 1
+    given = refl
+
+pub outer : three 1 ≡ three 1
+outer = deep 1 1 1
+
+pub side : right ≡ right
+side = refl
+
+pub two : second ≡ 2
+two = refl
+""",
     "proofs/Laws.antt": "use Rattle.demo.specs.Rules.{twice, thrice}\n\npub even : (x : ℕ) → twice x % 2 ≡ 0\neven x = refl\n\npub third : (x : ℕ) → thrice x % 3 ≡ 0\nthird x = refl\n\npub sixth : (x : ℕ) → twice (thrice x) % 6 ≡ 0\nsixth x = even (third x)\n\npub other : 1 ≡ 1\nother = refl\n",
 }
 
@@ -47,6 +73,8 @@ TRIPLE = "# wrong: x = 1\n# refused: proofs/triple/Proof.antt returns\nfile: src
 LIMITED = "# wrong: x = 7\n# refused: demo::limited returns\nfile: src/lib.rt\nold: if x < LIMIT {\nnew: if x <= LIMIT {\n"
 LAW = "# refused: proofs/Laws.antt even\nfile: specs/Rules.antt\nold: twice x = 2 * x\nnew: twice x = 3 * x\n"
 THIRD = "# refused: proofs/Laws.antt third\nfile: specs/Rules.antt\nold: thrice x = 3 * x\nnew: thrice x = 4 * x\n"
+IMPORT = "# refused: proofs/Blocks.antt two\nfile: specs/Uses.antt\nold: {twice}\nnew: {thrice}\n"
+SIDE = "# refused: proofs/Blocks.antt side\nfile: specs/Rules.antt\nold:   left right : Side\nnew:   left right more : Side\n"
 CONTRACT = "# wrong: x = 1\n# refused: proofs/double/Proof.antt returns\nfile: src/lib.rt\nold: ⌜ r ≡ twice x ⌝\nnew: ⌜ r ≡ thrice x ⌝\n"
 CONSTANT = "# wrong: x = 7\n# refused: demo::limited returns\nfile: src/lib.rt\nold: LIMIT: u64 = 7;\nnew: LIMIT: u64 = 8;\n"
 
@@ -67,6 +95,7 @@ AT_DOUBLE = error("proofs/double/Proof.antt", "returns")
 AT_TRIPLE = error("proofs/triple/Proof.antt", "returns")
 AT_LIMITED = need("demo::limited", "returns")
 AT_LAW = error("proofs/Laws.antt", "even")
+AT_SIDE = error("proofs/Blocks.antt", "side")
 AT_THIRD = error("proofs/Laws.antt", "third")
 AT_SIXTH = error("proofs/Laws.antt", "sixth")
 
@@ -96,6 +125,12 @@ CASES = [
     ("two edits of definitions, at a fact that both reach", group(one=LAW, two=THIRD.replace("Laws.antt third", "Laws.antt sixth")), AT_LAW + AT_SIXTH, 1, "one reaches proofs/Laws.antt sixth, which two names"),
     ("two edits of definitions, a fact that both reach refused before", group(one=LAW, two=THIRD), AT_LAW + AT_SIXTH + AT_THIRD, 1, "demo/two: FAILED: it names proofs/Laws.antt third; the log's first is proofs/Laws.antt sixth"),
     ("an edit of a definition, with an error at a fact of that file that it does not reach", group(one=LAW, two=TRIPLE), AT_LAW + AT_TRIPLE + error("proofs/Laws.antt", "other"), 1, "an error that none of its edits reaches, at proofs/Laws.antt other"),
+    ("an edit of a definition, at a fact inside a module, by another name", group(one=LAW, two=THIRD.replace("Laws.antt third", "Blocks.antt inner")), AT_LAW + error("proofs/Blocks.antt", "inner"), 0, "2 refused"),
+    ("an edit of a definition, through a fact inside a module", group(one=LAW, two=THIRD.replace("Laws.antt third", "Blocks.antt outer")), AT_LAW + error("proofs/Blocks.antt", "outer"), 0, "2 refused"),
+    ("an edit of a definition, by the header of a module", group(one=LAW.replace("Laws.antt even", "Blocks.antt given"), two=TRIPLE), error("proofs/Blocks.antt", "given") + AT_TRIPLE, 0, "2 refused"),
+    ("an edit of a definition, with an error inside a module where it does not reach", group(one=LAW, two=TRIPLE), AT_LAW + AT_TRIPLE + error("proofs/Blocks.antt", "deep"), 1, "an error that none of its edits reaches, at proofs/Blocks.antt deep"),
+    ("an edit of one of two constructors on a line", group(one=SIDE, two=LAW), AT_SIDE + AT_LAW, 0, "2 refused"),
+    ("an edit of an import after a declaration", group(one=IMPORT, two=TRIPLE), error("proofs/Blocks.antt", "two") + AT_TRIPLE, 0, "2 refused"),
     ("an edit of a contract beside one of a caller", group(one=CONTRACT, two=LIMITED), AT_DOUBLE + AT_LIMITED, 1, "one reaches demo::limited returns, which two names"),
     ("an edit of a constant beside one of another function", group(one=CONSTANT, two=TRIPLE), AT_LIMITED + AT_TRIPLE, 0, "2 refused"),
     ("an edit that does not reach the place that it names", group(one=DOUBLE.replace("proofs/double/Proof.antt", "proofs/Laws.antt"), two=TRIPLE), AT_LAW + AT_TRIPLE, 1, "does not reach proofs/Laws.antt returns"),
@@ -105,18 +140,26 @@ CASES = [
 ]
 
 
+# Files that the script cannot read well, and what it says of them.
+UNREAD = [
+    ("a module without declarations", {"proofs/Blocks.antt": "module _ (x : ℕ) where\npub outer : 1 ≡ 1\nouter = refl\n"}, "proofs/Blocks.antt has a module without declarations"),
+    ("a header without its end", {"proofs/Blocks.antt": "module _ (x : ℕ)\n    (y : ℕ)\n"}, "or a header without its end"),
+    ("names that are passed on", {"proofs/Blocks.antt": "pub use Rattle.demo.specs.Rules.{twice}\n", "proofs/More.antt": "use Rattle.demo.proofs.Blocks.{twice}\n"}, "proofs/More.antt imports from proofs/Blocks.antt, which passes on names"),
+]
+
+
 def write(path, text):
     os.makedirs(os.path.dirname(path), exist_ok=True)
     with open(path, "w", encoding="utf-8") as file:
         file.write(text)
 
 
-def run(edits, log):
+def run(edits, log, files):
     """What .ci/edits answers for one file of edits and its log."""
     with tempfile.TemporaryDirectory() as top:
         os.makedirs(os.path.join(top, ".ci"))
         shutil.copy(os.path.join(TOP, ".ci", "edits"), os.path.join(top, ".ci", "edits"))
-        for path, text in FILES.items():
+        for path, text in files.items():
             write(os.path.join(top, "crates", "demo", path), text)
         write(os.path.join(top, "crates", "demo", "must-fail", "tried.edit"), edits)
         verdict = "logic=proved functions=3\n" if log is None else log + "logic=not-proved functions=3\n"
@@ -126,12 +169,14 @@ def run(edits, log):
 
 def main():
     failed = 0
-    for name, edits, log, status, part in CASES:
-        answer = run(edits, log)
+    cases = [(*case, FILES) for case in CASES]
+    cases += [(name, group(one=DOUBLE, two=TRIPLE), AT_DOUBLE + AT_TRIPLE, 1, part, FILES | files) for name, files, part in UNREAD]
+    for name, edits, log, status, part, files in cases:
+        answer = run(edits, log, files)
         if answer.returncode != status or part not in answer.stdout:
             failed += 1
             print(f"edits test: {name}: FAILED: status {answer.returncode}, expected {status} and '{part}':\n{answer.stdout}{answer.stderr}")
-    print(f"edits test: {len(CASES) - failed} cases as they must be, {failed} not")
+    print(f"edits test: {len(cases) - failed} cases as they must be, {failed} not")
     return 1 if failed else 0
 
 

@@ -4,6 +4,7 @@
 //! a simulation. The argument is the seed, where another than the fixed one is wanted. The script
 //! ./tomiter has its own test, tests/scripts.
 
+mod built;
 #[allow(dead_code)]
 mod files;
 #[allow(dead_code)]
@@ -123,13 +124,6 @@ fn answer(input: &[u8]) -> (Vec<u8>, String) {
             format!("refused {number}, file {file}"),
         ),
     }
-}
-
-/// The file of the program, built where it has to be.
-fn program() -> String {
-    let built = Command::new("scripts/build").arg("tomiter").output().expect("scripts/build");
-    assert!(built.status.success(), "{built:?}");
-    String::from_utf8(built.stdout).expect("a file").trim_end().to_string()
 }
 
 /// How often each outcome occurred.
@@ -333,7 +327,7 @@ fn main() {
         None => SEED,
     };
     let mut seen = Seen {
-        program: program(),
+        program: built::built("tomiter"),
         cases: 0,
         outcomes: BTreeMap::new(),
     };
