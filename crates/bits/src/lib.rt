@@ -1,4 +1,5 @@
 // Laws on the binary digits of numbers and on lists, for the crates above.
+#![tactic(auto)]
 
 ghost use Rattle.bits.specs.Laws.{DigitLaws};
 

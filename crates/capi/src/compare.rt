@@ -9,7 +9,7 @@ use checking::compare::{DifferenceAnswer, DiffersAnswer, RefusalAnswer};
 use circuit::gate::Gate;
 
 #[repr(C)]
-#[derive(Drop)]
+#[derive(Clone, Copy)]
 pub struct CascadeStateAnswer {
     pub number: u64,
     pub place: u64,
@@ -18,7 +18,7 @@ pub struct CascadeStateAnswer {
 }
 
 #[repr(C)]
-#[derive(Drop)]
+#[derive(Clone, Copy)]
 pub struct CascadeDiffersAnswer {
     pub number: u64,
     pub place: u64,
@@ -26,7 +26,7 @@ pub struct CascadeDiffersAnswer {
 }
 
 #[repr(C)]
-#[derive(Drop)]
+#[derive(Clone, Copy)]
 pub struct CascadeFewerAnswer {
     pub number: u64,
     pub place: u64,

@@ -7,7 +7,7 @@ ghost use Rattle.capi.specs.Count.{count_answer};
 use circuit::words::CountAnswer;
 
 #[repr(C)]
-#[derive(Drop)]
+#[derive(Clone, Copy)]
 pub struct CascadeCountAnswer {
     pub number: u64,
     pub place: u64,

@@ -8,7 +8,7 @@ ghost use Rattle.capi.specs.File.{read_answer, write_answer};
 use circuit::file::{ReadAnswer, WriteAnswer};
 
 #[repr(C)]
-#[derive(Drop)]
+#[derive(Clone, Copy)]
 pub struct CascadeReadAnswer {
     pub number: u64,
     pub place: u64,
@@ -18,7 +18,7 @@ pub struct CascadeReadAnswer {
 }
 
 #[repr(C)]
-#[derive(Drop)]
+#[derive(Clone, Copy)]
 pub struct CascadeWriteAnswer {
     pub number: u64,
     pub place: u64,

@@ -1,4 +1,5 @@
 // The C interface: each call of include/cascade.h, over the call of the same name.
+#![tactic(auto)]
 pub mod compare;
 pub mod count;
 pub mod emit;

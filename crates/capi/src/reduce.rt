@@ -9,7 +9,7 @@ use checking::reduce::ReduceAnswer;
 use circuit::gate::Gate;
 
 #[repr(C)]
-#[derive(Drop)]
+#[derive(Clone, Copy)]
 pub struct CascadeReduceAnswer {
     pub number: u64,
     pub place: u64,

@@ -8,7 +8,7 @@ use circuit::gate::Gate;
 use circuit::run::RunAnswer;
 
 #[repr(C)]
-#[derive(Drop)]
+#[derive(Clone, Copy)]
 pub struct CascadeRunAnswer {
     pub number: u64,
     pub place: u64,

@@ -9,7 +9,7 @@ use checking::clauses::{SizesAnswer, Totals};
 use circuit::refusal::Refusal;
 
 #[repr(C)]
-#[derive(Drop)]
+#[derive(Clone, Copy)]
 pub struct CascadeSizesAnswer {
     pub number: u64,
     pub place: u64,

@@ -11,7 +11,7 @@ use checking::step::{Kind, StepAnswer};
 use circuit::gate::Gate;
 
 #[repr(C)]
-#[derive(Drop)]
+#[derive(Clone, Copy)]
 pub struct CascadeStepAnswer {
     pub number: u64,
     pub place: u64,

@@ -1,4 +1,5 @@
 // Gives the input that its third argument spells to the cascades of the two files that the others name, and writes whether they differ on it, with both outputs, or a refusal. Where a file could not be read, writes `failed`. Says on standard error why it could not read or not write all.
+#![tactic(auto)]
 
 ghost use Rattle.std.specs.Prelude.{◌≤◌, length};
 ghost use Rattle.bits.specs.Lists.{Put};

@@ -1,4 +1,5 @@
 // From two cascades to clauses, with lists of calls on their miter: for each the answer and then the miter's buffer.
+#![tactic(auto)]
 
 use checking::clauses::{ClauseWord, EmitAnswer};
 

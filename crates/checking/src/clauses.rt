@@ -15,7 +15,7 @@ use circuit::words::CountAnswer;
 pub type ClauseWord = i16;
 
 // The variables, clauses and words of a clause list.
-#[derive(Drop)]
+#[derive(Clone, Copy)]
 pub struct Totals {
     pub variables: u64,
     pub clauses: u64,
@@ -23,14 +23,14 @@ pub struct Totals {
 }
 
 // What the sizes of a cascade are, or a refusal.
-#[derive(Drop)]
+#[derive(Clone, Copy)]
 pub enum SizesAnswer {
     Sizes(Totals),
     Refused(Refusal),
 }
 
 // What an emission tells: the totals of its clause list, or a refusal.
-#[derive(Drop)]
+#[derive(Clone, Copy)]
 pub enum EmitAnswer {
     Totals(Totals),
     Refused(Refusal),

@@ -11,7 +11,7 @@ use circuit::refusal::Refusal;
 use circuit::words::PairAnswer;
 
 // The lowest state on which two cascades differ (01: sweep), none, or a refusal.
-#[derive(Drop)]
+#[derive(Clone, Copy)]
 pub enum DifferenceAnswer {
     State(u64),
     Nothing,
@@ -19,7 +19,7 @@ pub enum DifferenceAnswer {
 }
 
 // Whether two cascades differ on a state (01: input check), or a refusal.
-#[derive(Drop)]
+#[derive(Clone, Copy)]
 pub enum DiffersAnswer {
     Differ,
     Agree,
@@ -27,7 +27,7 @@ pub enum DiffersAnswer {
 }
 
 // Why a call is refused, or nothing.
-#[derive(Drop)]
+#[derive(Clone, Copy)]
 pub enum RefusalAnswer {
     Nothing,
     Refused(Refusal),

@@ -13,7 +13,7 @@ use crate::clauses::ClauseWord;
 use circuit::gate::Gate;
 
 // Words written and variables numbered so far.
-#[derive(Drop)]
+#[derive(Clone, Copy)]
 pub(crate) struct Front {
     at: usize,
     used: u64,

@@ -1,4 +1,5 @@
 // Miter, steps and reductions; the clause list of a cascade, its emission, and demand 3; comparison and faults.
+#![tactic(auto)]
 
 ghost use Rattle.checking.specs.Laws.{CheckingLaws};
 

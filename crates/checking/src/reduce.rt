@@ -13,7 +13,7 @@ use circuit::refusal::Refusal;
 use circuit::words::CountAnswer;
 
 // The gates left, the pairs and the merges (drops and turns).
-#[derive(Drop)]
+#[derive(Clone, Copy)]
 pub struct Reduction {
     pub gates: usize,
     pub pairs: usize,
@@ -21,7 +21,7 @@ pub struct Reduction {
 }
 
 // The same, or a refusal.
-#[derive(Drop)]
+#[derive(Clone, Copy)]
 pub enum ReduceAnswer {
     Reduced(Reduction),
     Refused(Refusal),

@@ -14,7 +14,7 @@ use circuit::refusal::Refusal;
 use circuit::words::CountAnswer;
 
 // Which match it was (01: pair, drop, turn).
-#[derive(Drop)]
+#[derive(Clone, Copy)]
 pub enum Kind {
     Cancel,
     RemoveControl,
@@ -22,7 +22,7 @@ pub enum Kind {
 }
 
 // A match, with the gate that remains.
-#[derive(Drop)]
+#[derive(Clone, Copy)]
 pub enum Match {
     Cancel,
     RemoveControl(Gate),
@@ -30,21 +30,21 @@ pub enum Match {
 }
 
 // Whether two gates match.
-#[derive(Drop)]
+#[derive(Clone, Copy)]
 pub enum Verdict {
     Apart,
     Matched(Match),
 }
 
 // The places of two gates that match, and the match; or nothing.
-#[derive(Drop)]
+#[derive(Clone, Copy)]
 pub enum Search {
     At { i: usize, j: usize, by: Match },
     Nothing,
 }
 
 // What a step did: the places, which match it was and the number of gates left.
-#[derive(Drop)]
+#[derive(Clone, Copy)]
 pub struct Stepped {
     pub i: usize,
     pub j: usize,
@@ -53,7 +53,7 @@ pub struct Stepped {
 }
 
 // The same, or nothing, or a refusal.
-#[derive(Drop)]
+#[derive(Clone, Copy)]
 pub enum StepAnswer {
     Found(Stepped),
     Nothing,

@@ -20,13 +20,13 @@ pub mod put;
 pub mod scan;
 
 // What the first line of a file says.
-#[derive(Drop)]
+#[derive(Clone, Copy)]
 pub struct Header {
     pub lines: u64,
 }
 
 // A cascade that was read, its number of gates and the bytes that it took; or a refusal.
-#[derive(Drop)]
+#[derive(Clone, Copy)]
 pub enum ReadAnswer {
     Cascade {
         header: Header,
@@ -37,7 +37,7 @@ pub enum ReadAnswer {
 }
 
 // The number of bytes that were written, or a refusal.
-#[derive(Drop)]
+#[derive(Clone, Copy)]
 pub enum WriteAnswer {
     Bytes(usize),
     Refused(Refusal),

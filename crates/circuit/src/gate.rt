@@ -6,7 +6,7 @@ ghost use Rattle.bits.specs.Digits.{bit};
 ghost use Rattle.circuit.specs.Gate.{max_lines, not_gate, fires, apply, missed, toggled, valid, control_count};
 
 #[repr(C)]
-#[derive(Drop)]
+#[derive(Clone, Copy)]
 pub struct Gate {
     pub positive: u64,
     pub negative: u64,

@@ -1,4 +1,5 @@
 // Gates and cascades of reversible circuits, and cascade files.
+#![tactic(auto)]
 
 ghost use Rattle.circuit.specs.Laws.{CircuitLaws};
 

@@ -12,7 +12,7 @@ use crate::refusal::Refusal;
 use crate::words::CountAnswer;
 
 // The output state, or a refusal.
-#[derive(Drop)]
+#[derive(Clone, Copy)]
 pub enum RunAnswer {
     State(u64),
     Refused(Refusal),

@@ -8,14 +8,14 @@ use crate::gate::Gate;
 use crate::refusal::Refusal;
 
 // A number of gates, or a refusal.
-#[derive(Drop)]
+#[derive(Clone, Copy)]
 pub enum CountAnswer {
     Gates(usize),
     Refused(Refusal),
 }
 
 // The numbers of gates of two cascades, or a refusal.
-#[derive(Drop)]
+#[derive(Clone, Copy)]
 pub enum PairAnswer {
     Gates { first: usize, second: usize },
     Refused(Refusal),

@@ -1,4 +1,5 @@
 // Runs of rows on gates and cascades: a line for each, with the state or the refusal's number and place.
+#![tactic(auto)]
 
 use circuit::run::RunAnswer;
 use circuit::words::CountAnswer;

@@ -1,4 +1,5 @@
 // Compares the cascades of the two files that its arguments name, and writes the verdict, clauses for a solver, or a refusal. Where a file could not be read, writes `failed`. Says on standard error why it could not read or not write all.
+#![tactic(auto)]
 
 ghost use Rattle.std.specs.Prelude.{◌≤◌, length};
 ghost use Rattle.bits.specs.Lists.{Put};

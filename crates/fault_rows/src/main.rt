@@ -1,4 +1,5 @@
 // Faults and differences of the network 3_17: a line for each answer, and a line for the masks.
+#![tactic(auto)]
 
 use checking::compare::{DifferenceAnswer, DiffersAnswer};
 use circuit::words::CountAnswer;

@@ -1,4 +1,5 @@
 // Runs of rows on cascade files: a line for each, with what was read or the refusal's number and place.
+#![tactic(auto)]
 
 ghost use Rattle.std.specs.Prelude.{◌≤◌, length};
 

@@ -1,4 +1,5 @@
 // Runs of rows over lists of gate records: a line for each, with the state or the refusal's number and place.
+#![tactic(auto)]
 
 ghost use Rattle.std.specs.Prelude.{◌≡◌, ◌≤◌, take};
 ghost use Rattle.circuit.specs.Run.{of_run, records_outcome};

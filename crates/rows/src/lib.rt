@@ -1,4 +1,5 @@
 // What the programs of rows print.
+#![tactic(auto)]
 
 use libc::STDOUT_FILENO;
 

@@ -1,9 +1,10 @@
 // Reading to the end of an input, where an error is told apart from the end; writing to standard output; telling that a program failed.
+#![tactic(auto)]
 
 ghost use Rattle.streams.specs.Reading.{Inside};
 
 // So many bytes at the buffer's start, or an error, whose reason errno has.
-#[derive(Drop)]
+#[derive(Clone, Copy)]
 pub enum Reading {
     Bytes(usize),
     Failed,

@@ -17,7 +17,7 @@ use circuit::refusal::Refusal;
 use circuit::words::CountAnswer;
 
 // Equal, by the reduction or by the sweep; a state on which two cascades differ, and their outputs; the totals of a clause list that stands in the lent room; or a refusal with its file.
-#[derive(Drop)]
+#[derive(Clone, Copy)]
 pub enum ComparedAnswer {
     Reduction,
     Sweep,

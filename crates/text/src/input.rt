@@ -17,14 +17,14 @@ use crate::pair::FilesAnswer;
 use circuit::refusal::Refusal;
 
 // The state that a text spells, or nothing.
-#[derive(Drop)]
+#[derive(Clone, Copy)]
 pub enum StateAnswer {
     State(u64),
     Nothing,
 }
 
 // The lines of two cascades and their outputs on a state; or a refusal with its file.
-#[derive(Drop)]
+#[derive(Clone, Copy)]
 pub enum CheckedAnswer {
     Outputs { lines: u64, first: u64, second: u64 },
     Refused { why: Refusal, file: u64 },

@@ -1,4 +1,5 @@
 // The text of a clause list, and the program's whole job on slices.
+#![tactic(auto)]
 
 ghost use Rattle.text.specs.Tomiter.{WritesText};
 ghost use Rattle.std.specs.Prelude.{◌≡◌, length};
@@ -22,7 +23,7 @@ mod put;
 mod stored;
 
 // The number of bytes that were written, or a refusal.
-#[derive(Drop)]
+#[derive(Clone, Copy)]
 pub enum TextAnswer {
     Bytes(usize),
     Refused(Refusal),

@@ -12,7 +12,7 @@ use circuit::gate::Gate;
 use circuit::refusal::Refusal;
 
 // The totals of a clause list that stands in the clause buffer; or a refusal with its file, 1, 2, or 0 for both.
-#[derive(Drop)]
+#[derive(Clone, Copy)]
 pub enum ListAnswer {
     Listed(Totals),
     Refused { why: Refusal, file: u64 },

@@ -11,14 +11,14 @@ use circuit::gate::Gate;
 use circuit::refusal::Refusal;
 
 // The lines of a cascade and the number of its words, which stand in the lent room; or a refusal.
-#[derive(Drop)]
+#[derive(Clone, Copy)]
 pub enum WholeAnswer {
     Cascade { lines: u64, words: usize },
     Refused(Refusal),
 }
 
 // The lines of two cascades and the number of each one's words, which stand in the lent rooms; or a refusal with its file, 1, 2, or 0 for both.
-#[derive(Drop)]
+#[derive(Clone, Copy)]
 pub enum FilesAnswer {
     Cascades {
         lines: u64,

@@ -13,7 +13,7 @@ ghost use Rattle.text.specs.private.Words.{both_ors, plain_record, Plainable, St
 use checking::clauses::ClauseWord;
 
 // The bytes of a text, and the clauses in it.
-#[derive(Drop)]
+#[derive(Clone, Copy)]
 pub struct PlainSizes {
     pub bytes: usize,
     pub clauses: u64,

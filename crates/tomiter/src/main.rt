@@ -1,4 +1,5 @@
 // Reads two cascade files from standard input, one after the other, and writes the clauses that tell whether they differ, or a refusal. Where the input could not be read, writes `failed`. Says on standard error why it could not read or not write all.
+#![tactic(auto)]
 
 ghost use Rattle.std.specs.Prelude.{◌≤◌, length};
 ghost use Rattle.bits.specs.Lists.{Put};

@@ -13,7 +13,7 @@ use crate::file::scan::Numeral;
 use crate::gate::Gate;
 
 // A gate and the position after its line.
-#[derive(Drop)]
+#[derive(Clone, Copy)]
 pub struct GateRead {
     pub gate: Gate,
     pub next: usize,

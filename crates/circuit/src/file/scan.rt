@@ -17,21 +17,21 @@ const LINE_FEED: u64 = 10;
 const NO_NUMBER: u64 = 100;
 
 // The number in a field, or 100, and the position after the field.
-#[derive(Drop)]
+#[derive(Clone, Copy)]
 pub struct Numeral {
     pub value: u64,
     pub next: usize,
 }
 
 // A line of the cascade and the position after its field, or a refusal.
-#[derive(Drop)]
+#[derive(Clone, Copy)]
 pub enum LineAnswer {
     Line { line: u64, next: usize },
     Refused(Refusal),
 }
 
 // A control and the position after its field, or a refusal.
-#[derive(Drop)]
+#[derive(Clone, Copy)]
 pub enum ControlAnswer {
     Control {
         line: u64,
@@ -42,21 +42,21 @@ pub enum ControlAnswer {
 }
 
 // The position after a gate line, or a refusal.
-#[derive(Drop)]
+#[derive(Clone, Copy)]
 pub enum GateAnswer {
     Next(usize),
     Refused(Refusal),
 }
 
 // A line count and the position after its line, or a refusal.
-#[derive(Drop)]
+#[derive(Clone, Copy)]
 pub enum HeaderAnswer {
     Lines { lines: u64, next: usize },
     Refused(Refusal),
 }
 
 // What the controls of a gate line come to: the lowest line that may follow, whether they rise, and whether the target is apart.
-#[derive(Drop)]
+#[derive(Clone, Copy)]
 pub struct Seen {
     pub low: u64,
     pub rising: bool,
