@@ -1,3 +1,2 @@
--- For proofs by hand, also in the crates above: `Answers` has what they need of `RunAnswer`, and `Calls` of a call of `run_records`.
+-- For proofs by hand, also in the crates above: `Answers` has what they need of `RunAnswer`.
 pub mod Answers
-pub mod Calls

@@ -1,0 +1,10 @@
+-- `circuit::file::judge` meets its contract. The loop's invariant: the lines that were passed gave gates, and what is left of the text decides. Assumes nothing.
+use Rattle.std.proofs.Common.{◌-◌, length}
+use Rattle.circuit.proofs.lemmas.file.Steps.{Judging}
+use Rattle.circuit.proofs.file.judge.Given as goal
+
+abbrev pub invariant-loop-why : goal.invariant-loop-why
+invariant-loop-why l = Judging l.n l.first l.text l.start l.at l.gates
+
+abbrev pub decreases-loop-why : goal.decreases-loop-why
+decreases-loop-why l = length l.text - l.at

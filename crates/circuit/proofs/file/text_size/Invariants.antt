@@ -1,0 +1,10 @@
+-- `circuit::file::text_size` meets its contract. The loop's invariant: the lines that were passed are counted. Assumes nothing.
+use Rattle.std.proofs.Common.{◌-◌}
+use Rattle.circuit.proofs.lemmas.file.Writes.{Sizing}
+use Rattle.circuit.proofs.file.text_size.Given as goal
+
+abbrev pub invariant-loop-i : goal.invariant-loop-i
+invariant-loop-i l = Sizing l.n l.words l.size l.i
+
+abbrev pub decreases-loop-i : goal.decreases-loop-i
+decreases-loop-i l = l.gates - l.i
