@@ -1,0 +1,56 @@
+-- `checking::clauses::list_sizes` meets its contract.
+use Rattle.std.proofs.Common.{◌≡◌, ℕ, ◌+◌, ◌-◌, ◌/◌, ◌≤◌, true, length, sym, ap, ◌∙◌, subst, arith}
+use borrow.Author.Tests.{not-true, not-false}
+use Rattle.circuit.specs.Gate.{max_lines, valid}
+use Rattle.circuit.specs.Outcome.{served}
+use Rattle.circuit.proofs.Promises.{why, then_refused, valid_facts, next_bad}
+use Rattle.checking.proofs.lemmas.clauses.Loop.{one_more, controls_more, controls_few, Summed, summed_start, summed_next, summed, summed_all}
+use Rattle.checking.proofs.clauses.list_sizes.Goals as goal
+use Rattle.checking.proofs.clauses.list_sizes.Goals.{After-control_count-k, Else-not-valid}
+
+pub loop-i-init : goal.loop-i-init
+loop-i-init c = summed_start c.args.n c.args.words.now
+
+pub returns-then-not-valid : goal.returns-then-not-valid
+returns-then-not-valid c =
+    why c.no_gate.ensures
+    ∙ sym (then_refused _ _ _ _
+    (c.loop-i.invariant.tested ∙ next_bad _ _ _ _ (omega arith) c.gate_at-g.ensures (sym c.valid.ensures ∙ not-true _ c.if-not-valid.true-raw)))
+
+-- the gate of this turn is valid, and so has at most 64 controls
+good : (c : Else-not-valid) → valid c.args.n c.gate_at-g.result ≡ true
+good c = sym c.valid.ensures ∙ not-false _ c.if-not-valid.false-raw
+
+few : (c : After-control_count-k) → c.control_count-k.result ≤ max_lines
+few c =
+    let good : valid c.args.n c.gate_at-g.result ≡ true = sym c.valid.ensures ∙ not-false _ c.if-not-valid.false-raw in
+    subst (λ (k : ℕ). k ≤ max_lines) (sym c.control_count-k.ensures) (controls_few _ c.gate_at-g.result c.requires.n_le_max_lines (good))
+
+pub overflow_add-variables : goal.overflow_add-variables
+overflow_add-variables c = omega (arith, one_more c.control_count-k.result c.extra_variables-variables.result c.extra_variables-variables.ensures)
+
+pub overflow_add-clauses : goal.overflow_add-clauses
+overflow_add-clauses c =
+    omega (arith, few (goal.at.overflow_add-clauses c).After-control_count-k, controls_more c.control_count-k.result c.extra_clauses-clauses.result c.extra_clauses-clauses.ensures)
+
+pub overflow_add-controls : goal.overflow_add-controls
+overflow_add-controls c = omega (arith, few (goal.at.overflow_add-controls c).After-control_count-k)
+
+pub with_line-hit-requires : goal.with_line-hit-requires
+with_line-hit-requires c =
+    omega (arith, (valid_facts c.args.n c.gate_at-g.result (good (goal.at.with_line-hit-requires c).Else-not-valid)).target_below, c.requires.n_le_max_lines)
+
+pub loop-i-preserved : goal.loop-i-preserved
+loop-i-preserved c =
+    subst (λ (hit : ℕ). Summed c.args.n c.args.words.now (c.loop-i.variables + c.extra_variables-variables.result) (c.loop-i.clauses + c.extra_clauses-clauses.result) (c.loop-i.controls + c.control_count-k.result) hit (c.loop-i.i + 1))
+    (sym c.with_line-hit.ensures)
+    (summed_next c.args.n c.args.words.now _ _ _ _ _ c.gate_at-g.result c.requires.n_le_max_lines c.loop-i.invariant (omega arith) c.gate_at-g.ensures (good (goal.at.loop-i-preserved c).Else-not-valid) c.control_count-k.result
+    c.extra_variables-variables.result c.extra_clauses-clauses.result c.control_count-k.ensures c.extra_variables-variables.ensures c.extra_clauses-clauses.ensures)
+
+pub overflow_add-result-7 : goal.overflow_add-result-7
+overflow_add-result-7 c = omega (arith, c.count.ensures.1)
+
+pub returns : goal.returns
+returns c =
+    ap (λ (k : ℕ). served (summed c.args.n (length c.args.words.now / 3) c.loop-i.variables c.loop-i.clauses c.loop-i.controls k)) c.count.ensures.0
+    ∙ summed_all c.args.n c.args.words.now _ _ _ c.loop-i.hit c.loop-i.i (omega arith) c.loop-i.invariant
