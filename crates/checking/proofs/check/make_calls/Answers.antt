@@ -17,8 +17,7 @@ pub loop-i-preserved : goal.loop-i-preserved
 loop-i-preserved c =
     let kind : ℕ = get_or c.args.calls.now (2 * c.loop-i.i) 0 in
     let n : ℕ = get_or c.args.calls.now (2 * c.loop-i.i + 1) 0 in
-    let h = call_leaves (call_of kind n) (record { gates = c.loop-i.left; words = c.loop-i.words }) c.loop-i.invariant.1 in
-    (
+    let h = call_leaves (call_of kind n) (record { gates = c.loop-i.left; words = c.loop-i.words }) c.loop-i.invariant.1 in (
       omega arith,
       omega (arith, c.make_call-left.ensures.answer, h.few, c.make_call-left.auto.words),
       c.make_call-left.auto.words ∙ c.loop-i.invariant.2,

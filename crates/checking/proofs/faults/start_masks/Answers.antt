@@ -11,7 +11,10 @@ loop-i-init c = (omega arith, refl, omega (arith, c.requires.words_in_bounds, ga
 
 pub free_lines-free-requires : goal.free_lines-free-requires
 free_lines-free-requires c =
-    (c.requires.n_le_max_lines, valid_next c.args.n c.args.words.now c.loop-i.i _ (omega arith) c.gate_at.ensures c.loop-i.invariant.3)
+    record {
+      n_le_max_lines = c.requires.n_le_max_lines;
+      g_value = valid_next c.args.n c.args.words.now c.loop-i.i _ (omega arith) c.gate_at.ensures c.loop-i.invariant.3;
+    }
 
 pub bounds-out-at-in-loop-i : goal.bounds-out-at-in-loop-i
 bounds-out-at-in-loop-i c = simp length-set (omega arith)

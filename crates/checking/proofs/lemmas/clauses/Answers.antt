@@ -30,8 +30,8 @@ module _ (n : ℕ) (ws : List ℕ) where
   counted_sizes : (t : Totals) → Counted n ws t → sizes_outcome n ws ≡ served t
   unfolding sizes_outcome
   counted_sizes t c =
-      then_served _ _ c.gates (served_check n ws max_miter_gates c.gates c.well_formed)
-      ∙ ap served (sizes_list n (gates_of ws) c.well_formed.lines_high c.well_formed.gates ∙ sym c.sizes)
+      then_served _ _ c.gates (served_check n ws max_miter_gates c.gates c.good)
+      ∙ ap served (sizes_list n (gates_of ws) c.good.lines_high c.good.gates ∙ sym c.sizes)
 
   sizes_wrong : (x y : ℕ) → (sizes_outcome n ws ≡ refused x y) ↔ WordsRefused n ws max_miter_gates x y
   unfolding sizes_outcome

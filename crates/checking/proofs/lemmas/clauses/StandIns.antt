@@ -11,7 +11,7 @@ use Rattle.circuit.specs.Words.{all_valid}
 use Rattle.circuit.specs.Run.{run}
 use Rattle.circuit.proofs.Promises.{valid_append, run_one, run_append, run_below, inverse_valid, valid_none, valid_both}
 use Rattle.checking.specs.Miter.{miter_gates}
-use Rattle.checking.specs.Clauses.{Clause, OR, plus, input_of, moved, gates_clauses, used_after, current_after, targeted, up_from, difference_clauses, variables_of}
+use Rattle.checking.specs.Clauses.{Clause, OR, plus, input_of, used_by, moved, gates_clauses, used_after, current_after, targeted, up_from, difference_clauses, variables_of}
 use Rattle.checking.specs.EqualityLaws.{without_later}
 
 -- NOT on line 0, and with a control on line 1: both have one new variable
@@ -109,12 +109,12 @@ module _ (m : ℕ) where
 used_same : (used : ℕ) (xs : List Gate) → used_after used (xs ++ (free ∷ [])) ≡ used_after used (xs ++ (controlled ∷ []))
 unfolding used_after controls_below bit
 used_same used [] = refl
-used_same used (x ∷ xs) = used_same _ xs
+used_same used (x ∷ xs) = used_same (used_by used x) xs
 
 current_same : (used : ℕ) (current : ℕ → ℕ) (xs : List Gate) (k : ℕ) → current_after used current (xs ++ (free ∷ [])) k ≡ current_after used current (xs ++ (controlled ∷ [])) k
 unfolding current_after moved controls_below bit
 current_same used current [] k = refl
-current_same used current (x ∷ xs) k = current_same _ _ xs k
+current_same used current (x ∷ xs) k = current_same (used_by used x) (moved used current x) xs k
 
 targeted_same : (xs : List Gate) (k : ℕ) → targeted (xs ++ (free ∷ [])) k ≡ targeted (xs ++ (controlled ∷ [])) k
 unfolding targeted

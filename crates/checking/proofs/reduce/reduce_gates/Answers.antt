@@ -13,15 +13,15 @@ use Rattle.checking.proofs.reduce.reduce_gates.Goals.{After-make_step-s}
 less : (m : After-make_step-s) (k : Kind) → of_kind m.make_step-s.result.kind ≡ k → m.make_step-s.result.gates + taken k ≡ m.loop-i.gates
 less m k e =
     ap (λ (x : Kind). m.make_step-s.result.gates + taken x) (sym e)
-    ∙ left_less _ m.loop-i.words m.loop-i.gates m.loop-i.pairs m.loop-i.merges m.loop-i.inv _ _ m.make_step-s.ensures _ _ _ _ refl
+    ∙ left_less _ m.loop-i.words m.loop-i.gates m.loop-i.pairs m.loop-i.merges m.loop-i.invariant _ _ m.make_step-s.ensures _ _ _ _ refl
 
 again : (m : After-make_step-s) (k : Kind) → of_kind m.make_step-s.result.kind ≡ k → (pairs merges : ℕ)
     → pairs ≡ m.loop-i.pairs + pairs_of k
     → merges ≡ m.loop-i.merges + merges_of k
-    → Standing m.before.args.words.now
+    → Standing m.args.words.now
     (put_mid 0 (3 * m.loop-i.gates - 0) m.loop-i.words m.make_step-s.new.words) m.make_step-s.result.gates pairs merges
 again m k e pairs merges p q =
-    onward _ m.loop-i.words m.loop-i.gates m.loop-i.pairs m.loop-i.merges m.loop-i.inv _ _ m.make_step-s.ensures m.make_step-s.result.i m.make_step-s.result.j k m.make_step-s.result.gates
+    onward _ m.loop-i.words m.loop-i.gates m.loop-i.pairs m.loop-i.merges m.loop-i.invariant _ _ m.make_step-s.ensures m.make_step-s.result.i m.make_step-s.result.j k m.make_step-s.result.gates
     (ap (λ (x : Kind). found m.make_step-s.result.i m.make_step-s.result.j x m.make_step-s.result.gates) e) pairs merges p q
 
 pub loop-i-init : goal.loop-i-init
@@ -39,10 +39,10 @@ returns-in-Nothing c =
 
 pub make_step-s-requires : goal.make_step-s-requires
 make_step-s-requires c =
-    (
-      lent_whole _ c.loop-i.words c.loop-i.gates c.loop-i.pairs c.loop-i.merges c.loop-i.invariant,
-      sym c.search_gates.ensures ∙ ap of_search c.in-At.is,
-    )
+    record {
+      words_len = lent_whole _ c.loop-i.words c.loop-i.gates c.loop-i.pairs c.loop-i.merges c.loop-i.invariant;
+      found_at = sym c.search_gates.ensures ∙ ap of_search c.in-At.is;
+    }
 
 pub overflow_add-pairs : goal.overflow_add-pairs
 overflow_add-pairs c = let e = less (goal.at.overflow_add-pairs c).After-make_step-s Kind.pair (ap of_kind c.in-Cancel.is) in omega arith

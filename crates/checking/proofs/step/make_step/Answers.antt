@@ -38,7 +38,12 @@ pub overflow_sub-result-in-RemoveControl : goal.overflow_sub-result-in-RemoveCon
 overflow_sub-result-in-RemoveControl c = let (a, b) = inside (goal.at.overflow_sub-result-in-RemoveControl c).Start in omega arith
 
 pub merge_pair-requires-in-InvertControl : goal.merge_pair-requires-in-InvertControl
-merge_pair-requires-in-InvertControl c = ((inside (goal.at.merge_pair-requires-in-InvertControl c).Start).0, ((inside (goal.at.merge_pair-requires-in-InvertControl c).Start).1, c.requires.words_len))
+merge_pair-requires-in-InvertControl c =
+    record {
+      i_lt_j = (inside (goal.at.merge_pair-requires-in-InvertControl c).Start).0;
+      j_in_bounds = (inside (goal.at.merge_pair-requires-in-InvertControl c).Start).1;
+      words_len = c.requires.words_len;
+    }
 
 pub overflow_sub-result-in-InvertControl : goal.overflow_sub-result-in-InvertControl
 overflow_sub-result-in-InvertControl c = let (a, b) = inside (goal.at.overflow_sub-result-in-InvertControl c).Start in omega arith

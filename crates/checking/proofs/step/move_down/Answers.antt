@@ -8,12 +8,11 @@ pub loop-k-init : goal.loop-k-init
 loop-k-init c = (omega arith, refl, moved_none c.args.words.now c.args.to (c.args.to + c.args.gap) (omega arith))
 
 pub loop-k-preserved : goal.loop-k-preserved
-loop-k-preserved c =
-    (
-      omega arith,
-      length-set c.loop-k.words _ _ ∙ c.loop-k.invariant.1,
-      moved_more c.args.words.now c.args.to (c.args.to + c.args.gap) c.loop-k.words c.loop-k.k (omega arith) (omega arith) c.loop-k.invariant.2,
-    )
+loop-k-preserved c = (
+  omega arith,
+  length-set c.loop-k.words _ _ ∙ c.loop-k.invariant.1,
+  moved_more c.args.words.now c.args.to (c.args.to + c.args.gap) c.loop-k.words c.loop-k.k (omega arith) (omega arith) c.loop-k.invariant.2,
+)
 
 pub shape_of-words : goal.shape_of-words
 shape_of-words c = c.loop-k.invariant.1

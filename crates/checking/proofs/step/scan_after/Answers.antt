@@ -35,14 +35,13 @@ returns-then-not-may_pass c =
     (sym c.may_pass.ensures ∙ not-true _ c.if-not-may_pass.true-raw))
 
 pub loop-j-preserved : goal.loop-j-preserved
-loop-j-preserved c =
-    (
-      omega arith,
-      omega arith,
-      c.loop-j.invariant.2
-          ∙ words_on _ _ _ _ c.loop-j-test.true c.gate_at-h.ensures (sym c.match_gates.ensures ∙ ap of_verdict c.in-Apart.is)
-          (sym c.may_pass.ensures ∙ not-false _ c.if-not-may_pass.false-raw),
-    )
+loop-j-preserved c = (
+  omega arith,
+  omega arith,
+  c.loop-j.invariant.2
+      ∙ words_on _ _ _ _ c.loop-j-test.true c.gate_at-h.ensures (sym c.match_gates.ensures ∙ ap of_verdict c.in-Apart.is)
+      (sym c.may_pass.ensures ∙ not-false _ c.if-not-may_pass.false-raw),
+)
 
 pub returns : goal.returns
 returns c = found c.args.i (c.loop-j.invariant.2 ∙ words_end _ _ _ c.loop-j-test.false)
