@@ -37,4 +37,4 @@ pub record ClauseLaws : Type 0 where
       → sizes_of n gs ≡ totals (variables_of n gs) (length (clauses_of n gs)) (length (stored (clauses_of n gs)))
   -- the rows by full literals, and by words
   pub rows : RowsHold clause_rows
-  pub words_rows_lem : WordsHold words_rows
+  pub rows_of_words : WordsHold words_rows

@@ -12,7 +12,7 @@ pub use Rattle.circuit.proofs.lemmas.words.Gates.{valid_none, valid_parts, valid
 -- the tests of a caller's words
 pub use Rattle.circuit.proofs.lemmas.words.Tests.{lines_good, size_served, from_served, next_good, next_bad, none_left, gates_refused, gates_sized, check_lines, check_gates, check_served, served_check, check_refused, refused_check, words_cascade, cascade_count, cascade_words, words_wrong, pair_served, served_pair, pair_refused, pair_wrong}
 -- a run and the inverse
-pub use Rattle.circuit.proofs.lemmas.run.Laws.{run_none, run_one, run_next, run_append, run_below, run_tested_lem, equal_differs, run_refused, run_served, served_run}
+pub use Rattle.circuit.proofs.lemmas.run.Laws.{run_none, run_one, run_next, run_append, run_below, tested_run, equal_differs, run_refused, run_served, served_run}
 pub use Rattle.circuit.proofs.lemmas.run.Records.{records_words, records_served, served_records, records_refused, refused_records}
 pub use Rattle.circuit.proofs.lemmas.inverse.Laws.{run_inverse, inverse_run, inverse_append, inverse_length, inverse_twice, inverse_valid, refused_exactly as inverse_refused, inverse_served, served_inverse, inverse_stands, inverse_untouched, put_fits as inverse-fits}
 -- files, and the bytes of a text

@@ -65,7 +65,7 @@ pub record GoodFields (n : ℕ) (l : Line) (k : ℕ) (cs : List Control) : Type 
 -- line i, after the header and so many gate lines
 pub data LineOffence (n i count : ℕ) (l : Line) : ℕ → Type 0 where
   -- it does not start `g` tab, and is not `end` with its LF
-  no_gate_lem : ((t : List ℕ) (fs : List (List ℕ)) → fields_of l.bytes ≢ gate_word ∷ t ∷ fs) → (l.bytes ≡ end_word → l.ended ≢ true) → LineOffence n i count l wrong_form
+  no_gate_line : ((t : List ℕ) (fs : List (List ℕ)) → fields_of l.bytes ≢ gate_word ∷ t ∷ fs) → (l.bytes ≡ end_word → l.ended ≢ true) → LineOffence n i count l wrong_form
   -- it starts `g` tab, and 1,024 gate lines stand before it
   many : (t : List ℕ) (fs : List (List ℕ)) → fields_of l.bytes ≡ gate_word ∷ t ∷ fs → max_gates ≤ count → LineOffence n i count l too_many_gates
   -- the target's form, its value, then the controls
@@ -76,11 +76,11 @@ pub data LineOffence (n i count : ℕ) (l : Line) : ℕ → Type 0 where
   -- all fields are good: a missing LF, the target among its controls, controls that do not rise
   no_end : (k : ℕ) (cs : List Control) → GoodFields n l k cs → count < max_gates → l.ended ≡ false → LineOffence n i count l wrong_form
   controlled : (k : ℕ) (cs : List Control) → GoodFields n l k cs → count < max_gates → l.ended ≡ true → Among k cs → LineOffence n i count l target_controlled
-  not_rising_lem : (k : ℕ) (cs : List Control) → GoodFields n l k cs → count < max_gates → l.ended ≡ true → (Among k cs → ⊥) → NotRising cs → LineOffence n i count l not_rising
+  controls_not_rising : (k : ℕ) (cs : List Control) → GoodFields n l k cs → count < max_gates → l.ended ≡ true → (Among k cs → ⊥) → NotRising cs → LineOffence n i count l not_rising
 
 -- the lines before are good, and the line or the missing line after them is not
 pub data FileRefused (text : List ℕ) : ℕ → ℕ → Type 0 where
-  header_line_lem : (number : ℕ) → HeaderOffence (first_line (lines_of text)) number → FileRefused text number 0
+  on_header_line : (number : ℕ) → HeaderOffence (first_line (lines_of text)) number → FileRefused text number 0
   later_line : (n : ℕ) (gs : List Gate) (rest : List ℕ) → FileCascade n gs → text ≡ header_line n ++ (gate_lines gs ++ rest)
       → (number : ℕ) → LineOffence n (length gs + 1) (length gs) (first_line (lines_of rest)) number → FileRefused text number (length gs + 1)
 

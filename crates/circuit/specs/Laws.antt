@@ -81,7 +81,7 @@ pub record CascadeLaws : Type 0 where
   pub run_append : (a b : List Gate) (s : ℕ) → run (a ++ b) s ≡ run b (run a s)
   pub run_below : (n : ℕ) (gs : List Gate) → all_valid n gs ≡ true → (s : ℕ) → s < 2 ^ n → run gs s < 2 ^ n
   -- of gates that were tested
-  pub run_tested_lem : (gs : List Gate) → all_valid max_lines gs ≡ true → (s : ℕ) → run_tested gs s ≡ run gs s
+  pub tested_run : (gs : List Gate) → all_valid max_lines gs ≡ true → (s : ℕ) → run_tested gs s ≡ run gs s
   -- a run is served exactly for a cascade and a state, with the output; and refused exactly by what is wrong
   pub run_served : (n : ℕ) (ws : List ℕ) (s t : ℕ) → (run_outcome n ws s ≡ served t) ↔ ((k : ℕ) × (Cascade n ws max_gates k) × (s < 2 ^ n) × (t ≡ run (gates_of ws) s))
   pub run_refused : (n : ℕ) (ws : List ℕ) (s number place : ℕ) → (run_outcome n ws s ≡ refused number place) ↔ RunRefused n ws s number place

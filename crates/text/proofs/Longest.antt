@@ -22,7 +22,7 @@ use Rattle.text.specs.Dimacs.{header_text, clauses_text, dimacs_of}
 use Rattle.text.specs.Plain.{plain_clauses}
 use Rattle.text.specs.FileOutcome.{FileOutcome, answered, refused_at}
 use Rattle.text.specs.Compare.{max_list, max_compared, CascadePair, files_of, Comparison, gates_left, swept_as, list_as, compared, compared_files, comparison, comparison_text, compared_text, compare_text, Rooms, RoomsFit, compare_outcome}
-use Rattle.text.specs.TwoFiles.{TwoFiles, FilesRefused, first_long, second_long, first_file, second_file_lem, lines_differ}
+use Rattle.text.specs.TwoFiles.{TwoFiles, FilesRefused, first_long, second_long, first_file, in_second_file, lines_differ}
 use Rattle.text.proofs.Decimal.{decimal_few}
 use Rattle.text.proofs.Sizes.{variable_few, whole_few}
 use Rattle.text.proofs.Rooms.{rooms_good}
@@ -37,7 +37,7 @@ pub refused_few : (first second : List ℕ) (number file place : ℕ) → FilesR
 refused_few first second _ _ _ (first_long _) = (omega arith, omega arith, omega arith)
 refused_few first second _ _ _ (second_long _ _) = (omega arith, omega arith, omega arith)
 refused_few first second _ _ _ (first_file number place _ _ w) = let (a, b) = whole_few first number place w in (a, omega arith, b)
-refused_few first second _ _ _ (second_file_lem n a number place _ _ _ _ w) = let (x, y) = whole_few second number place w in (x, omega arith, y)
+refused_few first second _ _ _ (in_second_file n a number place _ _ _ _ w) = let (x, y) = whole_few second number place w in (x, omega arith, y)
 refused_few first second _ _ _ (lines_differ n a m b _ _ _ _ _ _ _) = (omega arith, omega arith, omega arith)
 
 dimacs_long : (v : ℕ) (ps : List Clause) → length (dimacs_of v ps) ≡ length (header_text v (length ps)) + length (clauses_text ps)

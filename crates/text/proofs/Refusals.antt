@@ -19,7 +19,7 @@ use Rattle.checking.specs.Stored.{stored}
 use Rattle.text.specs.FileOutcome.{refused_at}
 use Rattle.text.specs.Tomiter.{max_input, max_words, list_verdict, pair_verdict, second_verdict, verdict}
 use Rattle.text.specs.WholeFile.{whole_file}
-use Rattle.text.specs.TextLaws.{ProgramRefused, too_long, first_file, second_file_lem, lines_differ, list_long}
+use Rattle.text.specs.TextLaws.{ProgramRefused, too_long, first_file, in_second_file, lines_differ, list_long}
 use Rattle.text.proofs.FileOutcome.{not_refused, same_at, both_met, both_failed}
 use Rattle.text.proofs.Telling.{after_first, after_second}
 use Rattle.text.proofs.WholeFile.{WholeJudged, whole_judged, whole_refused}
@@ -31,7 +31,7 @@ told : (input : List ℕ) (number file place : ℕ) → ProgramRefused input num
 unfolding pair_verdict list_verdict
 told input _ _ _ (too_long h) = input_long input h
 told input _ _ _ (first_file number place h f) = first_bad input h number place ((reader.read_refused input number place).1 f)
-told input _ _ _ (second_file_lem n a rest number place h good e w) =
+told input _ _ _ (in_second_file n a rest number place h good e w) =
     after_first input n a rest h good e ∙ verdict_refused n a rest number place ((whole_refused rest number place).1 w)
 told input _ _ _ (lines_differ n a m b h good-a good-b e ne) =
     after_first input n a (text_of m b) h good-a e ∙ after_second n a m b good-b ∙ both_failed (eqb n m) _ _ (ne_eqb n m ne)
@@ -69,7 +69,7 @@ module _ (input : List ℕ) (number file place : ℕ) (short : length input ≤ 
     second_found : (rest : List ℕ) → input ≡ text_of n a ++ rest → (o : Outcome Reading) → whole_file rest ≡ o → WholeJudged rest o → second_verdict n a rest ≡ refused_at number file place
         → ProgramRefused input number file place
     second_found rest e (refused k p) r w v =
-        same_at (ProgramRefused input) (sym (verdict_refused n a rest k p r) ∙ v) (second_file_lem n a rest k p short good-a e w)
+        same_at (ProgramRefused input) (sym (verdict_refused n a rest k p r) ∙ v) (in_second_file n a rest k p short good-a e w)
     second_found rest e (served d) r (good-b, text-b) v =
         pair_found d.lines d.gates good-b (e ∙ ap (λ (l : List ℕ). text_of n a ++ l) text-b) (sym (verdict_served n a rest d r) ∙ v)
 

@@ -10,10 +10,11 @@ use lib.ListN.{length, drop, length-append}
 use borrow.Author.Tests.{eqb-true, leb-true}
 use Rattle.bits.proofs.Bools.{either}
 use Rattle.circuit.specs.declared.gate.Gate.{Gate}
-use Rattle.circuit.specs.Outcome.{Outcome, served, refused, before, then, fails}
+use Rattle.circuit.specs.Outcome.{Outcome, served, refused, before, then, Fails, fails}
+use Rattle.circuit.specs.Refusal.{wrong_form}
 use Rattle.circuit.specs.Text.{line_feed}
 use Rattle.circuit.specs.File.{Line, Reading, reading}
-use Rattle.circuit.specs.FileLaws.{FileCascade, HeaderOffence, no_lines, no_number, outside, ControlsOffence, form, value, later, LineOffence, no_gate_lem, many, target_form, target_value, controls, controlled, not_rising_lem, FileRefused, header_line_lem, later_line}
+use Rattle.circuit.specs.FileLaws.{FileCascade, HeaderOffence, no_lines, no_number, outside, ControlsOffence, form, value, later, LineOffence, no_gate_line, many, target_form, target_value, controls, controlled, controls_not_rising, FileRefused, on_header_line, later_line}
 use Rattle.circuit.specs.FileLaws as laws
 use Rattle.circuit.proofs.Promises.{reader}
 use Rattle.checking.specs.Miter.{miter_gates}
@@ -23,7 +24,7 @@ use Rattle.checking.specs.Stored.{stored_clause, stored}
 use Rattle.checking.proofs.Promises.{clause_laws, stored_next}
 use Rattle.text.specs.Dimacs.{blank, decimal, literal_text, literals_text, closing, clause_text, clauses_text, header_text, dimacs_of}
 use Rattle.text.specs.Formula.{Formula}
-use Rattle.text.specs.WholeFile.{whole_file, WholeRefused}
+use Rattle.text.specs.WholeFile.{line_after_end, whole_file, WholeRefused}
 use Rattle.text.specs.FileOutcome.{FileOutcome, answered, refused_at, of_file}
 use Rattle.text.specs.Tomiter.{max_input, max_words, max_text, list_verdict, pair_verdict, second_verdict, verdict, verdict_text, tomiter_text, tomiter_outcome}
 use Rattle.text.proofs.Decimal.{decimal_few}
@@ -97,23 +98,26 @@ controls_number n _ _ (value _ _ _ _ _) = omega arith
 controls_number n _ number (later _ fs _ _ _ _ o) = controls_number n fs number o
 
 line_number : (n i count : ℕ) (l : Line) (number : ℕ) → LineOffence n i count l number → number < 100
-line_number n i count l _ (no_gate_lem _ _) = omega arith
+line_number n i count l _ (no_gate_line _ _) = omega arith
 line_number n i count l _ (many _ _ _ _) = omega arith
 line_number n i count l _ (target_form _ _ _ _ _) = omega arith
 line_number n i count l _ (target_value _ _ _ _ _ _ _) = omega arith
 line_number n i count l number (controls _ fs _ _ _ _ _ _ o) = controls_number n fs number o
 line_number n i count l _ (laws.LineOffence.no_end _ _ _ _ _) = omega arith
 line_number n i count l _ (controlled _ _ _ _ _ _) = omega arith
-line_number n i count l _ (not_rising_lem _ _ _ _ _ _ _) = omega arith
+line_number n i count l _ (controls_not_rising _ _ _ _ _ _ _) = omega arith
 
 pub refused_small : (text : List ℕ) (number place : ℕ) → FileRefused text number place → (number < 100) × (place < 10000)
-refused_small text _ _ (header_line_lem number o) = (header_number _ number o, omega arith)
+refused_small text _ _ (on_header_line number o) = (header_number _ number o, omega arith)
 refused_small text _ _ (later_line n gs rest good starts number o) = (line_number n _ _ _ number o, omega (arith, good.few))
+
+-- the number and place of the one thing that is wrong
+failed_is : {Bad : Type 0} (m p number place : ℕ) → Fails Bad m p number place → (number ≡ m) × (place ≡ p)
+failed_is m p _ _ (fails b) = (refl, refl)
 
 pub whole_few : (text : List ℕ) (number place : ℕ) → WholeRefused text number place → (number < 100) × (place < 10000)
 whole_few text number place (before f) = refused_small text number place f
-whole_few text _ _ (then c read (fails _)) = (omega arith, omega (arith, read.good.few))
-
+whole_few text number place (then c read w) = let (a, b) = failed_is wrong_form (line_after_end c) number place w in (omega arith, omega (arith, read.good.few))
 -- ---- every verdict
 
 list_small : (n : ℕ) (gs : List Gate) → Listable n gs → Small (list_verdict n gs)

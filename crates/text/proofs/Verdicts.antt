@@ -34,7 +34,7 @@ use Rattle.text.specs.BytesTell.{TextTells}
 use Rattle.text.specs.FileOutcome.{FileOutcome, answered, refused_at}
 use Rattle.text.specs.Compare.{max_file, max_list, CascadePair, second_file, files_of, Comparison, gates_left, swept_as, list_as, compared, compared_files, comparison, comparison_text, compared_text, compare_text}
 use Rattle.text.specs.WholeFile.{whole_file}
-use Rattle.text.specs.TwoFiles.{TwoFiles, FilesRefused, first_long, second_long, first_file, second_file_lem, lines_differ}
+use Rattle.text.specs.TwoFiles.{TwoFiles, FilesRefused, first_long, second_long, first_file, in_second_file, lines_differ}
 use Rattle.text.specs.CompareLaws.{MayWrite, refuses, overflows, reduces, sweeps, differs, asks, Compares}
 use Rattle.text.proofs.Pairs.{listable}
 use Rattle.text.proofs.Reading.{text_back}
@@ -52,7 +52,7 @@ module _ (first second : List ℕ) where
   module _ (short : length first ≤ max_file) (short-2 : length second ≤ max_file) where
     module _ (n : ℕ) (a : List Gate) (good : FileCascade n a) (is : first ≡ text_of n a) where
       second_by : (o : Outcome Reading) → whole_file second ≡ o → WholeJudged second o → Judged (second_file n a second)
-      second_by (refused k p) e w = subst Judged (sym (pair.second_refused n a second k p e)) (second_file_lem n a k p short short-2 good is w)
+      second_by (refused k p) e w = subst Judged (sym (pair.second_refused n a second k p e)) (in_second_file n a k p short short-2 good is w)
       second_by (served d) e w =
           either (eqb n d.lines)
           (λ t.
@@ -100,7 +100,7 @@ module _ (first second : List ℕ) where
   judged_is (refused_at _ _ _) (first_long h) = pair.first_long first second h
   judged_is (refused_at _ _ _) (second_long s h) = pair.second_long first second s h
   judged_is (refused_at _ _ _) (first_file number place s s2 w) = pair.first_refused first second s s2 number place ((whole_refused first number place).1 w)
-  judged_is (refused_at _ _ _) (second_file_lem n a number place s s2 good e w) =
+  judged_is (refused_at _ _ _) (in_second_file n a number place s s2 good e w) =
       first_is s s2 n a good e ∙ pair.second_refused n a second number place ((whole_refused second number place).1 w)
   judged_is (refused_at _ _ _) (lines_differ n a m b s s2 good e good-b e-b ne) =
       first_is s s2 n a good e ∙ pair.second_differs n a second _ (whole_is second m b good-b e-b) ne

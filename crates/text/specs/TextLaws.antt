@@ -33,7 +33,7 @@ pub data ProgramRefused (input : List ℕ) : ℕ → ℕ → ℕ → Type 0 wher
   too_long : max_input < length input → ProgramRefused input no_room 0 0
   -- the first file; the second one, to its last byte, after a first that is good
   first_file : (number place : ℕ) → length input ≤ max_input → FileRefused input number place → ProgramRefused input number 1 place
-  second_file_lem : (n : ℕ) (a : List Gate) (rest : List ℕ) (number place : ℕ) → length input ≤ max_input → FileCascade n a → input ≡ text_of n a ++ rest
+  in_second_file : (n : ℕ) (a : List Gate) (rest : List ℕ) (number place : ℕ) → length input ≤ max_input → FileCascade n a → input ≡ text_of n a ++ rest
       → WholeRefused rest number place → ProgramRefused input number 2 place
   -- line counts that differ
   lines_differ : (n : ℕ) (a : List Gate) (m : ℕ) (b : List Gate) → length input ≤ max_input → FileCascade n a → FileCascade m b

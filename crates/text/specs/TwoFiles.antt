@@ -24,7 +24,7 @@ pub data FilesRefused (first second : List ℕ) : ℕ → ℕ → ℕ → Type 0
   -- the first file
   first_file : (number place : ℕ) → length first ≤ max_file → length second ≤ max_file → WholeRefused first number place → FilesRefused first second number 1 place
   -- the second one, after a first that is good
-  second_file_lem : (n : ℕ) (a : List Gate) (number place : ℕ) → length first ≤ max_file → length second ≤ max_file → FileCascade n a → first ≡ text_of n a
+  in_second_file : (n : ℕ) (a : List Gate) (number place : ℕ) → length first ≤ max_file → length second ≤ max_file → FileCascade n a → first ≡ text_of n a
       → WholeRefused second number place → FilesRefused first second number 2 place
   -- line counts that differ
   lines_differ : (n : ℕ) (a : List Gate) (m : ℕ) (b : List Gate) → length first ≤ max_file → length second ≤ max_file → FileCascade n a → first ≡ text_of n a

@@ -4,7 +4,7 @@ use Rattle.circuit.proofs.lemmas.gate.Effect.{fires_lines, lines_fires, apply_bi
 use Rattle.circuit.proofs.lemmas.gate.Controls.{controls_count, controls_fire}
 use Rattle.circuit.proofs.lemmas.words.Gates.{gates_words, words_gates}
 use Rattle.circuit.proofs.lemmas.words.Tests.{check_served, served_check, check_refused, refused_check, pair_served, served_pair, pair_refused}
-use Rattle.circuit.proofs.lemmas.run.Laws.{run_append, run_tested_lem, run_below, equal_differs, run_refused, run_served, served_run}
+use Rattle.circuit.proofs.lemmas.run.Laws.{run_append, tested_run, run_below, equal_differs, run_refused, run_served, served_run}
 use Rattle.circuit.proofs.lemmas.run.Records.{records_words, records_served, served_records, records_refused, refused_records}
 use Rattle.circuit.proofs.lemmas.inverse.Laws.{run_inverse, inverse_run, inverse_append, inverse_twice, inverse_valid, refused_exactly, inverse_served, served_inverse, inverse_stands, inverse_untouched}
 use Rattle.circuit.proofs.lemmas.file.Laws.{reader, read_served, served_read, read_refused, write_served, served_write, write_refused, refuses_all}
@@ -44,7 +44,7 @@ returns c =
           record {
             run_append = run_append;
             run_below = run_below;
-            run_tested_lem = run_tested_lem;
+            tested_run = tested_run;
             run_served = λ n ws s t. (run_served n ws s t, (λ (k, c, h, e). served_run n ws s t k c h e));
             run_refused = run_refused;
             records_served = λ n gs s t. (records_served n gs s t, (λ (c, h, e). served_records n gs s t c h e));

@@ -12,7 +12,7 @@ use Rattle.circuit.specs.declared.gate.Gate.{Gate}
 use Rattle.circuit.specs.Gate.{controls_of, max_lines, max_miter_gates}
 use Rattle.circuit.specs.Words.{all_valid}
 use Rattle.checking.specs.declared.clauses.Totals.{Totals}
-use Rattle.checking.specs.Clauses.{Clause, input_of, moved, used_by, literal_of, implied, gate_clauses, gates_clauses, used_after, current_after, targeted, up_from, difference_clause, difference_clauses, clauses_of, variables_of, max_variables}
+use Rattle.checking.specs.Clauses.{Clause, XOR, plus, minus, input_of, moved, used_by, literal_of, implied, gate_clauses, gates_clauses, used_after, current_after, targeted, up_from, difference_clause, difference_clauses, clauses_of, variables_of, max_variables}
 use Rattle.checking.specs.Satisfaction.{LiteralWithin, clause_literals, ClausesWithin}
 use Rattle.checking.proofs.Promises.{clause_laws, clauses_none, clauses_next, differences_none, differences_next, list_parts}
 use Rattle.text.specs.Compare.{max_list}
@@ -29,7 +29,8 @@ implied_short p (l ∷ ls) = (tt, implied_short p ls)
 gate_short : (used v : ℕ) (ls : List ℤ) → AllShort (gate_clauses used v ls)
 gate_short used v [] = (tt, tt)
 gate_short used v (c ∷ []) = (tt, tt)
-gate_short used v (c ∷ d ∷ ls) = (tt, all_append ShortClause (implied _ (c ∷ d ∷ ls)) _ (implied_short _ (c ∷ d ∷ ls)) (tt, tt))
+gate_short used v (c ∷ d ∷ ls) = (tt, let last : AllShort (XOR (minus (suc (suc used)) ∷ plus v ∷ plus (suc used) ∷ []) ∷ []) = (tt, tt) in
+    all_append ShortClause (implied (suc used) (c ∷ d ∷ ls)) (XOR (minus (suc (suc used)) ∷ plus v ∷ plus (suc used) ∷ []) ∷ []) (implied_short (suc used) (c ∷ d ∷ ls)) last)
 
 gates_short : (used : ℕ) (current : ℕ → ℕ) (gs : List Gate) → AllShort (gates_clauses used current gs)
 gates_short used current [] = subst AllShort (sym (clauses_none used current)) tt

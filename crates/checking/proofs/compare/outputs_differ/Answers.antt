@@ -1,8 +1,8 @@
 -- `checking::compare::outputs_differ` meets its contract. Assumes nothing.
 use Rattle.std.proofs.Common.{ℕ, not, eqb, ◌∙◌, ap₂}
-use Rattle.circuit.proofs.Promises.{run_tested_lem}
+use Rattle.circuit.proofs.Promises.{tested_run}
 use Rattle.checking.proofs.compare.outputs_differ.Goals as goal
 
 pub returns : goal.returns
 returns c =
-    ap₂ (λ (x y : ℕ). not (eqb x y)) (c.run_tested.ensures ∙ run_tested_lem _ c.requires.a_value _) (c.run_tested-2.ensures ∙ run_tested_lem _ c.requires.b_value _)
+    ap₂ (λ (x y : ℕ). not (eqb x y)) (c.run_tested.ensures ∙ tested_run _ c.requires.a_value _) (c.run_tested-2.ensures ∙ tested_run _ c.requires.b_value _)

@@ -23,5 +23,5 @@ clause_laws =
       words_fit = words_fit;
       sizes_list = sizes_list;
       rows = rows_hold;
-      words_rows_lem = words_hold;
+      rows_of_words = words_hold;
     }

@@ -57,7 +57,7 @@ module _ (text : List ℕ) where
     where
       go : (o : Outcome ℕ) → HeaderFound (first_line (lines_of text)) o
           → TextFound text (and_then o (λ n. read_from n 1 [] (line_size (first_line (lines_of text))) (later_lines (lines_of text))))
-      go o (HeaderFound.bad number x) = wrong number 0 (laws.header_line_lem number x)
+      go o (HeaderFound.bad number x) = wrong number 0 (laws.on_header_line number x)
       go o (HeaderFound.good n low high b d) =
           let l = first_line (lines_of text) in
           let c = cut_first text d in
@@ -110,7 +110,7 @@ line_refused n high gs at (l ∷ ls) number x =
 
 pub wrong_read : (text : List ℕ) (number place : ℕ) → FileRefused text number place → reading text ≡ refused number place
 unfolding reading
-wrong_read text number place (laws.header_line_lem m x) = then_refused _ _ m 0 (header_refused (first_line (lines_of text)) m x)
+wrong_read text number place (laws.on_header_line m x) = then_refused _ _ m 0 (header_refused (first_line (lines_of text)) m x)
 wrong_read text number place (laws.later_line n gs rest c t m x) =
     ap reading t
     ∙ start_read n gs rest c

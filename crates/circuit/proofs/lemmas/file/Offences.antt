@@ -169,10 +169,10 @@ falls_after c (d ∷ cs) e =
     (λ t. NotRising.there c (d ∷ cs) (falls_after d cs (sym (ap (λ (b : Bool). b && rising_from (d.line + 1) cs) t) ∙ e)))
     (λ t. let l : d.line < c.line + 1 = leb-false (c.line + 1) d.line t in NotRising.here c d cs (omega arith))
 
-pub not_rising_lem : (cs : List Control) → rising_from 0 cs ≡ false → NotRising cs
+pub controls_not_rising : (cs : List Control) → rising_from 0 cs ≡ false → NotRising cs
 unfolding rising_from
-not_rising_lem [] e = absurd (true≢false e)
-not_rising_lem (c ∷ cs) e = falls_after c cs (sym (ap (λ (b : Bool). b && rising_from (c.line + 1) cs) (le-leb 0 c.line (omega arith))) ∙ e)
+controls_not_rising [] e = absurd (true≢false e)
+controls_not_rising (c ∷ cs) e = falls_after c cs (sym (ap (λ (b : Bool). b && rising_from (c.line + 1) cs) (le-leb 0 c.line (omega arith))) ∙ e)
 
 pub rising_not : (low : ℕ) (cs : List Control) → NotRising cs → rising_from low cs ≡ false
 unfolding rising_from
@@ -227,7 +227,7 @@ module _ (n i count : ℕ) (lines_high : n ≤ max_lines) (l : Line) where
       (good (gate_of k cs) (controls_valid n k cs h.target h.controls a r) (gate_bytes l k cs h.fields r (inside_more n max_lines cs lines_high h.controls)) d few))
       (λ r.
       subst (GateFound n i count l) (sym (demand_failed {A = Gate} _ _ _ _ r))
-      (bad 5 (laws.not_rising_lem k cs h few d (λ x. refuted a (true_among k cs x)) (not_rising_lem cs r))))))))
+      (bad 5 (laws.controls_not_rising k cs h few d (λ x. refuted a (true_among k cs x)) (controls_not_rising cs r))))))))
       (λ d. subst (GateFound n i count l) (sym (demand_failed {A = Gate} _ _ _ _ d)) (bad 1 (laws.no_end k cs h few d)))
 
   rest_found : (t : List ℕ) (fs : List (List ℕ)) → fields_of l.bytes ≡ gate_word ∷ t ∷ fs → count < max_gates
@@ -254,8 +254,8 @@ module _ (n i count : ℕ) (lines_high : n ≤ max_lines) (l : Line) where
   gate_found z = go (fields_of l.bytes) refl
     where
       go : (fs : List (List ℕ)) → fields_of l.bytes ≡ fs → GateFound n i count l (gate_fields n i count l.ended fs)
-      go [] e = bad 1 (laws.no_gate_lem (λ t fs q. nil≢cons (sym e ∙ q)) (not_end l z))
-      go (f ∷ []) e = bad 1 (laws.no_gate_lem (λ t fs q. nil≢cons (tail-eq_of_cons-eq (sym e ∙ q))) (not_end l z))
+      go [] e = bad 1 (laws.no_gate_line (λ t fs q. nil≢cons (sym e ∙ q)) (not_end l z))
+      go (f ∷ []) e = bad 1 (laws.no_gate_line (λ t fs q. nil≢cons (tail-eq_of_cons-eq (sym e ∙ q))) (not_end l z))
       go (f ∷ t ∷ fs) e =
           either (same f gate_word)
           (λ s.
@@ -266,7 +266,7 @@ module _ (n i count : ℕ) (lines_high : n ≤ max_lines) (l : Line) where
           (λ m. subst (GateFound n i count l) (sym (demand_failed {A = Gate} _ _ _ _ m)) (bad 6 (laws.many t fs d (ltb-false count max_gates m))))))
           (λ s.
           subst (GateFound n i count l) (sym (demand_failed {A = Gate} _ _ _ _ s))
-          (bad 1 (laws.no_gate_lem (λ u gs q. refuted s (true_same f gate_word (head-eq_of_cons-eq (sym e ∙ q)))) (not_end l z))))
+          (bad 1 (laws.no_gate_line (λ u gs q. refuted s (true_same f gate_word (head-eq_of_cons-eq (sym e ∙ q)))) (not_end l z))))
 
   -- ---- the other way: an offence is refused
 
@@ -295,7 +295,7 @@ module _ (n i count : ℕ) (lines_high : n ≤ max_lines) (l : Line) where
 
   pub offence_refused : (number : ℕ) → LineOffence n i count l number → gate_on n i count l ≡ refused number i
   unfolding gate_fields closed_gate
-  offence_refused number (laws.no_gate_lem h e) = go (fields_of l.bytes) refl
+  offence_refused number (laws.no_gate_line h e) = go (fields_of l.bytes) refl
     where
       go : (fs : List (List ℕ)) → fields_of l.bytes ≡ fs → gate_fields n i count l.ended fs ≡ refused wrong_form i
       go [] q = refl
@@ -315,21 +315,21 @@ module _ (n i count : ℕ) (lines_high : n ≤ max_lines) (l : Line) where
   offence_refused number (laws.no_end k cs h few d) = gate_tested k cs h few ∙ demand_failed {A = Gate} _ _ _ _ d
   offence_refused number (laws.controlled k cs h few d a) =
       gate_tested k cs h few ∙ demand_met {A = Gate} _ _ _ _ d ∙ demand_failed {A = Gate} _ _ _ _ (ap not (true_among k cs a))
-  offence_refused number (laws.not_rising_lem k cs h few d a r) =
+  offence_refused number (laws.controls_not_rising k cs h few d a r) =
       gate_tested k cs h few
       ∙ demand_met {A = Gate} _ _ _ _ d
       ∙ demand_met {A = Gate} _ _ _ _ (ap not (not_held (among k cs) (λ x. a (among_true k cs x))))
       ∙ demand_failed {A = Gate} _ _ _ _ (rising_not 0 cs r)
 
   pub offence_open : (number : ℕ) → LineOffence n i count l number → is_end l ≡ false
-  offence_open number (laws.no_gate_lem h e) = not_held (is_end l) (λ x. let (a, b) = and_parts l.ended (same l.bytes end_word) x in e (same_true l.bytes end_word b) a)
+  offence_open number (laws.no_gate_line h e) = not_held (is_end l) (λ x. let (a, b) = and_parts l.ended (same l.bytes end_word) x in e (same_true l.bytes end_word b) a)
   offence_open number (laws.many t fs e m) = two_fields l gate_word t fs e
   offence_open number (laws.target_form t fs e few h) = two_fields l gate_word t fs e
   offence_open number (laws.target_value t fs e few k h b) = two_fields l gate_word t fs e
   offence_open number (laws.controls t fs e few k h b m x) = two_fields l gate_word t fs e
   offence_open number (laws.no_end k cs h few d) = two_fields l gate_word (number_text k) (map control_text cs) h.fields
   offence_open number (laws.controlled k cs h few d a) = two_fields l gate_word (number_text k) (map control_text cs) h.fields
-  offence_open number (laws.not_rising_lem k cs h few d a r) = two_fields l gate_word (number_text k) (map control_text cs) h.fields
+  offence_open number (laws.controls_not_rising k cs h few d a r) = two_fields l gate_word (number_text k) (map control_text cs) h.fields
 
 -- ---- line 0
 
@@ -435,7 +435,7 @@ pub data Walked (n first : ℕ) (gs : List Gate) (at : ℕ) (r : List ℕ) : Out
 
 no_line_lem : (n i count : ℕ) → LineOffence n i count no_line 1
 unfolding parted_by
-no_line_lem n i count = laws.no_gate_lem (λ t fs q. nil≢cons (tail-eq_of_cons-eq q)) (λ b d. false≢true d)
+no_line_lem n i count = laws.no_gate_line (λ t fs q. nil≢cons (tail-eq_of_cons-eq q)) (λ b d. false≢true d)
 
 -- a line that was cut off, and the text after it
 joined : (r : List ℕ) (l : Line) (ls : List Line) (g : Gate) → l.bytes ≡ gate_text g → Cut r l ls → (x : List ℕ) (hs : List Gate) → drop (line_size l) r ≡ gate_lines hs ++ x

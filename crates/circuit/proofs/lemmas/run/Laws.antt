@@ -41,12 +41,12 @@ unfolding fold
 run_next g gs s = refl
 
 -- of gates that were tested
-pub run_tested_lem : (gs : List Gate) → all_valid max_lines gs ≡ true → (s : ℕ) → run_tested gs s ≡ run gs s
+pub tested_run : (gs : List Gate) → all_valid max_lines gs ≡ true → (s : ℕ) → run_tested gs s ≡ run gs s
 unfolding fold all_valid
-run_tested_lem [] v s = refl
-run_tested_lem (g ∷ gs) v s =
+tested_run [] v s = refl
+tested_run (g ∷ gs) v s =
     let (a, b) = and_parts (valid max_lines g) (all_valid max_lines gs) v in
-    ap (run_tested gs) (toggled_apply g s a) ∙ run_tested_lem gs b (apply g s)
+    ap (run_tested gs) (toggled_apply g s a) ∙ tested_run gs b (apply g s)
 
 -- two cascades in a row
 pub run_append : (a b : List Gate) (s : ℕ) → run (a ++ b) s ≡ run b (run a s)

@@ -1,0 +1,38 @@
+-- `text::plain::put_both` meets its contract. Assumes nothing.
+use mathlib.Core.Path.{◌≡◌, ap, ap₂}
+use mathlib.Core.List.{List, [], ◌∷◌}
+use mir.Val.{to_z, of_z}
+use lib.IntN.{ℤ, neg_ℤ}
+use lib.ListN.{length}
+use Rattle.circuit.proofs.Promises.{put_as}
+use Rattle.checking.specs.Stored.{word_width}
+use Rattle.checking.specs.Clauses.{Clause, OR}
+use Rattle.text.specs.Dimacs.{clauses_text}
+use Rattle.text.specs.private.Words.{both_ors}
+use Rattle.text.proofs.dimacs.Signed.{word_is}
+use Rattle.text.proofs.plain.Laws.{passed_opposite, three_words}
+use borrow.Author.Rules.{rules}
+use Rattle.text.proofs.plain.put_both.Goals as goal
+use Rattle.text.proofs.plain.put_both.Goals.{After-negated-2, Start}
+
+-- the literals of the first OR and of the second one
+first : (s : Start) → to_z word_width (of_z word_width s.args.a) ∷ to_z word_width (of_z word_width s.args.b) ∷ to_z word_width (of_z word_width s.args.c) ∷ [] ≡ s.args.a ∷ s.args.b ∷ s.args.c ∷ []
+first s = three_words s.args.a s.args.b s.args.c s.ranges.a s.ranges.b s.ranges.c
+
+second : (c : After-negated-2) → let s = c.before.before.before in to_z word_width (of_z word_width s.args.a) ∷ to_z word_width (of_z word_width c.negated.result) ∷ to_z word_width (of_z word_width c.negated-2.result) ∷ [] ≡ s.args.a ∷ neg_ℤ s.args.b ∷ neg_ℤ s.args.c ∷ []
+second c =
+    ap₂ (λ (x : ℤ) (l : List ℤ). x ∷ l) (word_is c.args.a c.ranges.a) (ap₂ (λ (x y : ℤ). x ∷ y ∷ []) (passed_opposite c.args.b _ c.ranges.b c.requires.b_bound.0 c.negated.ensures) (passed_opposite c.args.c _ c.ranges.c c.requires.b_bound.1 c.negated-2.ensures))
+
+written : (c : After-negated-2) → let s = c.before.before.before in OR (to_z word_width (of_z word_width s.args.a) ∷ to_z word_width (of_z word_width s.args.b) ∷ to_z word_width (of_z word_width s.args.c) ∷ []) ∷ OR (to_z word_width (of_z word_width s.args.a) ∷ to_z word_width (of_z word_width c.negated.result) ∷ to_z word_width (of_z word_width c.negated-2.result) ∷ []) ∷ [] ≡ both_ors s.args.a s.args.b s.args.c
+written c =
+    let first : to_z word_width (of_z word_width c.args.a) ∷ to_z word_width (of_z word_width c.args.b) ∷ to_z word_width (of_z word_width c.args.c) ∷ [] ≡ c.args.a ∷ c.args.b ∷ c.args.c ∷ [] = three_words c.args.a c.args.b c.args.c c.ranges.a c.ranges.b c.ranges.c in
+    let second : let s = c.before.before.before in to_z word_width (of_z word_width s.args.a) ∷ to_z word_width (of_z word_width c.negated.result) ∷ to_z word_width (of_z word_width c.negated-2.result) ∷ [] ≡ s.args.a ∷ neg_ℤ s.args.b ∷ neg_ℤ s.args.c ∷ [] = ap₂ (λ (x : ℤ) (l : List ℤ). x ∷ l) (word_is c.args.a c.ranges.a) (ap₂ (λ (x y : ℤ). x ∷ y ∷ []) (passed_opposite c.args.b _ c.ranges.b c.requires.b_bound.0 c.negated.ensures) (passed_opposite c.args.c _ c.ranges.c c.requires.b_bound.1 c.negated-2.ensures)) in
+    ap₂ (λ (l m : List ℤ). OR l ∷ OR m ∷ []) (first) (second)
+
+pub put_ors-requires : goal.put_ors-requires
+put_ors-requires c =
+    let e = ap (λ (cs : List Clause). length (clauses_text cs)) (written (goal.at.put_ors-requires c).After-negated-2) in
+    search rules
+
+pub returns : goal.returns
+returns c = put_as _ _ _ _ _ (ap clauses_text (written (goal.at.returns c).After-negated-2)) c.put_ors.ensures
