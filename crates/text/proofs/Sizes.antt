@@ -118,6 +118,7 @@ failed_is m p _ _ (fails b) = (refl, refl)
 pub whole_few : (text : List ℕ) (number place : ℕ) → WholeRefused text number place → (number < 100) × (place < 10000)
 whole_few text number place (before f) = refused_small text number place f
 whole_few text number place (then c read w) = let (a, b) = failed_is wrong_form (line_after_end c) number place w in (omega arith, omega (arith, read.good.few))
+
 -- ---- every verdict
 
 list_small : (n : ℕ) (gs : List Gate) → Listable n gs → Small (list_verdict n gs)

@@ -29,8 +29,11 @@ implied_short p (l ∷ ls) = (tt, implied_short p ls)
 gate_short : (used v : ℕ) (ls : List ℤ) → AllShort (gate_clauses used v ls)
 gate_short used v [] = (tt, tt)
 gate_short used v (c ∷ []) = (tt, tt)
-gate_short used v (c ∷ d ∷ ls) = (tt, let last : AllShort (XOR (minus (suc (suc used)) ∷ plus v ∷ plus (suc used) ∷ []) ∷ []) = (tt, tt) in
-    all_append ShortClause (implied (suc used) (c ∷ d ∷ ls)) (XOR (minus (suc (suc used)) ∷ plus v ∷ plus (suc used) ∷ []) ∷ []) (implied_short (suc used) (c ∷ d ∷ ls)) last)
+gate_short used v (c ∷ d ∷ ls) = (
+  tt,
+  let last : AllShort (XOR (minus (suc (suc used)) ∷ plus v ∷ plus (suc used) ∷ []) ∷ []) = (tt, tt) in
+      all_append ShortClause (implied (suc used) (c ∷ d ∷ ls)) (XOR (minus (suc (suc used)) ∷ plus v ∷ plus (suc used) ∷ []) ∷ []) (implied_short (suc used) (c ∷ d ∷ ls)) last,
+)
 
 gates_short : (used : ℕ) (current : ℕ → ℕ) (gs : List Gate) → AllShort (gates_clauses used current gs)
 gates_short used current [] = subst AllShort (sym (clauses_none used current)) tt

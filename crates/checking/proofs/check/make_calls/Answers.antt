@@ -1,5 +1,5 @@
 -- `checking::check::make_calls` meets its contract.
-use Rattle.std.proofs.Common.{◌≡◌, ℕ, ◌+◌, ◌-◌, ◌*◌, List, [], get_or, sym, refl, ap, ◌∙◌, arith}
+use Rattle.std.proofs.Common.{◌≡◌, ℕ, ◌+◌, ◌*◌, List, [], get_or, sym, refl, ap, ◌∙◌, arith}
 use Rattle.checking.specs.Equality.{Call}
 use Rattle.checking.specs.Check.{call_of, Held, called_all}
 use Rattle.checking.proofs.lemmas.check.Laws.{call_leaves, calls_turn, calls_end}

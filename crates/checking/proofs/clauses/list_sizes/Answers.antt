@@ -1,5 +1,5 @@
 -- `checking::clauses::list_sizes` meets its contract.
-use Rattle.std.proofs.Common.{◌≡◌, ℕ, ◌+◌, ◌-◌, ◌/◌, ◌≤◌, true, length, sym, ap, ◌∙◌, subst, arith}
+use Rattle.std.proofs.Common.{◌≡◌, ℕ, ◌+◌, ◌/◌, ◌≤◌, true, length, sym, ap, ◌∙◌, subst, arith}
 use borrow.Author.Tests.{not-true, not-false}
 use Rattle.circuit.specs.Gate.{max_lines, valid}
 use Rattle.circuit.specs.Outcome.{served}

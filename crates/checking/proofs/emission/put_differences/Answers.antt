@@ -1,5 +1,5 @@
 -- `checking::emission::put_differences` meets its contract.
-use Rattle.std.proofs.Common.{◌-◌, ◌≤◌, List, length, ℤ, sym, ap, ◌∙◌, arith}
+use Rattle.std.proofs.Common.{◌≤◌, List, length, ℤ, sym, ap, ◌∙◌, arith}
 use Rattle.bits.specs.Lists.{over}
 use Rattle.checking.proofs.lemmas.emission.Lines.{compared_none, line_room, line_ready, compared_next, compared_all}
 use Rattle.checking.proofs.emission.put_differences.Goals as goal

@@ -1,5 +1,5 @@
 -- `checking::emission::put_gates` meets its contract.
-use Rattle.std.proofs.Common.{◌-◌, ◌≤◌, length, arith}
+use Rattle.std.proofs.Common.{◌≤◌, length, arith}
 use Rattle.circuit.specs.Gate.{max_lines}
 use Rattle.circuit.proofs.Promises.{valid_facts, valid_more}
 use Rattle.checking.proofs.lemmas.emission.Gates.{emitted_none, gate_good, target_inside, room, gate_ready, emitted_next, emitted_all}

@@ -1,5 +1,5 @@
 -- `checking::emission::put_last` meets its contract.
-use Rattle.std.proofs.Common.{◌≡◌, ◌+◌, ◌-◌, true, pos, ◌∙◌, arith, length-set, to_z, of_z}
+use Rattle.std.proofs.Common.{◌≡◌, ◌+◌, true, pos, ◌∙◌, arith, length-set, to_z, of_z}
 use Rattle.checking.specs.Stored.{word_width}
 use Rattle.checking.proofs.lemmas.emitter.Signed.{literal_kept}
 use Rattle.checking.proofs.lemmas.emission.Lines.{headed_long, ended_none, ended_next, ended_all}

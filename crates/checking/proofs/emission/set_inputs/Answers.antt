@@ -1,5 +1,5 @@
 -- `checking::emission::set_inputs` meets its contract.
-use Rattle.std.proofs.Common.{◌-◌, arith}
+use Rattle.std.proofs.Common.{arith}
 use Rattle.checking.proofs.lemmas.emission.Lines.{inputs_none, inputs_next}
 use Rattle.checking.proofs.emission.set_inputs.Goals as goal
 

@@ -1,5 +1,4 @@
 -- `checking::emitter::put_controls` meets its contract. The loop's invariant: what is due for the lines before i stands, and `left` has the others. Assumes nothing.
-use Rattle.std.proofs.Common.{◌-◌}
 use Rattle.checking.proofs.lemmas.emitter.Parts.{Walk}
 use Rattle.checking.proofs.emitter.put_controls.Given as goal
 

@@ -1,9 +1,8 @@
 -- `checking::faults::check_differing` meets its contract.
-use Rattle.std.proofs.Common.{◌-◌, sym, ◌∙◌, arith}
+use Rattle.std.proofs.Common.{sym, ◌∙◌, arith}
 use borrow.Author.Tests.{not-true, not-false}
 use Rattle.circuit.specs.Refusal.{agreeing_state}
 use Rattle.circuit.proofs.Promises.{why}
-use Rattle.checking.specs.Compare.{outputs_differ}
 use Rattle.checking.proofs.lemmas.faults.Loops.{none_passed, each_next, each_fails, each_end}
 use Rattle.checking.proofs.faults.check_differing.Goals as goal
 

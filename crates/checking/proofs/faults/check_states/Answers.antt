@@ -1,5 +1,5 @@
 -- `checking::faults::check_states` meets its contract.
-use Rattle.std.proofs.Common.{◌-◌, sym, ◌∙◌, arith}
+use Rattle.std.proofs.Common.{sym, ◌∙◌, arith}
 use borrow.Author.Tests.{not-true, not-false}
 use Rattle.circuit.specs.Refusal.{bad_state}
 use Rattle.circuit.proofs.Promises.{why}

@@ -1,5 +1,5 @@
 -- `checking::faults::narrow` meets its contract.
-use Rattle.std.proofs.Common.{◌≡◌, ℕ, ◌+◌, ◌-◌, ◌*◌, true, ◌++◌, get_or, take, drop, set, sym, refl, ap, ◌∙◌, ap₂, arith, length-set, get_or-set_other}
+use Rattle.std.proofs.Common.{◌≡◌, ℕ, ◌+◌, ◌*◌, true, ◌++◌, get_or, take, drop, set, sym, refl, ap, ◌∙◌, ap₂, arith, length-set, get_or-set_other}
 use lib.Bits.{bit_and}
 use Rattle.circuit.specs.Gate.{max_lines, valid}
 use Rattle.circuit.specs.Words.{gates_of}

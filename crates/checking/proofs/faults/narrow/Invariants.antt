@@ -1,5 +1,5 @@
 -- `checking::faults::narrow` meets its contract. The loop's invariant: the masks of the gates that were passed are narrowed, and those of the others are as they were. Assumes nothing.
-use Rattle.std.proofs.Common.{◌≡◌, ◌+◌, ◌-◌, ◌*◌, ◌≤◌, true, ◌++◌, length, take, drop}
+use Rattle.std.proofs.Common.{◌≡◌, ◌-◌, ◌*◌, ◌≤◌, true, ◌++◌, length, take, drop}
 use Rattle.circuit.specs.Gate.{max_lines}
 use Rattle.circuit.specs.Words.{gates_of, all_valid}
 use Rattle.checking.specs.private.Narrowing.{narrowed}

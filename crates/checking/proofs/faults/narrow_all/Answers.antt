@@ -1,5 +1,5 @@
 -- `checking::faults::narrow_all` meets its contract.
-use Rattle.std.proofs.Common.{◌-◌, sym, refl, ◌∙◌, arith}
+use Rattle.std.proofs.Common.{sym, refl, ◌∙◌, arith}
 use Rattle.circuit.specs.Words.{gates_of}
 use Rattle.checking.proofs.lemmas.faults.Loops.{states_next, states_end}
 use Rattle.checking.proofs.faults.narrow_all.Goals as goal

@@ -1,5 +1,5 @@
 -- `checking::faults::start_masks` meets its contract.
-use Rattle.std.proofs.Common.{ℕ, ◌+◌, ◌-◌, ◌*◌, List, set, sym, refl, ap, ◌∙◌, arith, length-set}
+use Rattle.std.proofs.Common.{ℕ, ◌+◌, ◌*◌, List, set, sym, refl, ap, ◌∙◌, arith, length-set}
 use Rattle.bits.specs.Lists.{over}
 use Rattle.circuit.specs.Words.{gates_of}
 use Rattle.circuit.proofs.Promises.{gates_length, valid_next, valid_later}

@@ -9,7 +9,7 @@ use Rattle.circuit.proofs.Promises.{never, unserved, demand_met, demand_failed, 
 use Rattle.checking.specs.Compare.{outputs_differ, max_sweep_lines, difference_outcome, differs_outcome, pick_outcome}
 use Rattle.checking.specs.Faults.{gate_masks, each_from, fault_check, fault_outcome}
 use Rattle.checking.specs.RefusalLaws.{SweepRefused, DiffersRefused, Every, First, AtFirst, at_first, StatesRefused, StatesGood, MasksRefused, RefusalLaws}
-use Rattle.checking.proofs.lemmas.compare.Laws.{differ_no, no_differ, differ_yes, yes_differ, pick_refused}
+use Rattle.checking.proofs.lemmas.compare.Laws.{differ_no, no_differ, differ_yes, yes_differ}
 use Rattle.checking.proofs.lemmas.faults.Loops.{fault_good, fault_made}
 
 -- ---- the tests of the states

@@ -1,5 +1,5 @@
 -- `checking::miter::copy` meets its contract.
-use Rattle.std.proofs.Common.{◌≡◌, ℕ, ◌+◌, ◌-◌, ◌<◌, List, length, get_or, take, set, refl, ap, ◌∙◌, arith, length-set}
+use Rattle.std.proofs.Common.{◌≡◌, ℕ, ◌+◌, ◌<◌, List, length, get_or, take, set, refl, ap, ◌∙◌, arith, length-set}
 use lib.Seq.{take-length}
 use Rattle.bits.specs.Lists.{over}
 use Rattle.bits.proofs.Lists.{over_prefix}

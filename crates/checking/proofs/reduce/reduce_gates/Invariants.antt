@@ -1,5 +1,4 @@
 -- `checking::reduce::reduce_gates` meets its contract. The loop's invariant: the gates that now stand, whose reduction is what is left to do. Assumes nothing.
-use Rattle.std.proofs.Common.{◌-◌}
 use Rattle.checking.proofs.lemmas.reduce.Turns.{Standing}
 use Rattle.checking.proofs.reduce.reduce_gates.Given as goal
 

@@ -1,5 +1,5 @@
 -- `checking::step::clear_from` meets its contract.
-use Rattle.std.proofs.Common.{◌≡◌, ◌-◌, length, refl, ◌∙◌, arith, length-set}
+use Rattle.std.proofs.Common.{◌≡◌, length, refl, ◌∙◌, arith, length-set}
 use Rattle.checking.proofs.lemmas.step.Moving.{cleared_none, cleared_more, cleared_all}
 use Rattle.checking.proofs.step.clear_from.Goals as goal
 

@@ -1,5 +1,5 @@
 -- `circuit::file::judge` meets its contract.
-use Rattle.std.proofs.Common.{◌-◌, sym, ap, ◌∙◌, arith}
+use Rattle.std.proofs.Common.{sym, ap, ◌∙◌, arith}
 use borrow.Author.Tests.{not-true, not-false}
 use Rattle.circuit.specs.private.Scan.{of_gate}
 use Rattle.circuit.proofs.lemmas.file.Steps.{judging_start, judging_turn, judging_refused, judging_step, judging_end}

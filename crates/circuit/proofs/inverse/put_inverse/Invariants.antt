@@ -1,5 +1,5 @@
 -- `circuit::inverse::put_inverse` meets its contract. The loop's invariant: the gates from j on stand in reverse order at the buffer's start. Assumes nothing.
-use Rattle.std.proofs.Common.{◌≡◌, ◌+◌, ◌-◌, ◌*◌, ◌/◌, length}
+use Rattle.std.proofs.Common.{◌≡◌, ◌+◌, ◌*◌, ◌/◌, length}
 use Rattle.bits.specs.Lists.{over}
 use Rattle.circuit.proofs.lemmas.inverse.Laws.{tail_back}
 use Rattle.circuit.proofs.inverse.put_inverse.Given as goal

@@ -1,5 +1,5 @@
 -- `circuit::run::run_gates` meets its contract.
-use Rattle.std.proofs.Common.{◌-◌, sym, refl, ap, ◌∙◌, arith}
+use Rattle.std.proofs.Common.{sym, refl, ap, ◌∙◌, arith}
 use borrow.Author.Tests.{not-true, not-false}
 use Rattle.circuit.specs.Gate.{apply}
 use Rattle.circuit.specs.Outcome.{served}

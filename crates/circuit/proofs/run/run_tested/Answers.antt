@@ -1,5 +1,5 @@
 -- `circuit::run::run_tested` meets its contract.
-use Rattle.std.proofs.Common.{◌-◌, sym, refl, ap, ◌∙◌, arith}
+use Rattle.std.proofs.Common.{sym, refl, ap, ◌∙◌, arith}
 use Rattle.circuit.specs.Gate.{toggled}
 use Rattle.circuit.specs.Run.{run_tested}
 use Rattle.circuit.proofs.lemmas.run.Laws.{fold_turn, fold_end}

@@ -1,5 +1,4 @@
 -- `text::dimacs::put_literals` meets its contract.
-use Prim.Native.Nat.{◌-◌}
 use native.Mathlib.Omega.{arith}
 use borrow.Author.Rules.{rules, sfits_of}
 use Rattle.circuit.proofs.Promises.{rest_length}

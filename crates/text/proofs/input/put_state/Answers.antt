@@ -1,5 +1,4 @@
 -- `text::input::put_state` meets its contract.
-use Prim.Native.Nat.{◌-◌}
 use native.Mathlib.Omega.{arith}
 use Rattle.text.proofs.input.Laws.{stating_start, stating_on, stating_done}
 use Rattle.text.proofs.input.put_state.Goals as goal

@@ -1,5 +1,4 @@
 -- `text::plain::closed_size` meets its contract.
-use Prim.Native.Nat.{◌-◌}
 use native.Mathlib.Omega.{arith}
 use Rattle.text.proofs.dimacs.Signed.{word_is}
 use Rattle.text.proofs.plain.Laws.{closing_start, closing_room, closing_on, closing_done}

@@ -1,5 +1,5 @@
 -- `text::put::put_long` meets its contract. Assumes nothing.
-use Rattle.std.proofs.Common.{◌≡◌, ℕ, ◌/◌, ◌<◌, ◌≤◌, sym, subst, arith, rules}
+use Rattle.std.proofs.Common.{ℕ, ◌/◌, ◌<◌, sym, subst, arith, rules}
 use Rattle.circuit.proofs.Promises.{put_as}
 use Rattle.text.proofs.Decimal.{decimal_hundreds, hundreds_length}
 use Rattle.text.proofs.put.Laws.{then_put}

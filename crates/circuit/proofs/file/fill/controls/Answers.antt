@@ -1,8 +1,8 @@
 -- `circuit::file::fill::controls` meets its contract.
-use Rattle.std.proofs.Common.{ℕ, ◌-◌, ◌^◌, ◌<◌, Bool, cond, not, List, ap, ◌∙◌, ap₂, arith}
+use Rattle.std.proofs.Common.{ℕ, ◌^◌, Bool, cond, not, List, ap, ◌∙◌, ap₂, arith}
 use lib.Bits.{bit_or}
 use Rattle.circuit.specs.declared.gate.Gate.{Gate}
-use Rattle.circuit.specs.Gate.{max_lines, Control}
+use Rattle.circuit.specs.Gate.{Control}
 use Rattle.circuit.specs.declared.file.scan.Numeral.{Numeral}
 use Rattle.circuit.specs.private.Fill.{ControlsAt}
 use Rattle.circuit.proofs.lemmas.file.fill.Laws.{passing_start, passing_inside, Next, passing_next, passing_done, sign_told}

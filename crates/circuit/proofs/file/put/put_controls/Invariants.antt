@@ -1,5 +1,4 @@
 -- `circuit::file::put::put_controls` meets its contract. The loop's invariant: the controls on the lines that are not left stand at the buffer's start. Assumes nothing.
-use Rattle.std.proofs.Common.{◌-◌}
 use Rattle.circuit.proofs.lemmas.file.put.Laws.{Putting}
 use Rattle.circuit.proofs.file.put.put_controls.Given as goal
 

@@ -1,5 +1,5 @@
 -- `circuit::file::scan::controls` meets its contract.
-use Rattle.std.proofs.Common.{◌≡◌, ◌+◌, ◌-◌, get_or, drop, sym, ap, ◌∙◌, subst, arith}
+use Rattle.std.proofs.Common.{◌≡◌, ◌+◌, get_or, drop, sym, ap, ◌∙◌, subst, arith}
 use borrow.Author.Tests.{not-true, not-false}
 use Rattle.circuit.specs.Gate.{Control}
 use Rattle.circuit.specs.Text.{tab}

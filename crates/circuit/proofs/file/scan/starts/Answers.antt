@@ -1,5 +1,5 @@
 -- `circuit::file::scan::starts` meets its contract.
-use Rattle.std.proofs.Common.{◌≡◌, ℕ, ◌+◌, ◌-◌, drop, sym, ap, ◌∙◌, arith, length-drop}
+use Rattle.std.proofs.Common.{◌≡◌, ℕ, ◌+◌, drop, sym, ap, ◌∙◌, arith, length-drop}
 use Rattle.circuit.specs.private.Scan.{starts_with}
 use Rattle.circuit.proofs.lemmas.file.scan.Laws.{starts_short, starts_more, starts_other, starts_all}
 use Rattle.circuit.proofs.file.scan.starts.Goals as goal
