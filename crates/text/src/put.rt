@@ -11,7 +11,9 @@ pub(crate) fn put_word(out: &mut [u8], word: &[u8]) -> usize
     requires { length word.now ≤ length out.old }
     ensures { Put result out.new word.now out.old }
 {
-    bytes::copy(word, out)
+    let size = word.len();
+    out[..size].copy_from_slice(word);
+    size
 }
 
 // The digit of a number below 10.
