@@ -6,6 +6,7 @@ ghost use Rattle.bits.specs.Lists.{Put};
 ghost use Rattle.text.specs.Compare.{file_words};
 ghost use Rattle.text.specs.CheckInput.{max_checked, check_text};
 
+use std::rt::{Env, Files};
 use streams::Reading;
 use text::TextAnswer;
 
@@ -35,34 +36,34 @@ fn answer(
 }
 
 // Writes what the program answers to two files and an input.
-fn respond(first: &[u8], second: &[u8], state: &[u8]) {
+fn respond(rt: &(impl Print + Eprint), first: &[u8], second: &[u8], state: &[u8]) {
     let mut a = [0u64; text::FILE_WORDS];
     let mut b = [0u64; text::FILE_WORDS];
     let mut out = [0u8; text::MAX_CHECKED];
     let size = answer(&mut out, first, second, state, &mut a, &mut b);
-    streams::write(&out[..size], b"check_input: standard output");
+    streams::write(rt, &out[..size], b"check_input: standard output");
 }
 
 // Goes on with the files; an argument that is longer than a state is taken for an empty one, which is none.
-fn with_files(first: &[u8], second: &[u8]) {
+fn with_files(rt: &(impl Env + Print + Eprint), first: &[u8], second: &[u8]) {
     let mut state = [0u8; STATE];
-    let size = os::arg(3, &mut state);
-    respond(first, second, &state[..size]);
+    let size = rt.arg(3, &mut state).unwrap_or(0);
+    respond(rt, first, second, &state[..size]);
 }
 
 // Goes on with the first file.
-fn with_first(first: &[u8]) {
+fn with_first(rt: &(impl Env + Files + Print + Eprint), first: &[u8]) {
     let mut second = [0u8; FILE];
-    match streams::read_argument(2, &mut second) {
-        Reading::Bytes(taken) => with_files(first, &second[..taken]),
-        Reading::Failed => {}
+    match streams::read_argument(rt, 2, &mut second) {
+        Reading::Bytes(taken) => with_files(rt, first, &second[..taken]),
+        Reading::Failed(_) => {}
     }
 }
 
-fn main() {
+fn main(rt: HostRuntime) {
     let mut first = [0u8; FILE];
-    match streams::read_argument(1, &mut first) {
-        Reading::Bytes(taken) => with_first(&first[..taken]),
-        Reading::Failed => {}
+    match streams::read_argument(&rt, 1, &mut first) {
+        Reading::Bytes(taken) => with_first(&rt, &first[..taken]),
+        Reading::Failed(_) => {}
     }
 }

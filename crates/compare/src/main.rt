@@ -6,6 +6,7 @@ ghost use Rattle.bits.specs.Lists.{Put};
 ghost use Rattle.text.specs.Compare.{max_list, max_compared, file_words, miter_words, compare_text};
 
 use checking::clauses::ClauseWord;
+use std::rt::{Env, Files};
 use streams::Reading;
 use text::TextAnswer;
 
@@ -45,7 +46,7 @@ fn text_room() -> [u8; text::MAX_COMPARED] {
 }
 
 // Writes what the program answers to two files.
-fn respond(first: &[u8], second: &[u8]) {
+fn respond(rt: &(impl Print + Eprint), first: &[u8], second: &[u8]) {
     let mut a = [0u64; text::FILE_WORDS];
     let mut b = [0u64; text::FILE_WORDS];
     let mut miter = [0u64; text::MITER_WORDS];
@@ -60,22 +61,22 @@ fn respond(first: &[u8], second: &[u8]) {
         &mut miter,
         &mut clauses,
     );
-    streams::write(&out[..size], b"compare: standard output");
+    streams::write(rt, &out[..size], b"compare: standard output");
 }
 
 // Goes on with the first file.
-fn with_first(first: &[u8]) {
+fn with_first(rt: &(impl Env + Files + Print + Eprint), first: &[u8]) {
     let mut second = [0u8; FILE];
-    match streams::read_argument(2, &mut second) {
-        Reading::Bytes(taken) => respond(first, &second[..taken]),
-        Reading::Failed => {}
+    match streams::read_argument(rt, 2, &mut second) {
+        Reading::Bytes(taken) => respond(rt, first, &second[..taken]),
+        Reading::Failed(_) => {}
     }
 }
 
-fn main() {
+fn main(rt: HostRuntime) {
     let mut first = [0u8; FILE];
-    match streams::read_argument(1, &mut first) {
-        Reading::Bytes(taken) => with_first(&first[..taken]),
-        Reading::Failed => {}
+    match streams::read_argument(&rt, 1, &mut first) {
+        Reading::Bytes(taken) => with_first(&rt, &first[..taken]),
+        Reading::Failed(_) => {}
     }
 }

@@ -4,10 +4,9 @@
 ghost use Rattle.std.specs.Prelude.{◌≤◌, length};
 
 use circuit::file::{ReadAnswer, WriteAnswer};
-use libc::STDOUT_FILENO;
 
 // Lines, gates and bytes taken.
-fn print_read(text: &[u8]) {
+fn print_read(rt: &impl Print, text: &[u8]) {
     let mut out = [0u64; 3072];
     match circuit::file::read(text, &mut out) {
         ReadAnswer::Cascade {
@@ -15,9 +14,9 @@ fn print_read(text: &[u8]) {
             gates,
             taken,
         } => {
-            rows::print_row(b"read ", &[header.lines, gates as u64, taken as u64]);
+            rows::print_row(rt, b"read ", &[header.lines, gates as u64, taken as u64]);
         }
-        ReadAnswer::Refused(why) => rows::print_row(b"refused ", &[why.number, why.place]),
+        ReadAnswer::Refused(why) => rows::print_row(rt, b"refused ", &[why.number, why.place]),
     }
 }
 
@@ -66,48 +65,48 @@ fn put_long(out: &mut [u8], gates: usize, last: &[u8]) -> usize
 }
 
 // A text of so many gate lines on 64 lines, and then these bytes.
-fn print_long(gates: usize, last: &[u8]) {
+fn print_long(rt: &impl Print, gates: usize, last: &[u8]) {
     let mut text = [0u8; 4200];
     let at = put_long(&mut text, gates, last);
     if at <= 4200 {
-        print_read(&text[0..at]);
+        print_read(rt, &text[0..at]);
     }
 }
 
 // The text of a cascade in a buffer of 32 bytes.
-fn print_write(lines: u64, words: &[u64]) {
+fn print_write(rt: &impl Print, lines: u64, words: &[u64]) {
     let mut out = [0u8; 32];
     match circuit::file::write(lines, words, &mut out) {
         WriteAnswer::Bytes(written) => {
             if written <= 32 {
-                io::write_all(STDOUT_FILENO, &out[0..written]);
+                let _ = rt.write_all(&out[0..written]);
             }
         }
         WriteAnswer::Refused(why) => {
-            rows::print_row(b"refused ", &[why.number, why.place]);
+            rows::print_row(rt, b"refused ", &[why.number, why.place]);
         }
     }
 }
 
-fn main() {
+fn main(rt: HostRuntime) {
     // The smallest cascade; 64 lines; what follows `end` is not read.
-    print_read(b"lines\t1\nend\n");
-    print_read(b"lines\t64\ng\t63\t+0\t-9\t+10\t-62\nend\n");
-    print_read(b"lines\t2\ng\t1\t+0\nend\nlines\t2\nend\n");
+    print_read(&rt, b"lines\t1\nend\n");
+    print_read(&rt, b"lines\t64\ng\t63\t+0\t-9\t+10\t-62\nend\n");
+    print_read(&rt, b"lines\t2\ng\t1\t+0\nend\nlines\t2\nend\n");
     // 65 lines are 2, 100 are 1.
-    print_read(b"lines\t65\nend\n");
-    print_read(b"lines\t100\nend\n");
+    print_read(&rt, b"lines\t65\nend\n");
+    print_read(&rt, b"lines\t100\nend\n");
     // A missing line has the next index.
-    print_read(b"lines\t2\n");
+    print_read(&rt, b"lines\t2\n");
     // 3 before a later 1; 4; 5.
-    print_read(b"lines\t4\ng\t9\t?\nend\n");
-    print_read(b"lines\t2\ng\t0\t+0\nend\n");
-    print_read(b"lines\t9\ng\t0\t+3\t-3\nend\n");
+    print_read(&rt, b"lines\t4\ng\t9\t?\nend\n");
+    print_read(&rt, b"lines\t2\ng\t0\t+0\nend\n");
+    print_read(&rt, b"lines\t9\ng\t0\t+3\t-3\nend\n");
     // 1,024 gate lines are read; the 1,025th is 6.
-    print_long(1024, b"end\n");
-    print_long(1025, b"end\n");
+    print_long(&rt, 1024, b"end\n");
+    print_long(&rt, 1025, b"end\n");
     // The text of t1+0 t0 on two lines; refusal 7; 10 for a text of 33 bytes.
-    print_write(2, &[1, 0, 1, 0, 0, 0]);
-    print_write(2, &[0, 0, 0, 1, 0, 0]);
-    print_write(64, &[1073742849, 0, 63, 0, 0, 0]);
+    print_write(&rt, 2, &[1, 0, 1, 0, 0, 0]);
+    print_write(&rt, 2, &[0, 0, 0, 1, 0, 0]);
+    print_write(&rt, 64, &[1073742849, 0, 63, 0, 0, 0]);
 }

@@ -15,12 +15,12 @@ fn run_first(n: u64, gates: [Gate; 1025], count: usize, state: u64) -> RunAnswer
     circuit::run::run_records(n, &gates[..count], state)
 }
 
-fn print_run(n: u64, gates: [Gate; 1025], count: usize, state: u64)
+fn print_run(rt: &impl Print, n: u64, gates: [Gate; 1025], count: usize, state: u64)
     requires { count ≤ 1025 }
 {
     match run_first(n, gates, count, state) {
-        RunAnswer::State(output) => rows::print_row(b"state ", &[state, output]),
-        RunAnswer::Refused(why) => rows::print_row(b"refused ", &[why.number, why.place]),
+        RunAnswer::State(output) => rows::print_row(rt, b"state ", &[state, output]),
+        RunAnswer::Refused(why) => rows::print_row(rt, b"refused ", &[why.number, why.place]),
     }
 }
 
@@ -32,36 +32,36 @@ fn gate(positive: u64, negative: u64, target: u64) -> Gate {
     }
 }
 
-fn main() {
+fn main(rt: HostRuntime) {
     let mut gates = [Gate::not(0); 1025];
     // Document 01: t2+0+1, t2+0-1, t0.
     gates[0] = gate(3, 0, 2);
-    print_run(3, gates, 1, 3);
-    print_run(3, gates, 1, 1);
+    print_run(&rt, 3, gates, 1, 3);
+    print_run(&rt, 3, gates, 1, 1);
     gates[0] = gate(1, 2, 2);
-    print_run(3, gates, 1, 1);
-    print_run(3, gates, 1, 3);
+    print_run(&rt, 3, gates, 1, 1);
+    print_run(&rt, 3, gates, 1, 3);
     gates[0] = Gate::not(0);
-    print_run(1, gates, 1, 0);
+    print_run(&rt, 1, gates, 1, 0);
     // The empty list; on 64 lines t62+63-0.
-    print_run(64, gates, 0, 18446744073709551615);
+    print_run(&rt, 64, gates, 0, 18446744073709551615);
     gates[0] = gate(9223372036854775808, 1, 62);
-    print_run(64, gates, 1, 18446744073709551614);
+    print_run(&rt, 64, gates, 1, 18446744073709551614);
     // The first gate acts first: t1+0 t0, and then t2+1.
     gates[0] = gate(1, 0, 1);
     gates[2] = gate(2, 0, 2);
-    print_run(3, gates, 2, 1);
-    print_run(3, gates, 3, 1);
+    print_run(&rt, 3, gates, 2, 1);
+    print_run(&rt, 3, gates, 3, 1);
     // Refusals 2; 7 at the third gate of two lines, before 9; 9.
-    print_run(0, gates, 2, 0);
-    print_run(65, gates, 2, 0);
-    print_run(2, gates, 3, 9);
-    print_run(2, gates, 2, 4);
+    print_run(&rt, 0, gates, 2, 0);
+    print_run(&rt, 65, gates, 2, 0);
+    print_run(&rt, 2, gates, 3, 9);
+    print_run(&rt, 2, gates, 2, 4);
     // NOT on line 0, 1,024 and 1,023 times; 6 at 1,025, before 7.
     gates[0] = Gate::not(0);
     gates[2] = Gate::not(0);
-    print_run(1, gates, 1024, 0);
-    print_run(1, gates, 1023, 0);
+    print_run(&rt, 1, gates, 1024, 0);
+    print_run(&rt, 1, gates, 1023, 0);
     gates[0] = gate(0, 0, 1);
-    print_run(1, gates, 1025, 0);
+    print_run(&rt, 1, gates, 1025, 0);
 }

@@ -1,18 +1,14 @@
 // What the programs of rows print.
 #![tactic(auto)]
 
-use libc::STDOUT_FILENO;
-
-// Writes the name, the numbers parted by blanks, and an LF.
-pub fn print_row(name: &[u8], numbers: &[u64]) {
-    io::write_all(STDOUT_FILENO, name);
-    let mut i = 0;
-    while i < numbers.len() {
-        io::print_decimal(STDOUT_FILENO, numbers[i]);
-        i += 1;
-        if i < numbers.len() {
-            io::write_all(STDOUT_FILENO, b" ");
+// Writes the name, the numbers parted by blanks, and an LF to standard output. What cannot be written is left out.
+pub fn print_row(rt: &impl Print, name: &[u8], numbers: &[u64]) {
+    let _ = rt.write_all(name);
+    for (i, number) in numbers.iter().enumerate() {
+        if i > 0 {
+            let _ = rt.write_all(b" ");
         }
+        let _ = rt.print(*number);
     }
-    io::write_all(STDOUT_FILENO, b"\n");
+    let _ = rt.write_all(b"\n");
 }

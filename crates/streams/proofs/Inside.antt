@@ -1,8 +1,6 @@
 -- For a caller that reads: what `Inside` says where it got bytes. Assumes nothing.
-use mathlib.Core.Path.{◌≡◌, subst}
-use mathlib.Core.List.{List}
-use Prim.Native.Nat.{ℕ}
-use Rattle.io.specs.Counts.{IsPrefixLen}
+use Rattle.std.proofs.Common.{◌≡◌, subst, List, ℕ}
+use Rattle.std.specs.Counts.{IsPrefixLen}
 use Rattle.streams.specs.declared.Reading.{Reading}
 use Rattle.streams.specs.declared.Reading.TheVariants.{Bytes}
 use Rattle.streams.specs.Reading.{Inside}

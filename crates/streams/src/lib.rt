@@ -3,76 +3,172 @@
 
 ghost use Rattle.streams.specs.Reading.{Inside};
 
-// So many bytes at the buffer's start, or an error, whose reason errno has.
+use std::env::FillError;
+use std::io::{Error, ErrorKind, Read, Write};
+use std::rt::{Env, Files};
+use std::{fmt, fs, io};
+
+// So many bytes at the buffer's start, or an error.
 #[derive(Clone, Copy)]
 pub enum Reading {
     Bytes(usize),
-    Failed,
+    Failed(Error),
 }
 
 // How often a read that a signal interrupted is made again.
 const MAX_AGAIN: usize = 1000;
 
+// The longest name of a file.
+const MAX_NAME: usize = 4096;
+
+// The longest text of an error.
+const MAX_REASON: usize = 128;
+
+// The system's numbers of an argument that is missing, and of a name that is too long.
+const INVALID_ARGUMENT: i32 = 22;
+
+const NAME_TOO_LONG: i32 = 36;
+
 // Reads until the buffer is full or the input ends.
-pub fn read_all(fd: i32, buf: &mut [u8]) -> Reading
+pub fn read_all(input: &mut impl Read, buf: &mut [u8]) -> Reading
     ensures { Inside result buf.new }
 {
     let mut done = 0;
     let mut again = MAX_AGAIN;
     while done < buf.len() {
-        let got = libc::read(fd, &mut buf[done..]);
-        if got < 0 {
-            if again == 0 {
-                return Reading::Failed;
+        match input.read(&mut buf[done..]) {
+            Ok(more) => {
+                if more == 0 {
+                    return Reading::Bytes(done);
+                }
+                done += more;
             }
-            if os::errno() != libc::EINTR {
-                return Reading::Failed;
+            Err(error) => {
+                if again == 0 {
+                    return Reading::Failed(error);
+                }
+                if error.kind() != ErrorKind::Interrupted {
+                    return Reading::Failed(error);
+                }
+                again -= 1;
             }
-            again -= 1;
-        } else {
-            let more = io::count(got, &buf[done..]);
-            if more == 0 {
-                return Reading::Bytes(done);
-            }
-            done += more;
         }
     }
     Reading::Bytes(done)
 }
 
-// Writes bytes to standard output. Where that failed, `what` and errno's text as a line on standard error.
-pub fn write(bytes: &[u8], what: &[u8]) {
-    if !io::write_all(libc::STDOUT_FILENO, bytes) {
-        os::fail(what);
+// Writes bytes to standard output. Where that failed, `what` and the error's text as a line on standard error.
+pub fn write(rt: &(impl Print + Eprint), bytes: &[u8], what: &[u8]) {
+    if let Err(error) = rt.write_all(bytes) {
+        tell(rt, what, &error);
     }
 }
 
-// What failed and errno's text as a line on standard error, and the line `failed` on standard output.
-pub fn fail(what: &[u8]) {
-    os::fail(what);
-    io::write_all(libc::STDOUT_FILENO, b"failed\n");
+// What failed and the error's text as a line on standard error, and the line `failed` on standard output.
+pub fn fail(rt: &(impl Print + Eprint), what: &[u8], error: &Error) {
+    tell(rt, what, error);
+    let _ = rt.write_all(b"failed\n");
 }
 
 // Reads the file that an argument names until the buffer is full or the file ends. Tells where that failed, by the file's name.
-pub fn read_argument(i: usize, buf: &mut [u8]) -> Reading
+pub fn read_argument(rt: &(impl Env + Files + Print + Eprint), i: usize, buf: &mut [u8]) -> Reading
     ensures { Inside result buf.new }
 {
-    let mut name = io::buffer();
-    let size = os::arg(i, &mut name);
-    if os::errno() != 0 {
-        fail(b"the name of a file");
-        return Reading::Failed;
-    }
-    let fd = os::open_read(&name[..size]);
-    if fd < 0 {
-        fail(&name[..size]);
-        return Reading::Failed;
-    }
-    match read_all(fd, buf) {
-        Reading::Bytes(done) => Reading::Bytes(done),
-        Reading::Failed => {
-            fail(&name[..size]);
-            Reading::Failed
+    let mut name = [0u8; MAX_NAME];
+    match rt.arg(i, &mut name) {
+        Ok(size) => read_named(rt, &name[..size], buf),
+        Err(why) => {
+            let error = error_of(why);
+            fail(rt, b"the name of a file", &error);
+            Reading::Failed(error)
         }
+    }
+}
+
+// Why an argument could not be had, as the system tells it.
+fn error_of(why: FillError) -> Error {
+    match why {
+        FillError::NotPresent => Error::from_raw_os_error(INVALID_ARGUMENT),
+        FillError::TooLong => Error::from_raw_os_error(NAME_TOO_LONG),
+    }
+}
+
+// Reads the file of this name.
+fn read_named(rt: &(impl Files + Print + Eprint), name: &[u8], buf: &mut [u8]) -> Reading
+    ensures { Inside result buf.new }
+{
+    let reading = read_file(rt, name, buf);
+    if let Reading::Failed(error) = reading {
+        fail(rt, name, &error);
+    }
+    reading
+}
+
+// Reads the file of this name, and tells nothing.
+fn read_file(rt: &impl Files, name: &[u8], buf: &mut [u8]) -> Reading
+    ensures { Inside result buf.new }
+{
+    match open(rt, name) {
+        Ok(mut file) => read_all(&mut file, buf),
+        Err(error) => Reading::Failed(error),
+    }
+}
+
+// Opens the file of this name, which has to be UTF-8.
+fn open<R: Files>(rt: &R, name: &[u8]) -> io::Result<R::File> {
+    match str::from_utf8(name) {
+        Ok(name) => fs::open(rt, name),
+        Err(_) => Err(Error::new(ErrorKind::InvalidFilename, "not UTF-8")),
+    }
+}
+
+// What failed and the error's text, as a line on standard error.
+fn tell(rt: &impl Eprint, what: &[u8], error: &Error) {
+    let _ = eprintln!(rt; "{}: {}", Words(what), Reason(error));
+}
+
+// Bytes as text: U+FFFD for those that are none.
+#[derive(Drop)]
+struct Words<'a>(&'a [u8]);
+
+impl fmt::Display for Words<'_> {
+    fn fmt<W: fmt::Write>(&self, f: &mut fmt::Formatter<W>) -> fmt::Result {
+        for chunk in self.0.utf8_chunks() {
+            f.write_str(chunk.valid())?;
+            if !chunk.invalid().is_empty() {
+                f.write_str("\u{FFFD}")?;
+            }
+        }
+        Ok(())
+    }
+}
+
+// An error's text without the system's number.
+#[derive(Drop)]
+struct Reason<'a>(&'a Error);
+
+impl fmt::Display for Reason<'_> {
+    fn fmt<W: fmt::Write>(&self, f: &mut fmt::Formatter<W>) -> fmt::Result {
+        let error = self.0;
+        let mut room = [0u8; MAX_REASON];
+        let mut rest = &mut room[..];
+        let _ = write!(rest, "{error}");
+        f.write_str(start_of(&room))
+    }
+}
+
+// The text in the room up to the system's number or the first NUL.
+fn start_of(room: &[u8]) -> &str {
+    match str::from_utf8(room) {
+        Ok(text) => before(before(text, " (os error "), "\0"),
+        Err(_) => "",
+    }
+}
+
+// The text before the mark, or all of it.
+fn before<'a>(text: &'a str, mark: &str) -> &'a str {
+    match text.split_once(mark) {
+        Some((start, _)) => start,
+        None => text,
     }
 }

@@ -5,7 +5,6 @@ ghost use Rattle.std.specs.Prelude.{◌≤◌, length};
 ghost use Rattle.bits.specs.Lists.{Put};
 ghost use Rattle.text.specs.Tomiter.{max_text, tomiter_text};
 
-use libc::STDIN_FILENO;
 use streams::Reading;
 use text::TextAnswer;
 
@@ -24,16 +23,16 @@ fn answer(out: &mut [u8], input: &[u8]) -> usize
 }
 
 // Writes what the program answers to an input.
-fn respond(input: &[u8]) {
+fn respond(rt: &(impl Print + Eprint), input: &[u8]) {
     let mut out = [0u8; text::MAX_TEXT];
     let size = answer(&mut out, input);
-    streams::write(&out[..size], b"tomiter: standard output");
+    streams::write(rt, &out[..size], b"tomiter: standard output");
 }
 
-fn main() {
+fn main(rt: HostRuntime) {
     let mut input = [0u8; INPUT];
-    match streams::read_all(STDIN_FILENO, &mut input) {
-        Reading::Bytes(taken) => respond(&input[..taken]),
-        Reading::Failed => streams::fail(b"tomiter: standard input"),
+    match streams::read_all(&mut rt.stdin(), &mut input) {
+        Reading::Bytes(taken) => respond(&rt, &input[..taken]),
+        Reading::Failed(error) => streams::fail(&rt, b"tomiter: standard input", &error),
     }
 }
