@@ -53,8 +53,8 @@
  * n of a satisfying assignment are lines 0 to n - 1 of an input on which they do. An OR clause needs a
  * true literal, and an XOR clause an odd number of them.
  *
- * examples/editor.c uses all of this. `rt staticlib capi` proves the library and writes it, for Linux
- * on x86-64, to target/staticlib/libcapi.a; it is linked by cc -Iinclude PROGRAM.c target/staticlib/libcapi.a
+ * examples/editor.c uses all of this. `tests/archive` proves the library and writes it, for Linux on
+ * x86-64, to target/staticlib/libcapi.a; it is linked by cc -Iinclude PROGRAM.c target/staticlib/libcapi.a
  */
 #ifndef CASCADE_H
 #define CASCADE_H
