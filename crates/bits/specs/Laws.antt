@@ -1,5 +1,5 @@
 -- What this crate proves of digits. Its laws on lists hold for any element type and stand in proofs/Lists.antt; a contract cannot name a law over types.
-use Rattle.std.specs.Prelude.{◌≡◌, ◌↔◌, false, ◌&&◌, ◌||◌, ◌∷◌, ℕ, ◌+◌, ◌-◌, ◌^◌, ◌<◌, ◌≤◌, eqb, length}
+use Rattle.std.specs.Prelude.{◌≡◌, ◌↔◌, false, ◌&&◌, ◌||◌, ◌∷◌, ℕ, ◌+◌, ◌-◌, ◌^◌, ◌<◌, ◌≤◌, ◌==◌, length}
 use Rattle.std.specs.Bool.{xor}
 use Rattle.std.specs.Int.Bits.{bit_and, bit_or, bit_xor}
 use Rattle.std.specs.Int.Count.{ones, count_trailing_zeros}
@@ -10,7 +10,7 @@ pub record DigitLaws : Type 0 where
   pub bit-and : (a b k : ℕ) → bit (bit_and a b) k ≡ (bit a k && bit b k)
   pub bit-or : (a b k : ℕ) → bit (bit_or a b) k ≡ (bit a k || bit b k)
   pub bit-xor : (a b k : ℕ) → bit (bit_xor a b) k ≡ xor (bit a k) (bit b k)
-  pub bit_pow : (t k : ℕ) → bit (2 ^ t) k ≡ eqb k t
+  pub bit_pow : (t k : ℕ) → bit (2 ^ t) k ≡ (k == t)
   pub bit_sum : (a b : ℕ) → bit_and a b ≡ 0 → (k : ℕ) → bit (a + b) k ≡ (bit a k || bit b k)
   -- a number is its digits
   pub bits_equal : (a b : ℕ) → ((k : ℕ) → bit a k ≡ bit b k) → a ≡ b

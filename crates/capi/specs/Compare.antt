@@ -1,5 +1,5 @@
 -- Answers of the calls that compare two cascades in C.
-use Rattle.std.specs.Prelude.{Bool, true, false, cond, ltb}
+use Rattle.std.specs.Prelude.{Bool, true, false, cond, nat_lt}
 use Rattle.circuit.specs.Outcome.{Outcome, served, refused}
 use Rattle.circuit.specs.Words.{Counts}
 use Rattle.checking.specs.Compare.{Difference, none, lowest}
@@ -22,7 +22,7 @@ differs_answer (refused number place) = record { number = number; place = place;
 -- second is 1 exactly where the second has fewer gates; gates is the gate count of the one that is picked
 abbrev pub fewer_answer : Outcome Counts → CascadeFewerAnswer
 fewer_answer (served counts) =
-    cond (ltb counts.second counts.first)
+    cond (nat_lt counts.second counts.first)
     (record { number = 0; place = 0; second = 1; gates = counts.second })
     (record { number = 0; place = 0; second = 0; gates = counts.first })
 fewer_answer (refused number place) = record { number = number; place = place; second = 0; gates = 0 }

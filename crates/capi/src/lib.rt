@@ -1,5 +1,6 @@
 // The C interface: each call of include/cascade.h, over the call of the same name.
 #![tactic(auto)]
+
 pub mod compare;
 pub mod count;
 pub mod emit;

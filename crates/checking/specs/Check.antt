@@ -71,10 +71,10 @@ clauses_left (refused number place) na a nb b calls work out = out
 
 -- what the function owes: its answer, both buffers, that where it is served its clauses tell on which states the cascades differ, and demand 3 of this answer and this clause buffer
 pub record Checks (na : ℕ) (a : List ℕ) (nb : ℕ) (b : List ℕ) (calls : List Call) (work : List ℕ) (out : List ℤ)
-    (told : Outcome Totals) (work-last : List ℕ) (out-last : List ℤ) : Type 0 where
+    (told : Outcome Totals) (work_last : List ℕ) (out_last : List ℤ) : Type 0 where
   pub answer : told ≡ checked_outcome na a nb b calls work (length out)
-  pub words : work-last ≡ work_left (miter_outcome na a nb b (length work)) na a nb b calls work
-  pub clauses : out-last ≡ clauses_left (miter_outcome na a nb b (length work)) na a nb b calls work out
-  pub tells : ServedTells na a nb b told out-last
+  pub words : work_last ≡ work_left (miter_outcome na a nb b (length work)) na a nb b calls work
+  pub clauses : out_last ≡ clauses_left (miter_outcome na a nb b (length work)) na a nb b calls work out
+  pub tells : ServedTells na a nb b told out_last
   pub claim : (i j : ℕ) → Cascade na a max_gates i → Cascade nb b max_gates j → na ≡ nb → length a + length b ≤ length work
-      → Claim na a b work calls out told out-last
+      → Claim na a b work calls out told out_last

@@ -1,9 +1,9 @@
 -- Two gates: whether they may pass each other, how they match, and what remains, by document 01.
 use Rattle.std.specs.Prelude.{ℕ, ◌^◌, Bool, cond, ◌&&◌, List, [], ◌∷◌, ◌==◌, bit_and, bit_or, bit_xor, count_ones}
 use Rattle.circuit.specs.declared.gate.Gate.{Gate}
-use Rattle.checking.specs.declared.step.Kind as declared-kind
+use Rattle.checking.specs.declared.step.Kind as declared_kind
 use Rattle.checking.specs.declared.step.Kind.TheVariants as kind
-use Rattle.checking.specs.declared.step.Match as declared-match
+use Rattle.checking.specs.declared.step.Match as declared_match
 use Rattle.checking.specs.declared.step.Match.TheVariants as match
 use Rattle.checking.specs.declared.step.Verdict.{Verdict}
 use Rattle.checking.specs.declared.step.Verdict.TheVariants.{Apart, Matched}
@@ -80,12 +80,12 @@ remaining (Match.drop r) = r ∷ []
 remaining (Match.turn r) = r ∷ []
 
 -- the code's answers in document 01's words
-abbrev pub of_kind : declared-kind.Kind → Kind
+abbrev pub of_kind : declared_kind.Kind → Kind
 of_kind kind.Cancel = Kind.pair
 of_kind kind.RemoveControl = Kind.drop
 of_kind kind.InvertControl = Kind.turn
 
-abbrev pub of_match : declared-match.Match → Match
+abbrev pub of_match : declared_match.Match → Match
 of_match match.Cancel = Match.pair
 of_match (match.RemoveControl r) = Match.drop r
 of_match (match.InvertControl r) = Match.turn r

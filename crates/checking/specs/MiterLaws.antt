@@ -13,7 +13,7 @@ pub record MiterServed (na : ℕ) (a : List ℕ) (nb : ℕ) (b : List ℕ) (room
   pub first : ℕ
   pub second : ℕ
   pub first_good : Cascade na a max_gates first
-  pub second-good : Cascade nb b max_gates second
+  pub second_good : Cascade nb b max_gates second
   pub lines : na ≡ nb
   pub fits : length a + length b ≤ room
   pub count : k ≡ first + second

@@ -20,7 +20,7 @@ pub record ToldOf (na : ℕ) (a : List ℕ) (nb : ℕ) (b : List ℕ) (totals : 
   pub first : ℕ
   pub first_good : Cascade na a max_gates first
   pub second : ℕ
-  pub second-good : Cascade nb b max_gates second
+  pub second_good : Cascade nb b max_gates second
   pub lines : na ≡ nb
   pub told : Told na a b totals buffer
 

@@ -7,7 +7,7 @@ pub use Rattle.circuit.proofs.lemmas.gate.Valid.{valid_facts, valid_by_lines, li
 pub use Rattle.circuit.proofs.lemmas.gate.Effect.{fires_lines, lines_fires, inverted_fired, inverted_idle, apply_gate, apply_bit, apply_none, apply_not, apply_twice, apply_below, missed_line, missed_none, toggled_apply}
 pub use Rattle.circuit.proofs.lemmas.gate.Controls.{met_none, met_one, met_next, met_append, few_controls, controls_fire, controls_count, control_on, controls_lines, controls_below_lem}
 -- gates and their words
-pub use Rattle.circuit.proofs.lemmas.words.Gates.{gates_length, gate-at, gate_none, gates_next, gates_end, words_none, words_one, words_next, words_append, words_length, words_take, words_drop, gates_words, words_gates, put_fits, put_short}
+pub use Rattle.circuit.proofs.lemmas.words.Gates.{gates_length, gate_at_lem, gate_none, gates_next, gates_end, words_none, words_one, words_next, words_append, words_length, words_take, words_drop, gates_words, words_gates, put_fits, put_short}
 pub use Rattle.circuit.proofs.lemmas.words.Gates.{valid_none, valid_parts, valid_both, valid_split, valid_append, valid_all_more, gate_valid, valid_next, valid_later}
 -- the tests of a caller's words
 pub use Rattle.circuit.proofs.lemmas.words.Tests.{lines_good, size_served, from_served, next_good, next_bad, none_left, gates_refused, gates_sized, check_lines, check_gates, check_served, served_check, check_refused, refused_check, words_cascade, cascade_count, cascade_words, words_wrong, pair_served, served_pair, pair_refused, pair_wrong}

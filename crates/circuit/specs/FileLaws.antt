@@ -128,21 +128,21 @@ abbrev pub WriteRefused : ℕ → List ℕ → ℕ → ℕ → ℕ → Type 0
 WriteRefused n ws room = Wrong (WordsRefused n ws max_gates) (Cascade n ws max_gates) (λ k. Fails (room < length (text_of n (gates_of ws))) no_room 0)
 
 -- of two calls on files, by their outcomes and what they leave in their buffers
-pub record RoundTrip (read : List ℕ → ℕ → Outcome ReadCounts) (read-into : List ℕ → List ℕ → List ℕ)
-    (write : ℕ → List ℕ → ℕ → Outcome ℕ) (write-into : ℕ → List ℕ → List ℕ → List ℕ) : Type 0 where
+pub record RoundTrip (read : List ℕ → ℕ → Outcome ReadCounts) (read_into : List ℕ → List ℕ → List ℕ)
+    (write : ℕ → List ℕ → ℕ → Outcome ℕ) (write_into : ℕ → List ℕ → List ℕ → List ℕ) : Type 0 where
   -- each puts what it is asked for at the buffer's start and leaves the rest; a refused one leaves all of it
   pub read_leaves : (n : ℕ) (gs : List Gate) (rest out : List ℕ) → FileCascade n gs → 3 * length gs ≤ length out
-      → read-into (text_of n gs ++ rest) out ≡ over (words_of gs) out
-  pub read_untouched : (text out : List ℕ) → Untouched (read text (length out)) out (read-into text out)
-  pub write_leaves : (n : ℕ) (ws out : List ℕ) (k : ℕ) → write n ws (length out) ≡ served k → write-into n ws out ≡ over (text_of n (gates_of ws)) out
-  pub write_untouched : (n : ℕ) (ws out : List ℕ) → Untouched (write n ws (length out)) out (write-into n ws out)
+      → read_into (text_of n gs ++ rest) out ≡ over (words_of gs) out
+  pub read_untouched : (text out : List ℕ) → Untouched (read text (length out)) out (read_into text out)
+  pub write_leaves : (n : ℕ) (ws out : List ℕ) (k : ℕ) → write n ws (length out) ≡ served k → write_into n ws out ≡ over (text_of n (gates_of ws)) out
+  pub write_untouched : (n : ℕ) (ws out : List ℕ) → Untouched (write n ws (length out)) out (write_into n ws out)
   -- where writing is served with k bytes, reading the first k of its buffer is served with the line count, the gates and k, and leaves the words at the buffer's start
   pub write_read : (n : ℕ) (ws out : List ℕ) (k : ℕ) → write n ws (length out) ≡ served k → (into : List ℕ) → length ws ≤ length into
-      → Yields (read (take k (write-into n ws out)) (length into)) (read-into (take k (write-into n ws out)) into)
+      → Yields (read (take k (write_into n ws out)) (length into)) (read_into (take k (write_into n ws out)) into)
       (served (record { lines = n; gates = length ws / 3; taken = k })) (over ws into)
   -- where reading is served, writing the words of its buffer is served with the bytes taken, and leaves these bytes at the buffer's start
   pub read_write : (text out : List ℕ) (c : ReadCounts) → read text (length out) ≡ served c → (into : List ℕ) → c.taken ≤ length into
-      → Yields (write c.lines (take (3 * c.gates) (read-into text out)) (length into)) (write-into c.lines (take (3 * c.gates) (read-into text out)) into)
+      → Yields (write c.lines (take (3 * c.gates) (read_into text out)) (length into)) (write_into c.lines (take (3 * c.gates) (read_into text out)) into)
       (served c.taken) (over (take c.taken text) into)
 
 pub record FileLaws : Type 0 where
@@ -150,9 +150,9 @@ pub record FileLaws : Type 0 where
   -- the calls themselves: reading a written cascade gives that cascade, writing a read one the same bytes
   pub round_trip : RoundTrip read_outcome read_buffer write_outcome write_buffer
   -- a reading, or a writing, that leaves its buffer as it was has not these laws
-  pub idle_reading : (read : List ℕ → ℕ → Outcome ReadCounts) (write : ℕ → List ℕ → ℕ → Outcome ℕ) (write-into : ℕ → List ℕ → List ℕ → List ℕ)
-      → RoundTrip read (λ text out. out) write write-into → ⊥
-  pub idle_writing : (read : List ℕ → ℕ → Outcome ReadCounts) (read-into : List ℕ → List ℕ → List ℕ) → RoundTrip read read-into write_outcome (λ n ws out. out) → ⊥
+  pub idle_reading : (read : List ℕ → ℕ → Outcome ReadCounts) (write : ℕ → List ℕ → ℕ → Outcome ℕ) (write_into : ℕ → List ℕ → List ℕ → List ℕ)
+      → RoundTrip read (λ text out. out) write write_into → ⊥
+  pub idle_writing : (read : List ℕ → ℕ → Outcome ReadCounts) (read_into : List ℕ → List ℕ → List ℕ) → RoundTrip read read_into write_outcome (λ n ws out. out) → ⊥
   -- a text is served exactly when it starts with the text of a cascade and the buffer is long enough, and refused exactly by what is wrong
   pub read_served : (text : List ℕ) (room : ℕ) (c : ReadCounts) → (read_outcome text room ≡ served c) ↔ Readable text room c
   pub read_refused : (text : List ℕ) (room number place : ℕ) → (read_outcome text room ≡ refused number place) ↔ ReadRefused text room number place

@@ -95,7 +95,7 @@ pair_outcome na a nb b =
 -- two cascades on as many lines, with their numbers of gates
 pub record GoodPair (na : ℕ) (a : List ℕ) (nb : ℕ) (b : List ℕ) (c : Counts) : Type 0 where
   pub first_good : Cascade na a max_gates c.first
-  pub second-good : Cascade nb b max_gates c.second
+  pub second_good : Cascade nb b max_gates c.second
   pub lines : na ≡ nb
 
 -- what is wrong with two cascades: with the first, with the second where the first is good, or 8 where both are

@@ -167,39 +167,39 @@ pub text_fits : (first second state : List ℕ) → length (check_text first sec
 unfolding check_text checked
 text_fits first second state = files_few first second state (files_of first second) (judged first second)
 
-pub room_enough : (first second state : List ℕ) (room-a room-b room : ℕ) → InputRoomsFit room-a room-b → max_checked ≤ room
-    → input_outcome first second state room-a room-b room ≡ served (length (check_text first second state))
+pub room_enough : (first second state : List ℕ) (room_a room_b room : ℕ) → InputRoomsFit room_a room_b → max_checked ≤ room
+    → input_outcome first second state room_a room_b room ≡ served (length (check_text first second state))
 unfolding input_outcome fit_outcome
-room_enough first second state room-a room-b room (a, b) h =
-    demand_met _ _ _ _ (le-leb file_words room-a a) ∙ demand_met _ _ _ _ (le-leb file_words room-b b)
+room_enough first second state room_a room_b room (a, b) h =
+    demand_met _ _ _ _ (le-leb file_words room_a a) ∙ demand_met _ _ _ _ (le-leb file_words room_b b)
     ∙ demand_met _ _ _ _ (le-leb (length (check_text first second state)) room (le_trans (text_fits first second state) h))
 
 -- ---- exactly where everything fits
 
-module _ (first second state : List ℕ) (room-a room-b : ℕ) (out : List ℕ) where
+module _ (first second state : List ℕ) (room_a room_b : ℕ) (out : List ℕ) where
   abbrev text : List ℕ
   text = check_text first second state
 
   abbrev fits : Bool
-  fits = leb file_words room-a && (leb file_words room-b && leb (length text) (length out))
+  fits = leb file_words room_a && (leb file_words room_b && leb (length text) (length out))
 
-  one_test : input_outcome first second state room-a room-b (length out) ≡ demand fits no_room 0 (served (length text))
+  one_test : input_outcome first second state room_a room_b (length out) ≡ demand fits no_room 0 (served (length text))
   unfolding input_outcome fit_outcome
   one_test =
-      ap (λ (o : Outcome ℕ). demand (leb file_words room-a) no_room 0 o) (two_tests (leb file_words room-b) _ no_room 0 _)
-      ∙ two_tests (leb file_words room-a) _ no_room 0 _
+      ap (λ (o : Outcome ℕ). demand (leb file_words room_a) no_room 0 o) (two_tests (leb file_words room_b) _ no_room 0 _)
+      ∙ two_tests (leb file_words room_a) _ no_room 0 _
 
-  all_fit : fits ≡ true → InputRoomsFit room-a room-b × (length text ≤ length out)
+  all_fit : fits ≡ true → InputRoomsFit room_a room_b × (length text ≤ length out)
   all_fit e =
-      let (a, f) = and_parts (leb file_words room-a) _ e in
-      let (b, g) = and_parts (leb file_words room-b) _ f in
+      let (a, f) = and_parts (leb file_words room_a) _ e in
+      let (b, g) = and_parts (leb file_words room_b) _ f in
       ((leb-true _ _ a, leb-true _ _ b), leb-true _ _ g)
 
-  fit_all : InputRoomsFit room-a room-b × (length text ≤ length out) → fits ≡ true
+  fit_all : InputRoomsFit room_a room_b × (length text ≤ length out) → fits ≡ true
   fit_all ((a, b), i) = both (le-leb _ _ a) (both (le-leb _ _ b) (le-leb _ _ i))
 
-  pub call : WritesWhere (InputRoomsFit room-a room-b × (length text ≤ length out)) (input_outcome first second state room-a room-b (length out)) text out
-      (input_buffer first second state room-a room-b out)
+  pub call : WritesWhere (InputRoomsFit room_a room_b × (length text ≤ length out)) (input_outcome first second state room_a room_b (length out)) text out
+      (input_buffer first second state room_a room_b out)
   unfolding input_buffer
   call =
-      writes_where (InputRoomsFit room-a room-b × (length text ≤ length out)) fits all_fit fit_all (input_outcome first second state room-a room-b (length out)) text out one_test
+      writes_where (InputRoomsFit room_a room_b × (length text ≤ length out)) fits all_fit fit_all (input_outcome first second state room_a room_b (length out)) text out one_test

@@ -60,7 +60,7 @@ module _ (first second : List ℕ) (n : ℕ) (a b : List Gate) (t : TwoFiles fir
   difference_few none s = omega arith
   difference_few (lowest x) s =
       let h = s.0.state in
-      omega (arith, differ_long x (run a x) (run b x), digits_few x (below x h), digits_few (run a x) (below _ (run_below n a t.first_good.gates x h)), digits_few (run b x) (below _ (run_below n b t.second-good.gates x h)))
+      omega (arith, differ_long x (run a x) (run b x), digits_few x (below x h), digits_few (run a x) (below _ (run_below n a t.first_good.gates x h)), digits_few (run b x) (below _ (run_below n b t.second_good.gates x h)))
 
   header_few : (v m : ℕ) → v ≤ max_variables → m ≤ max_list → length (header_text v m) ≤ 18
   header_few v m h l = omega (arith, header_long v m, variable_few v h, decimal_few 5 m (omega arith), decimal_few 0 0 (omega arith))

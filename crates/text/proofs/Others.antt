@@ -91,7 +91,7 @@ refused_told program one two number file place r laws = refused_case one two num
 -- ---- NOT and nothing, on one line
 
 files : TwoFiles first second 1 once []
-files = record { first_good = once_good; second-good = none_good; first_text = refl; second_text = refl; first_bytes = first_bytes; second_bytes = second_bytes }
+files = record { first_good = once_good; second_good = none_good; first_text = refl; second_text = refl; first_bytes = first_bytes; second_bytes = second_bytes }
 
 one_line : (n : ℕ) (a b : List Gate) → TwoFiles first second n a b → n ≡ 1
 one_line n a b t = (same first second n 1 a b once [] t files).lines

@@ -83,7 +83,7 @@ bytes_tell input out told last e l k s starts =
       first = a;
       second = b;
       first_good = f.first;
-      second-good = f.second;
+      second_good = f.second;
       files = f.files;
       told = subst (λ (text : List ℕ). TextTells text n a b) (sym same) (text_told input n a b f);
     }

@@ -60,7 +60,7 @@ module _ (first second : List ℕ) where
           subst Judged (sym (pair.second_same n a second d e s))
           (record {
             first_good = good;
-            second-good = subst (λ (k : ℕ). FileCascade k d.gates) (sym s) w.0;
+            second_good = subst (λ (k : ℕ). FileCascade k d.gates) (sym s) w.0;
             first_text = is;
             second_text = w.1 ∙ ap (λ (k : ℕ). text_of k d.gates) (sym s);
             first_bytes = short;
@@ -96,7 +96,7 @@ module _ (first second : List ℕ) where
   pub judged_is : (f : FileOutcome CascadePair) → Judged f → files_of first second ≡ f
   judged_is (answered p) t =
       first_is t.first_bytes t.second_bytes p.lines p.first t.first_good t.first_text
-      ∙ pair.second_same p.lines p.first second _ (whole_is second p.lines p.second t.second-good t.second_text) refl
+      ∙ pair.second_same p.lines p.first second _ (whole_is second p.lines p.second t.second_good t.second_text) refl
   judged_is (refused_at _ _ _) (first_long h) = pair.first_long first second h
   judged_is (refused_at _ _ _) (second_long s h) = pair.second_long first second s h
   judged_is (refused_at _ _ _) (first_file number place s s2 w) = pair.first_refused first second s s2 number place ((whole_refused first number place).1 w)
@@ -112,7 +112,7 @@ module _ (first second : List ℕ) (n : ℕ) (a b : List Gate) (t : TwoFiles fir
   gl = gates_left a b
 
   pub valid : all_valid n (miter_gates a b) ≡ true
-  valid = (listable n a b t.first_good t.second-good).valid
+  valid = (listable n a b t.first_good t.second_good).valid
 
   pub lines : n ≤ max_lines
   lines = t.first_good.lines_high
@@ -125,7 +125,7 @@ module _ (first second : List ℕ) (n : ℕ) (a b : List Gate) (t : TwoFiles fir
 
   pub left_few : length gl ≤ max_miter_gates
   left_few =
-      let l = listable n a b t.first_good t.second-good in
+      let l = listable n a b t.first_good t.second_good in
       omega (arith, l.few, reduce_laws.reduce_count (miter_gates a b) gl _ _ ((reduce_laws.reduce_reduces (miter_gates a b) (valid_all_more n max_lines (miter_gates a b) lines valid) (reduce_gates (miter_gates a b))).0 refl))
 
   -- so it is the identity on a state exactly where the cascades agree

@@ -1,5 +1,5 @@
 -- The answer of the calls that write a text, in document 01's numbers and values, and what they owe.
-use Rattle.std.specs.Prelude.{◌≡◌, ◌↔◌, List, ℕ, leb, length}
+use Rattle.std.specs.Prelude.{◌≡◌, ◌↔◌, List, ℕ, nat_le, length}
 use Rattle.bits.specs.Lists.{over}
 use Rattle.circuit.specs.Outcome.{Outcome, served, refused, demand, written, Untouched}
 use Rattle.circuit.specs.Refusal.{no_room}
@@ -12,7 +12,7 @@ of_text (text.Refused r) = refused r.number r.place
 
 -- a text is written where it fits: 10 where the buffer is shorter
 unfoldable pub fit_outcome : List ℕ → ℕ → Outcome ℕ
-fit_outcome text room = demand (leb (length text) room) no_room 0 (served (length text))
+fit_outcome text room = demand (nat_le (length text) room) no_room 0 (served (length text))
 
 unfoldable pub fit_buffer : List ℕ → List ℕ → List ℕ
 fit_buffer text out = written (fit_outcome text (length out)) text out

@@ -27,7 +27,7 @@ pub record FilesTold (input text : List ℕ) : Type 0 where
   pub first : List Gate
   pub second : List Gate
   pub first_good : FileCascade lines first
-  pub second-good : FileCascade lines second
+  pub second_good : FileCascade lines second
   pub files : input ≡ text_of lines first ++ text_of lines second
   pub told : TextTells text lines first second
 

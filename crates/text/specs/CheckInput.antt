@@ -1,5 +1,5 @@
 -- One input given to the cascades of two files: from the bytes to the bytes that are written.
-use Rattle.std.specs.Prelude.{cond, ◌&&◌, List, [], ◌∷◌, ◌++◌, ℕ, zero, suc, ◌+◌, ◌*◌, ◌-◌, ◌/◌, ◌%◌, ◌≤◌, eqb, leb, length}
+use Rattle.std.specs.Prelude.{cond, ◌&&◌, List, [], ◌∷◌, ◌++◌, ℕ, zero, suc, ◌+◌, ◌*◌, ◌-◌, ◌/◌, ◌%◌, ◌≤◌, ◌==◌, nat_le, length}
 use Rattle.std.proofs.Math.Option.{Option, none, some}
 use Rattle.circuit.specs.declared.gate.Gate.{Gate}
 use Rattle.circuit.specs.Outcome.{Outcome, demand, written}
@@ -25,7 +25,7 @@ unfoldable pub state_read : ℕ → List ℕ → Option ℕ
 state_read zero [] = some 0
 state_read zero (b ∷ bs) = none
 state_read (suc n) [] = none
-state_read (suc n) (b ∷ bs) = cond (leb 48 b && leb b 49) (then_read (λ (x : ℕ). (b - 48) + 2 * x) (state_read n bs)) none
+state_read (suc n) (b ∷ bs) = cond (nat_le 48 b && nat_le b 49) (then_read (λ (x : ℕ). (b - 48) + 2 * x) (state_read n bs)) none
 
 -- the outputs of both cascades on n lines
 pub record Outputs : Type 0 where
@@ -55,7 +55,7 @@ agree_word = 97 ∷ 103 ∷ 114 ∷ 101 ∷ 101 ∷ []
 -- `differ` or `agree`, the output of the first and of the second, tab-parted, and an LF
 unfoldable pub outputs_text : ℕ → ℕ → ℕ → List ℕ
 outputs_text n first second =
-    cond (eqb first second) agree_word differ_word ++ ((tab ∷ state_text n first) ++ ((tab ∷ state_text n second) ++ (line_feed ∷ [])))
+    cond (first == second) agree_word differ_word ++ ((tab ∷ state_text n first) ++ ((tab ∷ state_text n second) ++ (line_feed ∷ [])))
 
 abbrev pub checked_text : FileOutcome Outputs → List ℕ
 checked_text c = answer_text (λ o. outputs_text o.lines o.first o.second) c
@@ -66,18 +66,18 @@ check_text first second state = checked_text (checked first second state)
 
 -- each room has at least as many words as a cascade may have
 abbrev pub InputRoomsFit : ℕ → ℕ → Type 0
-InputRoomsFit room-a room-b = (file_words ≤ room-a) × (file_words ≤ room-b)
+InputRoomsFit room_a room_b = (file_words ≤ room_a) × (file_words ≤ room_b)
 
 -- a room is too short
 abbrev pub InputRoomShort : ℕ → ℕ → Type 0
-InputRoomShort room-a room-b = InputRoomsFit room-a room-b → ⊥
+InputRoomShort room_a room_b = InputRoomsFit room_a room_b → ⊥
 
 -- the call on slices: 10 where a room is too short, or the buffer is shorter than the text
 unfoldable pub input_outcome : List ℕ → List ℕ → List ℕ → ℕ → ℕ → ℕ → Outcome ℕ
-input_outcome first second state room-a room-b room =
-    demand (leb file_words room-a) no_room 0
-    (demand (leb file_words room-b) no_room 0
+input_outcome first second state room_a room_b room =
+    demand (nat_le file_words room_a) no_room 0
+    (demand (nat_le file_words room_b) no_room 0
     (fit_outcome (check_text first second state) room))
 
 unfoldable pub input_buffer : List ℕ → List ℕ → List ℕ → ℕ → ℕ → List ℕ → List ℕ
-input_buffer first second state room-a room-b out = written (input_outcome first second state room-a room-b (length out)) (check_text first second state) out
+input_buffer first second state room_a room_b out = written (input_outcome first second state room_a room_b (length out)) (check_text first second state) out

@@ -1,5 +1,5 @@
 -- What is proved of the text that is written for one input.
-use Rattle.std.specs.Prelude.{◌≡◌, cond, List, [], ◌∷◌, ◌++◌, ℕ, ◌^◌, ◌<◌, ◌≤◌, length, get_or}
+use Rattle.std.specs.Prelude.{◌≡◌, cond, List, [], ◌∷◌, ◌++◌, ℕ, ◌^◌, ◌<◌, ◌≤◌, length, slice_index}
 use Rattle.std.proofs.Math.Option.{some}
 use Rattle.bits.specs.Digits.{bit}
 use Rattle.circuit.specs.declared.gate.Gate.{Gate}
@@ -35,7 +35,7 @@ pub record ChecksInput (program : List ℕ → List ℕ → List ℕ → List �
 pub record CheckInputLaws : Type 0 where
   -- a state's text has a character for each line, line 0 first: 1 where the line is 1, else 0
   pub state_size : (n x : ℕ) → length (state_text n x) ≡ n
-  pub state_line : (n x k : ℕ) → k < n → get_or (state_text n x) k 0 ≡ digit (cond (bit x k) 1 0)
+  pub state_line : (n x k : ℕ) → k < n → slice_index (state_text n x) k ≡ digit (cond (bit x k) 1 0)
   -- it is read back, and what is read is the text of a state
   pub state_back : (n x : ℕ) → x < 2 ^ n → state_read n (state_text n x) ≡ some x
   pub state_was : (n : ℕ) (text : List ℕ) (x : ℕ) → state_read n text ≡ some x → (x < 2 ^ n) × (text ≡ state_text n x)
@@ -44,10 +44,10 @@ pub record CheckInputLaws : Type 0 where
   pub checks_only : (program : List ℕ → List ℕ → List ℕ → List ℕ) → ChecksInput program → (first second state : List ℕ)
       → program first second state ≡ check_text first second state
   -- the call writes the text exactly where the rooms and the buffer are long enough
-  pub call : (first second state : List ℕ) (room-a room-b : ℕ) (out : List ℕ) → WritesWhere (InputRoomsFit room-a room-b × (length (check_text first second state) ≤ length out))
-      (input_outcome first second state room-a room-b (length out)) (check_text first second state) out (input_buffer first second state room-a room-b out)
+  pub call : (first second state : List ℕ) (room_a room_b : ℕ) (out : List ℕ) → WritesWhere (InputRoomsFit room_a room_b × (length (check_text first second state) ≤ length out))
+      (input_outcome first second state room_a room_b (length out)) (check_text first second state) out (input_buffer first second state room_a room_b out)
   -- every text fits a buffer of 137 bytes
   pub text_fits : (first second state : List ℕ) → length (check_text first second state) ≤ max_checked
-  pub room_enough : (first second state : List ℕ) (room-a room-b room : ℕ) → InputRoomsFit room-a room-b → max_checked ≤ room
-      → input_outcome first second state room-a room-b room ≡ served (length (check_text first second state))
+  pub room_enough : (first second state : List ℕ) (room_a room_b room : ℕ) → InputRoomsFit room_a room_b → max_checked ≤ room
+      → input_outcome first second state room_a room_b room ≡ served (length (check_text first second state))
   pub rows : InputsHold input_rows

@@ -1,5 +1,5 @@
 -- Two cascade files compared: from their bytes to the bytes that are written.
-use Rattle.std.specs.Prelude.{cond, List, [], ◌∷◌, ◌++◌, ℕ, ◌*◌, ◌^◌, ◌≤◌, eqb, leb, length}
+use Rattle.std.specs.Prelude.{cond, List, [], ◌∷◌, ◌++◌, ℕ, ◌*◌, ◌^◌, ◌≤◌, ◌==◌, nat_le, length}
 use Rattle.circuit.specs.declared.gate.Gate.{Gate}
 use Rattle.circuit.specs.Gate.{max_gates, max_miter_gates}
 use Rattle.circuit.specs.Outcome.{Outcome, demand, written}
@@ -49,13 +49,13 @@ cascades n a b = record { lines = n; first = a; second = b }
 
 -- the second file beside the first one's cascade: its own refusal, then 8
 unfoldable pub second_file : ℕ → List Gate → List ℕ → FileOutcome CascadePair
-second_file n gs second = of_file 2 (whole_file second) (λ d. of_both (eqb n d.lines) line_counts_differ (answered (cascades n gs d.gates)))
+second_file n gs second = of_file 2 (whole_file second) (λ d. of_both (n == d.lines) line_counts_differ (answered (cascades n gs d.gates)))
 
 -- more than 262,144 bytes: 10; the first file; the second one
 unfoldable pub files_of : List ℕ → List ℕ → FileOutcome CascadePair
 files_of first second =
-    of_both (leb (length first) max_file) no_room
-    (of_both (leb (length second) max_file) no_room
+    of_both (nat_le (length first) max_file) no_room
+    (of_both (nat_le (length second) max_file) no_room
     (of_file 1 (whole_file first) (λ c. second_file c.lines c.gates second)))
 
 -- ---- the comparison
@@ -77,13 +77,13 @@ swept_as a b (lowest x) = differ_on x (run a x) (run b x)
 
 -- a clause list of more than 262,144 words: 10
 unfoldable pub list_as : ℕ → List Gate → FileOutcome Comparison
-list_as n gs = of_both (leb (length (stored (clauses_of n gs))) max_list) no_room (answered (unsolved (formula_of n gs)))
+list_as n gs = of_both (nat_le (length (stored (clauses_of n gs))) max_list) no_room (answered (unsolved (formula_of n gs)))
 
 -- the reduction decides where it leaves no gate; else the sweep, up to 16 lines; else the clauses of the gates left are for a solver
 unfoldable pub compared : ℕ → List Gate → List Gate → FileOutcome Comparison
 compared n a b =
-    cond (eqb (length (gates_left a b)) 0) (answered reduced)
-    (cond (leb n max_sweep_lines) (answered (swept_as a b (lowest_from a b 0 (2 ^ n)))) (list_as n (gates_left a b)))
+    cond (length (gates_left a b) == 0) (answered reduced)
+    (cond (nat_le n max_sweep_lines) (answered (swept_as a b (lowest_from a b 0 (2 ^ n)))) (list_as n (gates_left a b)))
 
 abbrev pub compared_files : FileOutcome CascadePair → FileOutcome Comparison
 compared_files files = further files (λ p. compared p.lines p.first p.second)
@@ -150,10 +150,10 @@ RoomShort lent = RoomsFit lent → ⊥
 -- 10 where a room is too short, or the buffer is shorter than the text
 unfoldable pub compare_outcome : List ℕ → List ℕ → Rooms → ℕ → Outcome ℕ
 compare_outcome first second lent room =
-    demand (leb file_words lent.first) no_room 0
-    (demand (leb file_words lent.second) no_room 0
-    (demand (leb miter_words lent.miter) no_room 0
-    (demand (leb max_list lent.clauses) no_room 0
+    demand (nat_le file_words lent.first) no_room 0
+    (demand (nat_le file_words lent.second) no_room 0
+    (demand (nat_le miter_words lent.miter) no_room 0
+    (demand (nat_le max_list lent.clauses) no_room 0
     (fit_outcome (compare_text first second) room))))
 
 unfoldable pub compare_buffer : List ℕ → List ℕ → Rooms → List ℕ → List ℕ

@@ -1,5 +1,5 @@
 -- The text of a clause list that the program writes, by document 01, and how such a text is read back.
-use Rattle.std.specs.Prelude.{Bool, true, false, cond, List, [], ◌∷◌, ◌++◌, ℕ, zero, suc, ◌+◌, ◌*◌, ◌-◌, ◌/◌, ◌%◌, eqb, ltb, ℤ, pos, negsuc, length}
+use Rattle.std.specs.Prelude.{Bool, true, false, cond, List, [], ◌∷◌, ◌++◌, ℕ, zero, suc, ◌+◌, ◌*◌, ◌-◌, ◌/◌, ◌%◌, ◌==◌, nat_lt, ℤ, pos, negsuc, length}
 use Rattle.std.proofs.Math.Option.{Option, none, some}
 use Rattle.circuit.specs.Text.{line_feed, minus_sign, digit}
 use Rattle.circuit.specs.File.{parted_by, same, is_digit}
@@ -24,7 +24,7 @@ cnf_word = 99 ∷ 110 ∷ 102 ∷ []
 -- a number in decimal, no leading zero: the digits of the tens, and the last one; k has no more than `most` + 1 digits
 unfoldable pub decimal_within : ℕ → ℕ → List ℕ
 decimal_within zero k = digit k ∷ []
-decimal_within (suc most) k = cond (ltb k 10) (digit k ∷ []) (decimal_within most (k / 10) ++ (digit (k % 10) ∷ []))
+decimal_within (suc most) k = cond (nat_lt k 10) (digit k ∷ []) (decimal_within most (k / 10) ++ (digit (k % 10) ∷ []))
 
 unfoldable pub decimal : ℕ → List ℕ
 decimal k = decimal_within k k
@@ -83,7 +83,7 @@ digits_read k (b ∷ bs) = cond (is_digit b) (digits_read (10 * k + (b - 48)) bs
 unfoldable pub number_read : List ℕ → Option ℕ
 number_read [] = none
 number_read (b ∷ []) = digits_read 0 (b ∷ [])
-number_read (b ∷ c ∷ bs) = cond (eqb b 48) none (digits_read 0 (b ∷ c ∷ bs))
+number_read (b ∷ c ∷ bs) = cond (b == 48) none (digits_read 0 (b ∷ c ∷ bs))
 
 -- a literal of a variable from 1 on
 abbrev pub signed_read : Bool → Option ℕ → Option ℤ
@@ -94,7 +94,7 @@ signed_read false (some (suc i)) = some (pos (suc i))
 
 unfoldable pub literal_read : List ℕ → Option ℤ
 literal_read [] = none
-literal_read (b ∷ bs) = cond (eqb b minus_sign) (signed_read true (number_read bs)) (signed_read false (number_read (b ∷ bs)))
+literal_read (b ∷ bs) = cond (b == minus_sign) (signed_read true (number_read bs)) (signed_read false (number_read (b ∷ bs)))
 
 -- fields: literals, and `0` as the last
 unfoldable pub literals_read : List (List ℕ) → Option (List ℤ)
@@ -106,7 +106,7 @@ literals_read (f ∷ g ∷ fs) = both_read ◌∷◌ (literal_read f) (literals_
 unfoldable pub clause_read : List ℕ → Option Clause
 clause_read [] = none
 clause_read (b ∷ bs) =
-    cond (eqb b xor_sign) (then_read XOR (literals_read (parted_by blank bs))) (then_read OR (literals_read (parted_by blank (b ∷ bs))))
+    cond (b == xor_sign) (then_read XOR (literals_read (parted_by blank bs))) (then_read OR (literals_read (parted_by blank (b ∷ bs))))
 
 -- the clauses of lines that an LF ends; what follows the last LF is empty
 unfoldable pub lines_read : List (List ℕ) → Option (List Clause)

@@ -1,5 +1,5 @@
 -- The program's whole job, by document 01: from the bytes of two cascade files to the bytes that it writes.
-use Rattle.std.specs.Prelude.{◌≡◌, List, ℕ, eqb, leb, length, drop}
+use Rattle.std.specs.Prelude.{◌≡◌, List, ℕ, ◌==◌, nat_le, length, drop}
 use Rattle.circuit.specs.declared.gate.Gate.{Gate}
 use Rattle.circuit.specs.Outcome.{Outcome}
 use Rattle.circuit.specs.Refusal.{line_counts_differ, no_room}
@@ -27,11 +27,11 @@ max_text = 98321
 
 -- the clause list of the miter, as it is built: 10
 unfoldable pub list_verdict : ℕ → List Gate → FileOutcome Formula
-list_verdict n gs = of_both (leb (length (stored (clauses_of n gs))) max_words) no_room (answered (formula_of n gs))
+list_verdict n gs = of_both (nat_le (length (stored (clauses_of n gs))) max_words) no_room (answered (formula_of n gs))
 
 -- two cascades: 8
 unfoldable pub pair_verdict : ℕ → List Gate → ℕ → List Gate → FileOutcome Formula
-pair_verdict na a nb b = of_both (eqb na nb) line_counts_differ (list_verdict na (miter_gates a b))
+pair_verdict na a nb b = of_both (na == nb) line_counts_differ (list_verdict na (miter_gates a b))
 
 -- the second file, to its last byte
 unfoldable pub second_verdict : ℕ → List Gate → List ℕ → FileOutcome Formula
@@ -40,7 +40,7 @@ second_verdict n gs text = of_file 2 (whole_file text) (λ c. pair_verdict n gs 
 -- more than 65,536 bytes: 10; the first file; the second one, from where the first one's reading stops
 unfoldable pub verdict : List ℕ → FileOutcome Formula
 verdict input =
-    of_both (leb (length input) max_input) no_room
+    of_both (nat_le (length input) max_input) no_room
     (of_file 1 (reading input) (λ c. second_verdict c.lines c.gates (drop c.taken input)))
 
 abbrev pub verdict_text : FileOutcome Formula → List ℕ

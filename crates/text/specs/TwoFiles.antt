@@ -10,7 +10,7 @@ use Rattle.text.specs.Compare.{max_file}
 -- each file is that of a cascade on n lines, to its last byte, and is not too long
 pub record TwoFiles (first second : List ℕ) (n : ℕ) (a b : List Gate) : Type 0 where
   pub first_good : FileCascade n a
-  pub second-good : FileCascade n b
+  pub second_good : FileCascade n b
   pub first_text : first ≡ text_of n a
   pub second_text : second ≡ text_of n b
   pub first_bytes : length first ≤ max_file

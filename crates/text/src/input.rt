@@ -1,6 +1,6 @@
 // One input given to the cascades of two files.
 
-ghost use Rattle.std.specs.Prelude.{cond, ◌≡◌, [], ◌∷◌, ◌++◌, ◌+◌, ◌*◌, ◌≤◌, ◌<◌, eqb, length};
+ghost use Rattle.std.specs.Prelude.{cond, ◌≡◌, [], ◌∷◌, ◌++◌, ◌+◌, ◌*◌, ◌≤◌, ◌<◌, ◌==◌, length};
 ghost use Rattle.bits.specs.Lists.{Put};
 ghost use Rattle.circuit.specs.Gate.{max_lines};
 ghost use Rattle.circuit.specs.Outcome.{Yields};
@@ -99,7 +99,7 @@ fn put_outputs(out: &mut [u8], n: u64, first: u64, second: u64) -> usize
 // Writes whether two outputs differ.
 fn put_verdict(out: &mut [u8], first: u64, second: u64) -> usize
     requires { 6 ≤ length out.old }
-    ensures { Put result out.new (cond (eqb first second) agree_word differ_word) out.old }
+    ensures { Put result out.new (cond (first == second) agree_word differ_word) out.old }
 {
     if first == second {
         return crate::put::put_word(out, b"agree");

@@ -31,7 +31,7 @@ module _ (na : ℕ) (a : List ℕ) (nb : ℕ) (b : List ℕ) where
     first = (pair_served na a nb b counts p).first_good
 
     second : Cascade nb b max_gates counts.second
-    second = (pair_served na a nb b counts p).second-good
+    second = (pair_served na a nb b counts p).second_good
 
     which : words ≡ cond (leb counts.first counts.second) a b
     which = w ∙ ap (λ (o : Outcome Counts). picked o a b []) p

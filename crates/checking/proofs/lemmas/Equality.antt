@@ -150,7 +150,7 @@ pub claimed : (emits : ℕ → List ℕ → ℕ → Outcome Totals) (leaves : �
 claimed emits leaves by n a b i j c d room fits calls out =
     let k : ℕ = i + j in
     let s : miter_outcome n a n b (length room) ≡ served k =
-    (miter_laws.miter_served n a n b (length room) k).1 (record { first = i; second = j; first_good = c; second-good = d; lines = refl; fits = fits; count = refl }) in
+    (miter_laws.miter_served n a n b (length room) k).1 (record { first = i; second = j; first_good = c; second_good = d; lines = refl; fits = fits; count = refl }) in
     let m = miter_laws.miter_stands n a n b room k s in
     let first : Standing n (miter_gates (gates_of a) (gates_of b)) (take (3 * k) (miter_buffer n a n b room)) =
     record { count = k; cascade = m.cascade; same = λ x. ap (λ (l : List Gate). run l x) m.gates } in

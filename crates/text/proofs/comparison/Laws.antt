@@ -76,7 +76,7 @@ module _ (n gates : ℕ) (room : List ℕ) (m : MiterWords n gates room) where
 
 module _ (n : ℕ) (a b : List ℕ) (wa : FileWords n a) (wb : FileWords n b) (few : n ≤ max_sweep_lines) where
   difference_is : difference_outcome n a n b ≡ served (lowest_from (gates_of a) (gates_of b) 0 (2 ^ n))
-  difference_is = difference_made n a n b _ (served_pair n a n b (record { first = wa.count; second = wb.count }) (record { first_good = wa.cascade; second-good = wb.cascade; lines = refl })) few
+  difference_is = difference_made n a n b _ (served_pair n a n b (record { first = wa.count; second = wb.count }) (record { first_good = wa.cascade; second_good = wb.cascade; lines = refl })) few
 
   pub swept_as_lem : (r : ComparedAnswer) (d : Difference) (o : Outcome Difference) → o ≡ served d → o ≡ difference_outcome n a n b
       → ((clauses : List ℤ) → SaysCompared r clauses (answered (swept_as (gates_of a) (gates_of b) d))) → SaysAny r (swept_as (gates_of a) (gates_of b) (lowest_from (gates_of a) (gates_of b) 0 (2 ^ n)))

@@ -249,29 +249,29 @@ module _ (first second state : List ℕ) where
 
 -- ---- the call, by the rooms that are lent
 
-module _ (first second state : List ℕ) (room-a room-b : ℕ) (out : List ℕ) where
+module _ (first second state : List ℕ) (room_a room_b : ℕ) (out : List ℕ) where
   abbrev outcome : Outcome ℕ
-  outcome = input_outcome first second state room-a room-b (length out)
+  outcome = input_outcome first second state room_a room_b (length out)
 
-  refused_told : (r : Refusal) → r ≡ refusal no_room 0 → outcome ≡ refused no_room 0 → Yields (refused r.number r.place) out outcome (input_buffer first second state room-a room-b out)
+  refused_told : (r : Refusal) → r ≡ refusal no_room 0 → outcome ≡ refused no_room 0 → Yields (refused r.number r.place) out outcome (input_buffer first second state room_a room_b out)
   unfolding input_buffer
   refused_told r e f = told (check_text first second state) out _ out outcome (refused no_room 0) (why e) f refl
 
-  pub first_short : (r : Refusal) → r ≡ refusal no_room 0 → room-a < file_words → Yields (refused r.number r.place) out outcome (input_buffer first second state room-a room-b out)
+  pub first_short : (r : Refusal) → r ≡ refusal no_room 0 → room_a < file_words → Yields (refused r.number r.place) out outcome (input_buffer first second state room_a room_b out)
   unfolding input_outcome
-  first_short r e h = refused_told r e (demand_failed _ _ _ _ (lt-leb file_words room-a h))
+  first_short r e h = refused_told r e (demand_failed _ _ _ _ (lt-leb file_words room_a h))
 
-  module _ (good : file_words ≤ room-a) where
-    pub second_short : (r : Refusal) → r ≡ refusal no_room 0 → room-b < file_words → Yields (refused r.number r.place) out outcome (input_buffer first second state room-a room-b out)
+  module _ (good : file_words ≤ room_a) where
+    pub second_short : (r : Refusal) → r ≡ refusal no_room 0 → room_b < file_words → Yields (refused r.number r.place) out outcome (input_buffer first second state room_a room_b out)
     unfolding input_outcome
-    second_short r e h = refused_told r e (demand_met _ _ _ _ (le-leb file_words room-a good) ∙ demand_failed _ _ _ _ (lt-leb file_words room-b h))
+    second_short r e h = refused_told r e (demand_met _ _ _ _ (le-leb file_words room_a good) ∙ demand_failed _ _ _ _ (lt-leb file_words room_b h))
 
-    module _ (good-2 : file_words ≤ room-b) where
+    module _ (good-2 : file_words ≤ room_b) where
       pub rooms_good : outcome ≡ fit_outcome (check_text first second state) (length out)
       unfolding input_outcome
-      rooms_good = demand_met _ _ _ _ (le-leb file_words room-a good) ∙ demand_met _ _ _ _ (le-leb file_words room-b good-2)
+      rooms_good = demand_met _ _ _ _ (le-leb file_words room_a good) ∙ demand_met _ _ _ _ (le-leb file_words room_b good-2)
 
       pub checked_told : (x : CheckedAnswer) → SaysChecked x (checked first second state) → (r : Outcome ℕ) (last : List ℕ)
-          → Yields r last (fit_outcome (checked_text (of_checked x)) (length out)) (fit_buffer (checked_text (of_checked x)) out) → Yields r last outcome (input_buffer first second state room-a room-b out)
+          → Yields r last (fit_outcome (checked_text (of_checked x)) (length out)) (fit_buffer (checked_text (of_checked x)) out) → Yields r last outcome (input_buffer first second state room_a room_b out)
       unfolding input_buffer check_text
       checked_told x s r last y = fit_told _ (check_text first second state) out outcome r last (ap checked_text s.is) rooms_good y

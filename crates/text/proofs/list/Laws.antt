@@ -121,7 +121,7 @@ module _ (na : ℕ) (a : List ℕ) (nb : ℕ) (b : List ℕ) (wa : FileWords na 
   pub miter_made : na ≡ nb → miter_outcome na a nb b room ≡ served (wa.count + wb.count)
   miter_made e =
       (miter_laws.miter_served na a nb b room (wa.count + wb.count)).1
-      (record { first = wa.count; second = wb.count; first_good = wa.cascade; second-good = wb.cascade; lines = e; fits = fits; count = refl })
+      (record { first = wa.count; second = wb.count; first_good = wa.cascade; second_good = wb.cascade; lines = e; fits = fits; count = refl })
 
   miter_differs : (na ≡ nb → ⊥) → miter_outcome na a nb b room ≡ refused line_counts_differ 0
   miter_differs h =
@@ -182,7 +182,7 @@ module _ (na : ℕ) (a : List ℕ) (nb : ℕ) (b : List ℕ) (wa : FileWords na 
       let s = (miter_laws.miter_served na a nb b (length out) gates).0 e in
       let m = miter_laws.miter_stands na a nb b out gates e in
       let x = s.first_good in
-      let y = s.second-good in
+      let y = s.second_good in
       record {
         inside = omega (arith, s.count, x.few, y.few);
         cascade = subst (λ (ws : List ℕ). Cascade na (take (3 * gates) ws) max_miter_gates gates) (sym is) m.cascade;

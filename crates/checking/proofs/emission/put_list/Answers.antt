@@ -9,8 +9,8 @@ use Rattle.checking.proofs.emission.put_list.Goals.{After-out-2-1, After-put_dif
 first : (p : After-put_gates-front) → p.put_gates-front.result.at ≤ length p.args.out.now
 first p = at_first _ _ _ p.requires _ _ _ _ p.put_gates-front.ensures
 
-first-inside : (p : After-put_gates-front) → p.put_gates-front.result.at ≤ length p.put_gates-front.new.out
-first-inside p = at_inside _ _ _ p.requires _ _ _ _ p.put_gates-front.ensures
+first_inside : (p : After-put_gates-front) → p.put_gates-front.result.at ≤ length p.put_gates-front.new.out
+first_inside p = at_inside _ _ _ p.requires _ _ _ _ p.put_gates-front.ensures
 
 -- where the lines' clauses end
 second : (d : After-put_differences) → d.put_gates-front.result.at + d.put_differences.result + (d.args.n + 2) ≤ length d.args.out.now
@@ -25,10 +25,10 @@ pub offset_bounds-out-at : goal.offset_bounds-out-at
 offset_bounds-out-at c = omega (arith, first (goal.at.offset_bounds-out-at c).After-put_gates-front)
 
 pub slice_bounds-put_differences-count : goal.slice_bounds-put_differences-count
-slice_bounds-put_differences-count c = first-inside (goal.at.slice_bounds-put_differences-count c).After-put_gates-front
+slice_bounds-put_differences-count c = first_inside (goal.at.slice_bounds-put_differences-count c).After-put_gates-front
 
 pub slice_bounds-put_differences-start : goal.slice_bounds-put_differences-start
-slice_bounds-put_differences-start c = omega (arith, first-inside (goal.at.slice_bounds-put_differences-start c).After-put_gates-front)
+slice_bounds-put_differences-start c = omega (arith, first_inside (goal.at.slice_bounds-put_differences-start c).After-put_gates-front)
 
 pub put_differences-requires : goal.put_differences-requires
 put_differences-requires c =

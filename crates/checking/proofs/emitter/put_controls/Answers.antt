@@ -20,8 +20,8 @@ some : (c : In-loop-left) → 0 < c.loop-left.left
 some c = ⊎_elim (λ z. absurd (c.loop-left-test.true z)) (λ p. p) (eq-zero-or-pos c.loop-left.left)
 
 -- it is one of the n, and its control one of the k
-line-in : (c : After-lowest-line) → c.lowest-line.result < c.args.n
-line-in c =
+line_in : (c : After-lowest-line) → c.lowest-line.result < c.args.n
+line_in c =
     let some : 0 < c.loop-left.left = ⊎_elim (λ z. absurd (c.loop-left-test.true z)) (λ p. p) (eq-zero-or-pos c.loop-left.left) in
     line_below _ _ _ _ _ _ _ _ _ _ c.requires.currents.lines c.requires.lines c.requires.k_in_bounds c.loop-left.invariant (some) c.lowest-line.result c.lowest-line.ensures
 
@@ -31,11 +31,11 @@ turn_in c =
     inside _ _ _ _ _ _ _ _ _ _ c.requires.currents.lines c.requires.lines c.requires.k_in_bounds c.loop-left.invariant (some) c.lowest-line.result c.lowest-line.ensures
 
 -- its variable fits a word
-variable-small : (c : After-lowest-line) → by_line c.args.current.now c.lowest-line.result < word_limit
-variable-small c =
+variable_small : (c : After-lowest-line) → by_line c.args.current.now c.lowest-line.result < word_limit
+variable_small c =
     let some : 0 < c.loop-left.left = ⊎_elim (λ z. absurd (c.loop-left-test.true z)) (λ p. p) (eq-zero-or-pos c.loop-left.left) in
-    let line-in : c.lowest-line.result < c.args.n = line_below _ _ _ _ _ _ _ _ _ _ c.requires.currents.lines c.requires.lines c.requires.k_in_bounds c.loop-left.invariant (some) c.lowest-line.result c.lowest-line.ensures in
-    c.requires.currents.small c.lowest-line.result (line-in)
+    let line_in : c.lowest-line.result < c.args.n = line_below _ _ _ _ _ _ _ _ _ _ c.requires.currents.lines c.requires.lines c.requires.k_in_bounds c.loop-left.invariant (some) c.lowest-line.result c.lowest-line.ensures in
+    c.requires.currents.small c.lowest-line.result (line_in)
 
 -- there is room for its words
 room : (c : After-lowest-line) → c.args.k + 4 * c.loop-left.i + 4 ≤ length c.loop-left.out
@@ -51,13 +51,13 @@ pub loop-left-init : goal.loop-left-init
 loop-left-init c = walk_start _ _ _ _ _ _ _ c.requires.lines c.requires.k_in_bounds
 
 pub offset_bounds-current-line : goal.offset_bounds-current-line
-offset_bounds-current-line c = omega (arith, line-in (goal.at.offset_bounds-current-line c).After-lowest-line, c.requires.currents.lines)
+offset_bounds-current-line c = omega (arith, line_in (goal.at.offset_bounds-current-line c).After-lowest-line, c.requires.currents.lines)
 
 pub bounds-current-line : goal.bounds-current-line
-bounds-current-line c = omega (arith, line-in (goal.at.bounds-current-line c).After-lowest-line, c.requires.currents.long)
+bounds-current-line c = omega (arith, line_in (goal.at.bounds-current-line c).After-lowest-line, c.requires.currents.long)
 
 pub literal-requires : goal.literal-requires
-literal-requires c = variable-small (goal.at.literal-requires c).After-lowest-line
+literal-requires c = variable_small (goal.at.literal-requires c).After-lowest-line
 
 pub offset_bounds-out-i : goal.offset_bounds-out-i
 offset_bounds-out-i c = omega (arith, room (goal.at.offset_bounds-out-i c).After-lowest-line)
@@ -82,7 +82,7 @@ slice_bounds-put_4-start c =
     omega (arith, room (goal.at.slice_bounds-put_4-start c).After-lowest-line, length-set c.loop-left.out c.loop-left.i (kept c.literal.result))
 
 pub literal-requires-in-loop-left : goal.literal-requires-in-loop-left
-literal-requires-in-loop-left c = variable-small (goal.at.literal-requires-in-loop-left c).After-lowest-line
+literal-requires-in-loop-left c = variable_small (goal.at.literal-requires-in-loop-left c).After-lowest-line
 
 pub put_4-requires : goal.put_4-requires
 put_4-requires c =
@@ -102,16 +102,16 @@ loop-left-smaller c =
 pub loop-left-preserved : goal.loop-left-preserved
 loop-left-preserved c =
     let v = by_line c.args.current.now c.lowest-line.result in
-    let below : c.lowest-line.result % max_lines ≡ c.lowest-line.result = omega (arith, line-in (goal.at.loop-left-preserved c).After-lowest-line, c.requires.currents.lines) in
+    let below : c.lowest-line.result % max_lines ≡ c.lowest-line.result = omega (arith, line_in (goal.at.loop-left-preserved c).After-lowest-line, c.requires.currents.lines) in
     let sign = c.has-sign.ensures ∙ ap (bit c.args.positive) below in
     let o = set c.loop-left.out c.loop-left.i (kept c.literal.result) in
     let at = c.args.k + 4 * c.loop-left.i in
     walk_on _ _ _ _ _ _ _ _ _ _ c.requires.currents.lines c.requires.lines c.requires.k_in_bounds c.loop-left.invariant (some (goal.at.loop-left-preserved c).In-loop-left) c.lowest-line.result c.lowest-line.ensures c.put_4.new.out
     (kept c.literal.result) _ _
-    (literal_kept c.literal.result (not (bit c.args.positive c.lowest-line.result)) v (variable-small (goal.at.loop-left-preserved c).After-lowest-line)
+    (literal_kept c.literal.result (not (bit c.args.positive c.lowest-line.result)) v (variable_small (goal.at.loop-left-preserved c).After-lowest-line)
     (c.literal.ensures ∙ ap (λ (b : Bool). literal_word (not b) v) sign))
     (literal_kept c.literal-not_p.result false c.args.p c.requires.p_lt_word_limit c.literal-not_p.ensures)
-    (literal_kept c.literal-in-loop-left.result (bit c.args.positive c.lowest-line.result) v (variable-small (goal.at.loop-left-preserved c).After-lowest-line)
+    (literal_kept c.literal-in-loop-left.result (bit c.args.positive c.lowest-line.result) v (variable_small (goal.at.loop-left-preserved c).After-lowest-line)
     (c.literal-in-loop-left.ensures ∙ ap (λ (b : Bool). literal_word b v) sign))
     c.put_4.ensures
     (same_len_mid at (length o - at) o c.put_4.new.out c.put_4.auto.out)

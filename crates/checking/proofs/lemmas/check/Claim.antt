@@ -72,13 +72,13 @@ module _ (na : ℕ) (a b : List ℕ) (calls : List Call) (room : List ℕ) (out 
   told_same e f t s =
       let (k, made, emits) = then_both (miter_outcome na a na b (length room)) _ t (sym e ∙ s) in
       let m = (miter_laws.miter_served na a na b (length room) k).0 made in
-      let q = (same_lines e f m.first m.second m.first_good m.second-good m.fits).emission (emitted_room k made t (sym e ∙ s)) in
+      let q = (same_lines e f m.first m.second m.first_good m.second_good m.fits).emission (emitted_room k made t (sym e ∙ s)) in
       let same : q.totals ≡ t = served_same q.totals t (sym q.is_served ∙ s) in
       record {
         first = m.first;
         first_good = m.first_good;
         second = m.second;
-        second-good = m.second-good;
+        second_good = m.second_good;
         lines = refl;
         told = subst (λ (x : Totals). Told na a b x last) same q.told;
       }

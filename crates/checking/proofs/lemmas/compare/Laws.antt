@@ -29,7 +29,7 @@ pub pair_gates : (na : ℕ) (a : List ℕ) (nb : ℕ) (b : List ℕ) (c : Counts
 pair_gates na a nb b c e =
     let p = pair_served na a nb b c e in
     let k = p.first_good in
-    let m = p.second-good in
+    let m = p.second_good in
     (valid_all_more na max_lines (gates_of a) k.lines_high k.gates, valid_all_more nb max_lines (gates_of b) m.lines_high m.gates)
 
 -- ---- the search

@@ -56,7 +56,7 @@ module _ (na : ℕ) (a : List ℕ) (nb : ℕ) (b : List ℕ) where
 
   -- the numbers of gates fit
   pub pair_few : (c : Counts) → pair_outcome na a nb b ≡ served c → (c.first ≤ max_gates) × (c.second ≤ max_gates)
-  pair_few c good = let g = pair_served na a nb b c good in (g.first_good.few, g.second-good.few)
+  pair_few c good = let g = pair_served na a nb b c good in (g.first_good.few, g.second_good.few)
 
   -- after the copy the rest of the buffer takes the inverse
   pub miter_written : (c : Counts) → pair_outcome na a nb b ≡ served c → (out mid last : List ℕ) → length a + length b ≤ length out → mid ≡ over a out
@@ -73,7 +73,7 @@ module _ (na : ℕ) (a : List ℕ) (nb : ℕ) (b : List ℕ) where
   -- served exactly for valid pairs with room
   pub served_miter : (room k : ℕ) → MiterServed na a nb b room k → miter_outcome na a nb b room ≡ served k
   served_miter room k m =
-      miter_made room (record { first = m.first; second = m.second }) (served_pair na a nb b _ (record { first_good = m.first_good; second-good = m.second-good; lines = m.lines })) m.fits
+      miter_made room (record { first = m.first; second = m.second }) (served_pair na a nb b _ (record { first_good = m.first_good; second_good = m.second_good; lines = m.lines })) m.fits
       ∙ ap served (sym m.count)
 
   pub miter_served : (room k : ℕ) → miter_outcome na a nb b room ≡ served k → MiterServed na a nb b room k
@@ -83,7 +83,7 @@ module _ (na : ℕ) (a : List ℕ) (nb : ℕ) (b : List ℕ) where
       let (t, s) = demanded (leb (length a + length b) room) no_room 0 (served (c.first + c.second)) k f in
       let p = pair_served na a nb b c g in
       let n : c.first + c.second ≡ k = cc in
-      record { first = c.first; second = c.second; first_good = p.first_good; second-good = p.second-good; lines = p.lines; fits = leb-true _ _ t; count = sym n }
+      record { first = c.first; second = c.second; first_good = p.first_good; second_good = p.second_good; lines = p.lines; fits = leb-true _ _ t; count = sym n }
 
   -- refused exactly by what is wrong
   pub miter_wrong : (room number place : ℕ) → (miter_outcome na a nb b room ≡ refused number place) ↔ MiterRefused na a nb b room number place
@@ -103,7 +103,7 @@ module _ (na : ℕ) (a : List ℕ) (nb : ℕ) (b : List ℕ) where
     gate_count : length (miter_gates (gates_of a) (gates_of b)) ≡ k
     gate_count =
         let x = m.first_good.size in
-        let y = m.second-good.size in
+        let y = m.second_good.size in
         let c = m.count in
         let p = gates_length a in
         let q = gates_length b in
@@ -124,7 +124,7 @@ module _ (na : ℕ) (a : List ℕ) (nb : ℕ) (b : List ℕ) where
 
     back_length : length back ≡ length b
     back_length =
-        let y = m.second-good.size in
+        let y = m.second_good.size in
         let q = gates_length b in
         let r = inverse_length (gates_of b) in
         words_length (inverse (gates_of b)) ∙ omega arith
@@ -143,7 +143,7 @@ module _ (na : ℕ) (a : List ℕ) (nb : ℕ) (b : List ℕ) where
     miter_stands =
         let g : gates_of (take (3 * k) (miter_buffer na a nb b out)) ≡ miter_gates (gates_of a) (gates_of b) = ap gates_of taken ∙ gates_words (miter_gates (gates_of a) (gates_of b)) in
         let p = m.first_good in
-        let q = m.second-good in
+        let q = m.second_good in
         let s : all_valid na (gates_of b) ≡ true = ap (λ (n : ℕ). all_valid n (gates_of b)) m.lines ∙ q.gates in
         let u = p.few in
         let w = q.few in

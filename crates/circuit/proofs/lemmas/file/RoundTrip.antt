@@ -111,18 +111,18 @@ not_0 : FileCascade 1 (not_gate 0 ∷ [])
 unfolding all_valid valid
 not_0 = record { lines_low = omega arith; lines_high = omega arith; few = omega arith; gates = refl }
 
-pub idle_reading : (read : List ℕ → ℕ → Outcome ReadCounts) (write : ℕ → List ℕ → ℕ → Outcome ℕ) (write-into : ℕ → List ℕ → List ℕ → List ℕ)
-    → RoundTrip read (λ text out. out) write write-into → ⊥
+pub idle_reading : (read : List ℕ → ℕ → Outcome ReadCounts) (write : ℕ → List ℕ → ℕ → Outcome ℕ) (write_into : ℕ → List ℕ → List ℕ → List ℕ)
+    → RoundTrip read (λ text out. out) write write_into → ⊥
 unfolding words_of
-idle_reading read write write-into r =
+idle_reading read write write_into r =
     let e : ◌≡◌ {A = List ℕ} (1 ∷ 1 ∷ 1 ∷ []) (0 ∷ 0 ∷ 0 ∷ []) = r.read_leaves 1 (not_gate 0 ∷ []) [] (1 ∷ 1 ∷ 1 ∷ []) not_0 (omega arith) in
     let z : ◌≡◌ {A = ℕ} 1 0 = cc in
     omega arith
 
 -- no text has a byte 0
-pub idle_writing : (read : List ℕ → ℕ → Outcome ReadCounts) (read-into : List ℕ → List ℕ → List ℕ) → RoundTrip read read-into write_outcome (λ n ws out. out) → ⊥
+pub idle_writing : (read : List ℕ → ℕ → Outcome ReadCounts) (read_into : List ℕ → List ℕ → List ℕ) → RoundTrip read read_into write_outcome (λ n ws out. out) → ⊥
 unfolding all_valid gates_of gate_lines number_text
-idle_writing read read-into r =
+idle_writing read read_into r =
     let out : List ℕ = replicate 12 0 in
     let served_12 : write_outcome 1 [] 12 ≡ served 12 =
     served_write 1 [] 12 12

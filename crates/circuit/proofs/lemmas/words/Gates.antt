@@ -22,18 +22,18 @@ gates_length (p ∷ q ∷ []) = refl
 gates_length (p ∷ q ∷ t ∷ ws) = let h = gates_length ws in omega arith
 
 -- gate i by its words
-pub gate-at : (ws : List ℕ) (i : ℕ) → i < length ws / 3
+pub gate_at_lem : (ws : List ℕ) (i : ℕ) → i < length ws / 3
     → gate_at ws i ≡ record { positive = get_or ws (3 * i) 0; negative = get_or ws (3 * i + 1) 0; target = get_or ws (3 * i + 2) 0 }
 unfolding gates_of
-gate-at [] i h = absurd (omega arith)
-gate-at (p ∷ []) i h = absurd (omega arith)
-gate-at (p ∷ q ∷ []) i h = absurd (omega arith)
-gate-at (p ∷ q ∷ t ∷ ws) zero h = refl
-gate-at (p ∷ q ∷ t ∷ ws) (suc i) h =
+gate_at_lem [] i h = absurd (omega arith)
+gate_at_lem (p ∷ []) i h = absurd (omega arith)
+gate_at_lem (p ∷ q ∷ []) i h = absurd (omega arith)
+gate_at_lem (p ∷ q ∷ t ∷ ws) zero h = refl
+gate_at_lem (p ∷ q ∷ t ∷ ws) (suc i) h =
     let e : suc (suc (suc (3 * i))) ≡ 3 * suc i = omega arith in
     let f : suc (suc (suc (3 * i + 1))) ≡ 3 * suc i + 1 = omega arith in
     let g : suc (suc (suc (3 * i + 2))) ≡ 3 * suc i + 2 = omega arith in
-    gate-at ws i (omega arith)
+    gate_at_lem ws i (omega arith)
     ∙ ap₂ (λ (a b : ℕ). words a b (suc (suc (suc (3 * i + 2))))) e f
     ∙ ap (words (3 * suc i) (3 * suc i + 1)) g
   where
@@ -54,7 +54,7 @@ unfolding gates_of
 gates_next ws i h =
     let e : 3 * i + 3 ≡ 3 * (i + 1) = omega arith in
     ap gates_of (three 0 ws (3 * i) (omega arith))
-    ∙ ap₂ (λ (g : Gate) (n : ℕ). g ∷ gates_of (drop n ws)) (sym (gate-at ws i h)) e
+    ∙ ap₂ (λ (g : Gate) (n : ℕ). g ∷ gates_of (drop n ws)) (sym (gate_at_lem ws i h)) e
 
 pub gates_end : (ws : List ℕ) (i : ℕ) → length ws / 3 ≤ i → gates_of (drop (3 * i) ws) ≡ []
 gates_end ws i h = empty (gates_of (drop (3 * i) ws)) (omega (arith, gates_length (drop (3 * i) ws), length-drop (3 * i) ws))

@@ -220,11 +220,11 @@ pair_served na a nb b c e =
     let (m, q, g) = then_both (check_outcome nb b max_gates) _ c f in
     let (t, h) = demanded (eqb na nb) line_counts_differ 0 _ c g in
     let d : record { first = k; second = m } ≡ c = unserved h in
-    subst (GoodPair na a nb b) d (record { first_good = check_served na a max_gates k p; second-good = check_served nb b max_gates m q; lines = eqb-true na nb t })
+    subst (GoodPair na a nb b) d (record { first_good = check_served na a max_gates k p; second_good = check_served nb b max_gates m q; lines = eqb-true na nb t })
 
 pub served_pair : (na : ℕ) (a : List ℕ) (nb : ℕ) (b : List ℕ) (c : Counts) → GoodPair na a nb b c → pair_outcome na a nb b ≡ served c
 served_pair na a nb b c g =
-    pair_good na a nb b c.first (served_check na a max_gates c.first g.first_good) c.second (served_check nb b max_gates c.second g.second-good) g.lines
+    pair_good na a nb b c.first (served_check na a max_gates c.first g.first_good) c.second (served_check nb b max_gates c.second g.second_good) g.lines
 
 pub pair_refused : (na : ℕ) (a : List ℕ) (nb : ℕ) (b : List ℕ) (number place : ℕ) → (pair_outcome na a nb b ≡ refused number place) ↔ PairRefused na a nb b number place
 unfolding pair_outcome

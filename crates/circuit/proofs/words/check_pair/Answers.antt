@@ -13,14 +13,14 @@ first_good : (c : In-Gates)
     → check_outcome c.args.na c.args.a.now max_gates ≡ served c.in-Gates.first
 first_good c = sym c.check_cascade.ensures ∙ ap of_count c.in-Gates.is
 
-second-good : (c : In-Gates-check_cascade)
+second_good : (c : In-Gates-check_cascade)
     → check_outcome c.args.nb c.args.b.now max_gates ≡ served c.in-Gates-check_cascade.second
-second-good c = sym c.check_cascade-in-Gates.ensures ∙ ap of_count c.in-Gates-check_cascade.is
+second_good c = sym c.check_cascade-in-Gates.ensures ∙ ap of_count c.in-Gates-check_cascade.is
 
 pub returns-then-na-nb : goal.returns-then-na-nb
 returns-then-na-nb c =
     why c.line_counts_differ.ensures
-    ∙ sym (pair_differ _ _ _ _ _ (first_good (goal.at.returns-then-na-nb c).In-Gates) _ (second-good (goal.at.returns-then-na-nb c).In-Gates-check_cascade) c.if-na-nb.true)
+    ∙ sym (pair_differ _ _ _ _ _ (first_good (goal.at.returns-then-na-nb c).In-Gates) _ (second_good (goal.at.returns-then-na-nb c).In-Gates-check_cascade) c.if-na-nb.true)
 
 pub returns-in-Refused : goal.returns-in-Refused
 returns-in-Refused c =
@@ -32,4 +32,4 @@ returns-in-Refused-check_cascade c =
 
 pub returns-else-na-nb : goal.returns-else-na-nb
 returns-else-na-nb c =
-    sym (pair_good _ _ _ _ _ (first_good (goal.at.returns-else-na-nb c).In-Gates) _ (second-good (goal.at.returns-else-na-nb c).In-Gates-check_cascade) c.if-na-nb.false)
+    sym (pair_good _ _ _ _ _ (first_good (goal.at.returns-else-na-nb c).In-Gates) _ (second_good (goal.at.returns-else-na-nb c).In-Gates-check_cascade) c.if-na-nb.false)

@@ -15,33 +15,33 @@ use Rattle.text.proofs.answer.Laws.{fit_refused, fit_put, digits_few, header_lon
 use Rattle.text.proofs.answer.fit_clauses.Goals as goal
 use Rattle.text.proofs.answer.fit_clauses.Goals.{After-list_sizes-sizes}
 
-bytes-are : (c : After-list_sizes-sizes) → c.list_sizes-sizes.result.bytes ≡ length (stored_text true c.args.words.now)
-bytes-are c = ap (λ (r : PlainSizes). r.bytes) c.list_sizes-sizes.ensures
+bytes_are : (c : After-list_sizes-sizes) → c.list_sizes-sizes.result.bytes ≡ length (stored_text true c.args.words.now)
+bytes_are c = ap (λ (r : PlainSizes). r.bytes) c.list_sizes-sizes.ensures
 
-clauses-are : (c : After-list_sizes-sizes) → c.list_sizes-sizes.result.clauses ≡ length (plain_clauses (stored_in c.args.words.now))
-clauses-are c = ap (λ (r : PlainSizes). r.clauses) c.list_sizes-sizes.ensures
+clauses_are : (c : After-list_sizes-sizes) → c.list_sizes-sizes.result.clauses ≡ length (plain_clauses (stored_in c.args.words.now))
+clauses_are c = ap (λ (r : PlainSizes). r.clauses) c.list_sizes-sizes.ensures
 
 -- the header has the number of the clauses
-text-is : (c : After-list_sizes-sizes)
+text_is : (c : After-list_sizes-sizes)
     → header_text c.args.variables c.list_sizes-sizes.result.clauses ++ stored_text true c.args.words.now ≡ dimacs_of c.args.variables (plain_clauses (stored_in c.args.words.now))
 unfolding dimacs_of
-text-is c =
-    let clauses-are : c.list_sizes-sizes.result.clauses ≡ length (plain_clauses (stored_in c.args.words.now)) = ap (λ (r : PlainSizes). r.clauses) c.list_sizes-sizes.ensures in
-    ap (λ (k : ℕ). header_text c.args.variables k ++ stored_text true c.args.words.now) (clauses-are)
+text_is c =
+    let clauses_are : c.list_sizes-sizes.result.clauses ≡ length (plain_clauses (stored_in c.args.words.now)) = ap (λ (r : PlainSizes). r.clauses) c.list_sizes-sizes.ensures in
+    ap (λ (k : ℕ). header_text c.args.variables k ++ stored_text true c.args.words.now) (clauses_are)
 
 long : (c : After-list_sizes-sizes)
     → length (dimacs_of c.args.variables (plain_clauses (stored_in c.args.words.now))) ≡ length (decimal c.args.variables) + length (decimal c.list_sizes-sizes.result.clauses) + length (decimal 0) + 7 + c.list_sizes-sizes.result.bytes
 long c =
-    let bytes-are : c.list_sizes-sizes.result.bytes ≡ length (stored_text true c.args.words.now) = ap (λ (r : PlainSizes). r.bytes) c.list_sizes-sizes.ensures in
-    sym (ap length (text-is c))
+    let bytes_are : c.list_sizes-sizes.result.bytes ≡ length (stored_text true c.args.words.now) = ap (λ (r : PlainSizes). r.bytes) c.list_sizes-sizes.ensures in
+    sym (ap length (text_is c))
     ∙ length-append (header_text c.args.variables c.list_sizes-sizes.result.clauses) (stored_text true c.args.words.now)
-    ∙ omega (arith, header_long c.args.variables c.list_sizes-sizes.result.clauses, bytes-are)
+    ∙ omega (arith, header_long c.args.variables c.list_sizes-sizes.result.clauses, bytes_are)
 
 pub overflow_add-three_digits : goal.overflow_add-three_digits
-overflow_add-three_digits c = let e = clauses-are (goal.at.overflow_add-three_digits c).After-list_sizes-sizes in omega (arith, c.three_digits.ensures, digits_few c.args.variables (omega arith), digits_few c.list_sizes-sizes.result.clauses (omega (arith, e, (sizing_start _ c.requires).clauses_few)), digits_few 0 (omega arith))
+overflow_add-three_digits c = let e = clauses_are (goal.at.overflow_add-three_digits c).After-list_sizes-sizes in omega (arith, c.three_digits.ensures, digits_few c.args.variables (omega arith), digits_few c.list_sizes-sizes.result.clauses (omega (arith, e, (sizing_start _ c.requires).clauses_few)), digits_few 0 (omega arith))
 
 pub overflow_add-three_digits-2 : goal.overflow_add-three_digits-2
-overflow_add-three_digits-2 c = let e = clauses-are (goal.at.overflow_add-three_digits-2 c).After-list_sizes-sizes in omega (arith, bytes-are (goal.at.overflow_add-three_digits-2 c).After-list_sizes-sizes, (sizing_start _ c.requires).bytes_few, c.three_digits.ensures, digits_few c.args.variables (omega arith), digits_few c.list_sizes-sizes.result.clauses (omega (arith, e, (sizing_start _ c.requires).clauses_few)), digits_few 0 (omega arith))
+overflow_add-three_digits-2 c = let e = clauses_are (goal.at.overflow_add-three_digits-2 c).After-list_sizes-sizes in omega (arith, bytes_are (goal.at.overflow_add-three_digits-2 c).After-list_sizes-sizes, (sizing_start _ c.requires).bytes_few, c.three_digits.ensures, digits_few c.args.variables (omega arith), digits_few c.list_sizes-sizes.result.clauses (omega (arith, e, (sizing_start _ c.requires).clauses_few)), digits_few 0 (omega arith))
 
 pub returns-then-out-three_digits : goal.returns-then-out-three_digits
 returns-then-out-three_digits c = fit_refused (dimacs_of c.args.variables (plain_clauses (stored_in c.args.words.now))) c.args.out.now c.no_room.result c.no_room.ensures (omega (arith, long (goal.at.returns-then-out-three_digits c).After-list_sizes-sizes, c.three_digits.ensures, c.if-out-three_digits.true))
@@ -50,8 +50,8 @@ pub put_list-requires : goal.put_list-requires
 put_list-requires c =
     record {
       stores_list = c.requires;
-      words_in_bounds = omega (arith, ap length (text-is (goal.at.put_list-requires c).After-list_sizes-sizes), long (goal.at.put_list-requires c).After-list_sizes-sizes, c.three_digits.ensures, c.if-out-three_digits.false);
+      words_in_bounds = omega (arith, ap length (text_is (goal.at.put_list-requires c).After-list_sizes-sizes), long (goal.at.put_list-requires c).After-list_sizes-sizes, c.three_digits.ensures, c.if-out-three_digits.false);
     }
 
 pub returns : goal.returns
-returns c = fit_put (dimacs_of c.args.variables (plain_clauses (stored_in c.args.words.now))) c.args.out.now _ _ (put_as _ _ _ _ _ (text-is (goal.at.returns c).After-list_sizes-sizes) c.put_list.ensures) (omega (arith, long (goal.at.returns c).After-list_sizes-sizes, c.three_digits.ensures, c.if-out-three_digits.false))
+returns c = fit_put (dimacs_of c.args.variables (plain_clauses (stored_in c.args.words.now))) c.args.out.now _ _ (put_as _ _ _ _ _ (text_is (goal.at.returns c).After-list_sizes-sizes) c.put_list.ensures) (omega (arith, long (goal.at.returns c).After-list_sizes-sizes, c.three_digits.ensures, c.if-out-three_digits.false))
