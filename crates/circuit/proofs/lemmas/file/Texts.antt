@@ -135,9 +135,9 @@ header_fields_lem n h =
     parts_cut tab lines_word (number_text n) refl
     ∙ ap (λ (l : List (List ℕ)). lines_word ∷ l) (parts_one tab (number_text n) (number_free tab n (omega arith) (omega arith)))
 
-pub on_header_line : (n : ℕ) (r : List ℕ) → n ≤ max_lines → lines_of (header_line n ++ r) ≡ record { bytes = header_text n; ended = true } ∷ lines_of r
+pub header_line_lem : (n : ℕ) (r : List ℕ) → n ≤ max_lines → lines_of (header_line n ++ r) ≡ record { bytes = header_text n; ended = true } ∷ lines_of r
 unfolding free
-on_header_line n r h =
+header_line_lem n r h =
     ap (λ (x : List ℕ). lines_of (lines_word ++ (tab ∷ x))) (append_assoc (number_text n) (line_feed ∷ []) r)
     ∙ lines_cut (header_text n) r (number_free line_feed n (omega arith) (omega arith))
 
@@ -157,7 +157,7 @@ start_read n gs r c =
     let x : List ℕ = gate_lines gs ++ r in
     let z : length (number_text n ++ (line_feed ∷ [])) ≡ length (number_text n) + 1 = length-append (number_text n) (line_feed ∷ []) in
     let e : line_size (record { bytes = header_text n; ended = true }) ≡ length (header_line n) = omega arith in
-    ap (λ (ls : List Line). and_then (header_on (first_line ls)) (λ n. read_from n 1 [] (line_size (first_line ls)) (later_lines ls))) (on_header_line n x c.lines_high)
+    ap (λ (ls : List Line). and_then (header_on (first_line ls)) (λ n. read_from n 1 [] (line_size (first_line ls)) (later_lines ls))) (header_line_lem n x c.lines_high)
     ∙ then_served _ _ n (header_read_lem n c.lines_low c.lines_high)
     ∙ ap (λ (k : ℕ). read_from n 1 [] k (lines_of x)) e
     ∙ gates_read_lem n c.lines_high 1 gs [] (length (header_line n)) r c.gates (omega arith)
