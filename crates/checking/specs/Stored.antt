@@ -63,7 +63,7 @@ pub record BadAt (ws : List ℤ) (i : ℕ) : Type 0 where
   pub some_left : left ≡ [] → ⊥
   pub no_clause : (c : Clause) (more : List ℤ) → left ≢ stored_clause c ++ more
 
--- the width of a clause word, `ClauseWord` in the code; a signed one holds the numbers from −wordLimit to word_limit − 1
+-- the width of a clause word, `ClauseWord` in the code; a signed one holds the numbers from −word_limit to word_limit − 1
 abbrev pub word_width : Width
 word_width = w16
 
