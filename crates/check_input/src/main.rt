@@ -24,9 +24,9 @@ fn answer(
     a: &mut [u64],
     b: &mut [u64],
 ) -> usize
-    requires max_checked_in_bounds { max_checked ≤ length out.old }
-    requires file_words_in_bounds { file_words ≤ length a.old }
-    requires file_words_in_bounds_2 { file_words ≤ length b.old }
+    requires out_room { max_checked ≤ length out.old }
+    requires first_room { file_words ≤ length a.old }
+    requires second_room { file_words ≤ length b.old }
     ensures { Put result out.new (check_text first.now second.now state.now) out.old }
 {
     match text::check_input(first, second, state, out, a, b) {

@@ -10,12 +10,12 @@ use Rattle.checking.specs.Step.{Step, found, none, step_outcome, step_buffer}
 use Rattle.checking.specs.Reduce.{Reduced, reduce_outcome, reduce_buffer}
 use Rattle.checking.specs.Emit.{emit_outcome, emit_buffer}
 use Rattle.checking.specs.Told.{ServedTells}
-use Rattle.checking.specs.Equality.{Call, stepOn, reduceOn, Claim}
+use Rattle.checking.specs.Equality.{Call, step_on, reduce_on, Claim}
 
 -- two words a call: 0 for a step or anything else for a full reduction, and its n; a last word alone is no call
 abbrev pub call_of : ℕ → ℕ → Call
-call_of zero n = stepOn n
-call_of (suc kind) n = reduceOn n
+call_of zero n = step_on n
+call_of (suc kind) n = reduce_on n
 
 unfoldable pub calls_of : List ℕ → List Call
 calls_of [] = []
@@ -42,9 +42,9 @@ reduce_gates_left (refused number place) before = before
 
 -- a call is given the gates that stand, and leaves the rest of the buffer
 unfoldable pub called : Call → Held → Held
-called (stepOn n) h =
+called (step_on n) h =
     record { gates = step_gates_left (step_outcome n (held_words h)) h.gates; words = over (step_buffer n (held_words h)) h.words }
-called (reduceOn n) h =
+called (reduce_on n) h =
     record { gates = reduce_gates_left (reduce_outcome n (held_words h)) h.gates; words = over (reduce_buffer n (held_words h)) h.words }
 
 unfoldable pub called_all : List Call → Held → Held

@@ -14,7 +14,7 @@ use Rattle.checking.specs.Emit.{emit_outcome, emit_buffer}
 
 -- a step or a full reduction, with any number as its n
 pub data Call : Type 0 where
-  stepOn reduceOn : ℕ → Call
+  step_on reduce_on : ℕ → Call
 
 -- the words that stand after a call, in its buffer: as many as its answer counts; all of them where it is refused or answers none, since the count is then as it was
 abbrev pub step_leaves : Outcome (Step ℕ) → List ℕ → List ℕ
@@ -27,8 +27,8 @@ reduce_leaves (served r) buffer = take (3 * r.left) buffer
 reduce_leaves (refused number place) buffer = buffer
 
 unfoldable pub after : Call → List ℕ → List ℕ
-after (stepOn n) ws = step_leaves (step_outcome n ws) (step_buffer n ws)
-after (reduceOn n) ws = reduce_leaves (reduce_outcome n ws) (reduce_buffer n ws)
+after (step_on n) ws = step_leaves (step_outcome n ws) (step_buffer n ws)
+after (reduce_on n) ws = reduce_leaves (reduce_outcome n ws) (reduce_buffer n ws)
 
 -- after a list of calls, each given the words that stood after the one before
 unfoldable pub after_all : List Call → List ℕ → List ℕ

@@ -43,8 +43,8 @@ t2+1 = gate 2 2 0
 abbrev pub t2+0+1 : Gate
 t2+0+1 = gate 2 3 0
 
-abbrev pub t2+0_1 : Gate
-t2+0_1 = gate 2 1 2
+abbrev pub t2+0-1 : Gate
+t2+0-1 = gate 2 1 2
 
 abbrev pub t2_0_1 : Gate
 t2_0_1 = gate 2 0 3
@@ -53,12 +53,12 @@ abbrev pub rows : List Row
 rows =
     run 3 (t2+0+1 ∷ []) 3 7
     ∷ run 3 (t2+0+1 ∷ []) 1 1
-    ∷ run 3 (t2+0_1 ∷ []) 1 5
-    ∷ run 3 (t2+0_1 ∷ []) 3 3
+    ∷ run 3 (t2+0-1 ∷ []) 1 5
+    ∷ run 3 (t2+0-1 ∷ []) 3 3
     ∷ run 1 (t0 ∷ []) 0 1
     ∷ step 3 (t2+0+1 ∷ t2+0+1 ∷ []) []
-    ∷ step 3 (t2+0+1 ∷ t2+0_1 ∷ []) (t2+0 ∷ [])
-    ∷ step 3 (t2+0+1 ∷ t2+0 ∷ []) (t2+0_1 ∷ [])
+    ∷ step 3 (t2+0+1 ∷ t2+0-1 ∷ []) (t2+0 ∷ [])
+    ∷ step 3 (t2+0+1 ∷ t2+0 ∷ []) (t2+0-1 ∷ [])
     ∷ step_none 3 (t2+0+1 ∷ t2_0_1 ∷ [])
     ∷ step 3 (t2+0 ∷ t1 ∷ t2+0 ∷ []) (t1 ∷ [])
     ∷ step_none 3 (t2+1 ∷ t1 ∷ t2+1 ∷ [])

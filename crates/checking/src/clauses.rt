@@ -63,8 +63,8 @@ fn with_line(mask: u64, k: u64) -> u64
 
 // The totals of the clause list of the gates, which are tested on the way; else 7.
 pub(crate) fn list_sizes(n: u64, words: &[u64]) -> EmitAnswer
-    requires n_le_max_lines { n ≤ max_lines }
-    requires words_len_bound { length words.now / 3 ≤ max_miter_gates }
+    requires few_lines { n ≤ max_lines }
+    requires few_gates { length words.now / 3 ≤ max_miter_gates }
     ensures { of_emit result ≡ and_then (valid_from n 0 (gates_of words.now)) (λ k. served (sizes_of n (gates_of words.now))) }
 {
     let gates = words.len() / Gate::WORDS;

@@ -35,8 +35,8 @@ pub enum RefusalAnswer {
 
 // Whether two cascades, which were tested, give different outputs on a state.
 pub(crate) fn outputs_differ(a: &[u64], b: &[u64], state: u64) -> bool
-    requires a_value { all_valid max_lines (gates_of a.now) ≡ true }
-    requires b_value { all_valid max_lines (gates_of b.now) ≡ true }
+    requires first_valid { all_valid max_lines (gates_of a.now) ≡ true }
+    requires second_valid { all_valid max_lines (gates_of b.now) ≡ true }
     ensures { result ≡ outputs_differ (gates_of a.now) (gates_of b.now) state }
 {
     circuit::run::run_tested(a, state) != circuit::run::run_tested(b, state)
@@ -44,8 +44,8 @@ pub(crate) fn outputs_differ(a: &[u64], b: &[u64], state: u64) -> bool
 
 // The lowest of the states below `count` on which two cascades differ.
 fn lowest_difference(a: &[u64], b: &[u64], count: u64) -> DifferenceAnswer
-    requires a_value { all_valid max_lines (gates_of a.now) ≡ true }
-    requires b_value { all_valid max_lines (gates_of b.now) ≡ true }
+    requires first_valid { all_valid max_lines (gates_of a.now) ≡ true }
+    requires second_valid { all_valid max_lines (gates_of b.now) ≡ true }
     ensures { of_difference result ≡ served (lowest_from (gates_of a.now) (gates_of b.now) 0 count) }
 {
     let mut x = 0;

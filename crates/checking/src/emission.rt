@@ -32,8 +32,8 @@ fn new_variable(used: u64, k: u64) -> u64
 
 // The inputs of lines below n as their current variables.
 fn set_inputs(n: u64, current: &mut [u64])
-    requires n_le_max_lines { n ≤ max_lines }
-    requires n_in_bounds { n ≤ length current.old }
+    requires few_lines { n ≤ max_lines }
+    requires current_room { n ≤ length current.old }
     ensures { Holds n current.new input_of }
 {
     let mut k = 0;
@@ -97,9 +97,9 @@ fn put_differences(n: u64, current: &[u64], used: u64, out: &mut [ClauseWord]) -
 
 // The OR of all d at the buffer's start.
 fn put_last(n: u64, used: u64, out: &mut [ClauseWord])
-    requires n_le_max_lines { n ≤ max_lines }
-    requires n_bound { used + n < word_limit }
-    requires n_in_bounds { n + 2 ≤ length out.old }
+    requires few_lines { n ≤ max_lines }
+    requires fits_word { used + n < word_limit }
+    requires out_room { n + 2 ≤ length out.old }
     ensures { out.new ≡ over (last_stored n used) out.old }
 {
     out[0] = 0;

@@ -82,8 +82,8 @@ fn put_controls(
 )
     requires currents { Currents n current.now }
     requires lines { Lines lines k n }
-    requires p_lt_word_limit { p < word_limit }
-    requires k_in_bounds { 5 * k ≤ length out.old }
+    requires fits_word { p < word_limit }
+    requires out_room { 5 * k ≤ length out.old }
     ensures { out.new ≡ over (controls_stored p (literals_in current.now positive lines n)) out.old }
 {
     let not_p = literal(p, false);

@@ -30,8 +30,8 @@ fn lines_below(n: u64) -> u64
 
 // The lines below n that are neither target nor control.
 fn free_lines(g: Gate, n: u64) -> u64
-    requires n_le_max_lines { n ≤ max_lines }
-    requires g_value { valid n g ≡ true }
+    requires few_lines { n ≤ max_lines }
+    requires valid_gate { valid n g ≡ true }
     ensures { result ≡ mask_where n (is_free g) }
 {
     let positive = g.positive;
@@ -57,9 +57,9 @@ fn kept_lines(g: Gate, state: u64, positive: bool) -> u64
 
 // The masks before any state: the free lines of each gate, in each of its masks.
 fn start_masks(n: u64, words: &[u64], out: &mut [u64])
-    requires n_le_max_lines { n ≤ max_lines }
-    requires words_value { all_valid n (gates_of words.now) ≡ true }
-    requires words_in_bounds { gate_masks * length (gates_of words.now) ≤ length out.old }
+    requires few_lines { n ≤ max_lines }
+    requires valid_gates { all_valid n (gates_of words.now) ≡ true }
+    requires mask_room { gate_masks * length (gates_of words.now) ≤ length out.old }
     ensures { out.new ≡ over (masks_from n [] (gates_of words.now) []) out.old }
 {
     let gates = words.len() / Gate::WORDS;
@@ -75,8 +75,8 @@ fn start_masks(n: u64, words: &[u64], out: &mut [u64])
 
 // The masks after one state more.
 fn narrow(words: &[u64], state: u64, out: &mut [u64])
-    requires words_value { all_valid max_lines (gates_of words.now) ≡ true }
-    requires words_in_bounds { gate_masks * length (gates_of words.now) ≤ length out.old }
+    requires valid_gates { all_valid max_lines (gates_of words.now) ≡ true }
+    requires mask_room { gate_masks * length (gates_of words.now) ≤ length out.old }
     ensures { out.new ≡ narrowed (gates_of words.now) state out.old }
 {
     let gates = words.len() / Gate::WORDS;
@@ -94,8 +94,8 @@ fn narrow(words: &[u64], state: u64, out: &mut [u64])
 
 // The masks after all states.
 fn narrow_all(words: &[u64], states: &[u64], out: &mut [u64])
-    requires words_value { all_valid max_lines (gates_of words.now) ≡ true }
-    requires words_in_bounds { gate_masks * length (gates_of words.now) ≤ length out.old }
+    requires valid_gates { all_valid max_lines (gates_of words.now) ≡ true }
+    requires mask_room { gate_masks * length (gates_of words.now) ≤ length out.old }
     ensures { out.new ≡ narrowed_by (gates_of words.now) states.now out.old }
 {
     let mut i = 0;
@@ -121,8 +121,8 @@ fn check_states(n: u64, states: &[u64]) -> CountAnswer
 
 // The number of states, on all of which the cascades differ; else 12 at the first on which they agree.
 fn check_differing(a: &[u64], b: &[u64], states: &[u64]) -> CountAnswer
-    requires a_value { all_valid max_lines (gates_of a.now) ≡ true }
-    requires b_value { all_valid max_lines (gates_of b.now) ≡ true }
+    requires first_valid { all_valid max_lines (gates_of a.now) ≡ true }
+    requires second_valid { all_valid max_lines (gates_of b.now) ≡ true }
     ensures { of_count result ≡ each_from (outputs_differ (gates_of a.now) (gates_of b.now)) agreeing_state 0 states.now }
 {
     let mut i = 0;

@@ -29,8 +29,8 @@ pub enum ReduceAnswer {
 
 // Makes steps on the words of gates until there is none.
 fn reduce_gates(words: &mut [u64]) -> Reduction
-    requires words_len { length words.old % 3 ≡ 0 }
-    requires words_value { all_valid max_lines (gates_of words.old) ≡ true }
+    requires whole_gates { length words.old % 3 ≡ 0 }
+    requires valid_gates { all_valid max_lines (gates_of words.old) ≡ true }
     ensures { Yields (of_reduction result) words.new (numbered (reduce_gates (gates_of words.old))) (filled (reduce_gates (gates_of words.old)).left (length words.old)) }
 {
     let mut gates = words.len() / Gate::WORDS;

@@ -72,8 +72,8 @@ fn single(mask: u64) -> bool
 
 // Whether two gates may pass each other: neither's target is a control of the other.
 fn may_pass(g: Gate, h: Gate) -> bool
-    requires target_lt_max_lines { g.target < max_lines }
-    requires target_lt_max_lines_2 { h.target < max_lines }
+    requires first_target { g.target < max_lines }
+    requires second_target { h.target < max_lines }
     ensures { result ≡ may_pass g h }
 {
     let g_lines = g.positive | g.negative;
@@ -120,8 +120,8 @@ pub fn match_gates(g: Gate, h: Gate) -> Verdict
 
 // The first gate after gate i that it matches, where it may pass those between.
 fn scan_after(words: &[u64], i: usize) -> Search
-    requires i_in_bounds { i < length words.now / 3 }
-    requires words_value { all_valid max_lines (gates_of words.now) ≡ true }
+    requires gate_inside { i < length words.now / 3 }
+    requires valid_gates { all_valid max_lines (gates_of words.now) ≡ true }
     ensures { of_search result ≡ from_gate i (scan_from (i + 1) (gate_at words.now i) (gates_of (drop (3 * (i + 1)) words.now))) }
 {
     let gates = words.len() / Gate::WORDS;
@@ -161,8 +161,8 @@ pub(crate) fn search_gates(words: &[u64]) -> Search
 
 // Moves the words from `to + gap` up to `until` down to `to`.
 fn move_down(words: &mut [u64], to: usize, gap: usize, until: usize)
-    requires gap_bound { to + gap ≤ until }
-    requires until_in_bounds { until ≤ length words.old }
+    requires gap_inside { to + gap ≤ until }
+    requires until_inside { until ≤ length words.old }
     ensures { words.new ≡ over (take to words.old ++ take (until - (to + gap)) (drop (to + gap) words.old)) words.old }
 {
     let from = to + gap;
@@ -198,9 +198,9 @@ fn close_gap(words: &mut [u64], to: usize, gap: usize)
 
 // Gates i and j go.
 fn remove_pair(words: &mut [u64], i: usize, j: usize)
-    requires i_lt_j { i < j }
-    requires j_in_bounds { j < length words.old / 3 }
-    requires words_len { length words.old % 3 ≡ 0 }
+    requires rising { i < j }
+    requires second_inside { j < length words.old / 3 }
+    requires whole_gates { length words.old % 3 ≡ 0 }
     ensures { words.new ≡ filled (replaced i j [] (gates_of words.old)) (length words.old) }
 {
     move_down(words, Gate::WORDS * i, Gate::WORDS, Gate::WORDS * j);
@@ -209,9 +209,9 @@ fn remove_pair(words: &mut [u64], i: usize, j: usize)
 
 // Place j takes r, and gate i goes.
 fn merge_pair(words: &mut [u64], i: usize, j: usize, r: Gate)
-    requires i_lt_j { i < j }
-    requires j_in_bounds { j < length words.old / 3 }
-    requires words_len { length words.old % 3 ≡ 0 }
+    requires rising { i < j }
+    requires second_inside { j < length words.old / 3 }
+    requires whole_gates { length words.old % 3 ≡ 0 }
     ensures { words.new ≡ filled (replaced i j (r ∷ []) (gates_of words.old)) (length words.old) }
 {
     let at = Gate::WORDS * j;
@@ -221,7 +221,7 @@ fn merge_pair(words: &mut [u64], i: usize, j: usize, r: Gate)
 
 // Makes the step on the words of gates that the search found in them.
 pub(crate) fn make_step(words: &mut [u64], i: usize, j: usize, by: Match) -> Stepped
-    requires words_len { length words.old % 3 ≡ 0 }
+    requires whole_gates { length words.old % 3 ≡ 0 }
     requires found_at { FoundAt (gates_of words.old) i j by }
     ensures { Yields (of_stepped result) words.new (with_count (step_gates (gates_of words.old))) (step_words (step_gates (gates_of words.old)) words.old) }
 {

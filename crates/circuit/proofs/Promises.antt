@@ -14,7 +14,7 @@ pub use Rattle.circuit.proofs.lemmas.words.Tests.{lines_good, size_served, from_
 -- a run and the inverse
 pub use Rattle.circuit.proofs.lemmas.run.Laws.{run_none, run_one, run_next, run_append, run_below, tested_run, equal_differs, run_refused, run_served, served_run}
 pub use Rattle.circuit.proofs.lemmas.run.Records.{records_words, records_served, served_records, records_refused, refused_records}
-pub use Rattle.circuit.proofs.lemmas.inverse.Laws.{run_inverse, inverse_run, inverse_append, inverse_length, inverse_twice, inverse_valid, refused_exactly as inverse_refused, inverse_served, served_inverse, inverse_stands, inverse_untouched, put_fits as inverse-fits}
+pub use Rattle.circuit.proofs.lemmas.inverse.Laws.{run_inverse, inverse_run, inverse_append, inverse_length, inverse_twice, inverse_valid, refused_exactly as inverse_refused, inverse_served, served_inverse, inverse_stands, inverse_untouched, put_fits as inverse_fits}
 -- files, and the bytes of a text
 pub use Rattle.circuit.proofs.lemmas.file.Laws.{reader, read_as, read_served, served_read, read_refused, write_served, served_write, write_refused, refuses_all}
 pub use Rattle.circuit.proofs.lemmas.file.RoundTrip.{round_trip, idle_reading, idle_writing, read_leaves}

@@ -23,11 +23,11 @@ fn answer(
     miter: &mut [u64],
     clauses: &mut [ClauseWord],
 ) -> usize
-    requires max_compared_in_bounds { max_compared ≤ length out.old }
-    requires file_words_in_bounds { file_words ≤ length a.old }
-    requires file_words_in_bounds_2 { file_words ≤ length b.old }
-    requires miter_words_in_bounds { miter_words ≤ length miter.old }
-    requires max_list_in_bounds { max_list ≤ length clauses.old }
+    requires out_room { max_compared ≤ length out.old }
+    requires first_room { file_words ≤ length a.old }
+    requires second_room { file_words ≤ length b.old }
+    requires miter_room { miter_words ≤ length miter.old }
+    requires clause_room { max_list ≤ length clauses.old }
     ensures { Put result out.new (compare_text first.now second.now) out.old }
 {
     match text::compare(first, second, out, a, b, miter, clauses) {

@@ -40,9 +40,9 @@ fn reduce_gates(n: u64, gates: usize, room: &mut [u64]) -> usize
 
 // The gates that the full reduction of the miter leaves, at the room's start; how many.
 fn reduce_miter(n: u64, a: &[u64], b: &[u64], room: &mut [u64]) -> usize
-    requires file_words { FileWords n a.now }
-    requires file_words_2 { FileWords n b.now }
-    requires miter_words_in_bounds { miter_words ≤ length room.old }
+    requires first_words { FileWords n a.now }
+    requires second_words { FileWords n b.now }
+    requires miter_room { miter_words ≤ length room.old }
     ensures { LeftIn n result room.new (gates_left (gates_of a.now) (gates_of b.now)) }
 {
     match checking::miter::miter(n, a, n, b, room) {
@@ -53,9 +53,9 @@ fn reduce_miter(n: u64, a: &[u64], b: &[u64], room: &mut [u64]) -> usize
 
 // Two cascades of at most 16 lines, by the lowest state on which they differ.
 fn sweep(n: u64, a: &[u64], b: &[u64]) -> ComparedAnswer
-    requires file_words { FileWords n a.now }
-    requires file_words_2 { FileWords n b.now }
-    requires n_le_max_sweep_lines { n ≤ max_sweep_lines }
+    requires first_words { FileWords n a.now }
+    requires second_words { FileWords n b.now }
+    requires few_lines { n ≤ max_sweep_lines }
     ensures { SaysAny result (swept_as (gates_of a.now) (gates_of b.now) (lowest_from (gates_of a.now) (gates_of b.now) 0 (2 ^ n))) }
 {
     match checking::compare::first_difference(n, a, n, b) {
@@ -72,7 +72,7 @@ fn sweep(n: u64, a: &[u64], b: &[u64]) -> ComparedAnswer
 // The clause list of gates, in the room; else 10.
 fn list_gates(n: u64, words: &[u64], clauses: &mut [ClauseWord]) -> ComparedAnswer
     requires miter_cascade { MiterCascade n words.now }
-    requires max_list_in_bounds { max_list ≤ length clauses.old }
+    requires clause_room { max_list ≤ length clauses.old }
     ensures { SaysCompared result clauses.new (list_as n (gates_of words.now)) }
 {
     match checking::clauses::emit(n, words, clauses) {
@@ -97,10 +97,10 @@ fn compare_pair(
     room: &mut [u64],
     clauses: &mut [ClauseWord],
 ) -> ComparedAnswer
-    requires file_words { FileWords n a.now }
-    requires file_words_2 { FileWords n b.now }
-    requires miter_words_in_bounds { miter_words ≤ length room.old }
-    requires max_list_in_bounds { max_list ≤ length clauses.old }
+    requires first_words { FileWords n a.now }
+    requires second_words { FileWords n b.now }
+    requires miter_room { miter_words ≤ length room.old }
+    requires clause_room { max_list ≤ length clauses.old }
     ensures { SaysCompared result clauses.new (compared n (gates_of a.now) (gates_of b.now)) }
 {
     let left = reduce_miter(n, a, b, room);
@@ -123,10 +123,10 @@ pub(crate) fn compare_files(
     room: &mut [u64],
     clauses: &mut [ClauseWord],
 ) -> ComparedAnswer
-    requires file_words_in_bounds { file_words ≤ length a.old }
-    requires file_words_in_bounds_2 { file_words ≤ length b.old }
-    requires miter_words_in_bounds { miter_words ≤ length room.old }
-    requires max_list_in_bounds { max_list ≤ length clauses.old }
+    requires first_room { file_words ≤ length a.old }
+    requires second_room { file_words ≤ length b.old }
+    requires miter_room { miter_words ≤ length room.old }
+    requires clause_room { max_list ≤ length clauses.old }
     ensures { SaysCompared result clauses.new (comparison first.now second.now) }
 {
     match crate::pair::read_files(first, second, a, b) {

@@ -130,8 +130,8 @@ fn fit_outputs(out: &mut [u8], n: u64, first: u64, second: u64) -> TextAnswer
 
 // The outputs of two cascades on the state that a text spells; else 9.
 fn check_pair(n: u64, a: &[u64], b: &[u64], state: &[u8]) -> CheckedAnswer
-    requires file_words { FileWords n a.now }
-    requires file_words_2 { FileWords n b.now }
+    requires first_words { FileWords n a.now }
+    requires second_words { FileWords n b.now }
     ensures { SaysChecked result (checked_on n (gates_of a.now) (gates_of b.now) (state_read n state.now)) }
 {
     match read_state(n, state) {
@@ -155,8 +155,8 @@ pub(crate) fn check_files(
     a: &mut [u64],
     b: &mut [u64],
 ) -> CheckedAnswer
-    requires file_words_in_bounds { file_words ≤ length a.old }
-    requires file_words_in_bounds_2 { file_words ≤ length b.old }
+    requires first_room { file_words ≤ length a.old }
+    requires second_room { file_words ≤ length b.old }
     ensures { SaysChecked result (checked first.now second.now state.now) }
 {
     match crate::pair::read_files(first, second, a, b) {

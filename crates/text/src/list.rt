@@ -20,9 +20,9 @@ pub enum ListAnswer {
 
 // The clause list of two cascades; else 8 or 10.
 fn list_pair(na: u64, a: &[u64], nb: u64, b: &[u64], clauses: &mut [ClauseWord]) -> ListAnswer
-    requires file_words { FileWords na a.now }
-    requires file_words_2 { FileWords nb b.now }
-    requires clauses_len { length clauses.old ≡ max_words }
+    requires first_words { FileWords na a.now }
+    requires second_words { FileWords nb b.now }
+    requires clause_room { length clauses.old ≡ max_words }
     ensures { Delivers result clauses.new (pair_verdict na (gates_of a.now) nb (gates_of b.now)) }
 {
     let mut room = [0u64; crate::MITER_WORDS];
@@ -34,8 +34,8 @@ fn list_pair(na: u64, a: &[u64], nb: u64, b: &[u64], clauses: &mut [ClauseWord])
 
 // The clause list of a cascade and of the one in the second file; else what is wrong with that file, 8 or 10.
 fn list_second(n: u64, a: &[u64], text: &[u8], clauses: &mut [ClauseWord]) -> ListAnswer
-    requires file_words { FileWords n a.now }
-    requires clauses_len { length clauses.old ≡ max_words }
+    requires first_words { FileWords n a.now }
+    requires clause_room { length clauses.old ≡ max_words }
     ensures { Delivers result clauses.new (second_verdict n (gates_of a.now) text.now) }
 {
     let mut b = [0u64; crate::FILE_WORDS];

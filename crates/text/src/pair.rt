@@ -58,7 +58,7 @@ pub(crate) fn read_whole(text: &[u8], room: &mut [u64]) -> WholeAnswer
 // The second file's cascade beside the first one's, which stands in its room; else what is wrong with that file, or 8.
 fn read_second(lines: u64, words: usize, second: &[u8], a: &[u64], b: &mut [u64]) -> FilesAnswer
     requires in_room { InRoom lines words a.now }
-    requires file_words_in_bounds { file_words ≤ length b.old }
+    requires second_room { file_words ≤ length b.old }
     ensures { SaysFiles result a.now b.new (second_file lines (gates_of (take words a.now)) second.now) }
 {
     match read_whole(second, b) {
@@ -84,8 +84,8 @@ fn read_second(lines: u64, words: usize, second: &[u8], a: &[u64], b: &mut [u64]
 
 // The cascades of two files; else what is wrong with them.
 pub(crate) fn read_files(first: &[u8], second: &[u8], a: &mut [u64], b: &mut [u64]) -> FilesAnswer
-    requires file_words_in_bounds { file_words ≤ length a.old }
-    requires file_words_in_bounds_2 { file_words ≤ length b.old }
+    requires first_room { file_words ≤ length a.old }
+    requires second_room { file_words ≤ length b.old }
     ensures { SaysFiles result a.new b.new (files_of first.now second.now) }
 {
     if crate::MAX_FILE < first.len() {

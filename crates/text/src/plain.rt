@@ -61,7 +61,7 @@ fn both_size(literal: ClauseWord) -> usize
 
 // The bytes of an OR.
 fn closed_size(literals: &[ClauseWord]) -> usize
-    requires literals_len_bound { length literals.now ≤ max_list }
+    requires few_literals { length literals.now ≤ max_list }
     requires literals_within { LiteralsWithin max_variables literals.now }
     ensures { result ≡ length (literals_text literals.now ++ closing) }
 {
@@ -132,8 +132,8 @@ fn put_ors(out: &mut [u8], first: &[ClauseWord], second: &[ClauseWord]) -> usize
 
 // Writes the plain clauses of an XOR of two literals.
 fn put_pair(out: &mut [u8], a: ClauseWord, b: ClauseWord) -> usize
-    requires a_bound { (variable_of a < word_limit) × (variable_of b < word_limit) }
-    requires b_in_bounds { length (clauses_text (plain_clause (XOR (a ∷ b ∷ [])))) ≤ length out.old }
+    requires literals_fit { (variable_of a < word_limit) × (variable_of b < word_limit) }
+    requires out_room { length (clauses_text (plain_clause (XOR (a ∷ b ∷ [])))) ≤ length out.old }
     ensures { Put result out.new (clauses_text (plain_clause (XOR (a ∷ b ∷ [])))) out.old }
 {
     let first = [a, b];
@@ -143,8 +143,8 @@ fn put_pair(out: &mut [u8], a: ClauseWord, b: ClauseWord) -> usize
 
 // Writes the ORs of three literals, and of the first and the opposite of the others.
 fn put_both(out: &mut [u8], a: ClauseWord, b: ClauseWord, c: ClauseWord) -> usize
-    requires b_bound { (variable_of b < word_limit) × (variable_of c < word_limit) }
-    requires c_in_bounds { length (clauses_text (both_ors a b c)) ≤ length out.old }
+    requires literals_fit { (variable_of b < word_limit) × (variable_of c < word_limit) }
+    requires out_room { length (clauses_text (both_ors a b c)) ≤ length out.old }
     ensures { Put result out.new (clauses_text (both_ors a b c)) out.old }
 {
     let first = [a, b, c];
@@ -154,8 +154,8 @@ fn put_both(out: &mut [u8], a: ClauseWord, b: ClauseWord, c: ClauseWord) -> usiz
 
 // Writes the plain clauses of an XOR of three literals.
 fn put_triple(out: &mut [u8], a: ClauseWord, b: ClauseWord, c: ClauseWord) -> usize
-    requires a_bound { (variable_of a < word_limit) × (variable_of b < word_limit) × (variable_of c < word_limit) }
-    requires c_in_bounds { length (clauses_text (plain_clause (XOR (a ∷ b ∷ c ∷ [])))) ≤ length out.old }
+    requires literals_fit { (variable_of a < word_limit) × (variable_of b < word_limit) × (variable_of c < word_limit) }
+    requires out_room { length (clauses_text (plain_clause (XOR (a ∷ b ∷ c ∷ [])))) ≤ length out.old }
     ensures { Put result out.new (clauses_text (plain_clause (XOR (a ∷ b ∷ c ∷ [])))) out.old }
 {
     let at = put_both(&mut out[0..], a, b, c);
@@ -165,7 +165,7 @@ fn put_triple(out: &mut [u8], a: ClauseWord, b: ClauseWord, c: ClauseWord) -> us
 // Writes a clause's plain clauses.
 pub(crate) fn put_record(out: &mut [u8], kind: ClauseWord, literals: &[ClauseWord]) -> usize
     requires plainable { Plainable kind literals.now }
-    requires literals_in_bounds { length (clauses_text (plain_record kind literals.now)) ≤ length out.old }
+    requires out_room { length (clauses_text (plain_record kind literals.now)) ≤ length out.old }
     ensures { Put result out.new (clauses_text (plain_record kind literals.now)) out.old }
 {
     if kind == 1 {

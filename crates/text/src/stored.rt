@@ -10,7 +10,7 @@ use checking::clauses::ClauseWord;
 // Writes a clause by its kind and its literals, where `plain` as OR clauses.
 fn put_formed(out: &mut [u8], plain: bool, kind: ClauseWord, literals: &[ClauseWord]) -> usize
     requires plainable { Plainable kind literals.now }
-    requires literals_in_bounds { length (formed_text plain kind literals.now) ≤ length out.old }
+    requires out_room { length (formed_text plain kind literals.now) ≤ length out.old }
     ensures { Put result out.new (formed_text plain kind literals.now) out.old }
 {
     if plain {
@@ -22,7 +22,7 @@ fn put_formed(out: &mut [u8], plain: bool, kind: ClauseWord, literals: &[ClauseW
 // Writes the clauses that words store, where `plain` as OR clauses.
 fn put_clauses(out: &mut [u8], plain: bool, words: &[ClauseWord]) -> usize
     requires stores_list { StoresList words.now }
-    requires words_in_bounds { length (stored_text plain words.now) ≤ length out.old }
+    requires out_room { length (stored_text plain words.now) ≤ length out.old }
     ensures { Put result out.new (stored_text plain words.now) out.old }
 {
     let mut at = 0;
@@ -45,7 +45,7 @@ pub(crate) fn put_list(
     words: &[ClauseWord],
 ) -> usize
     requires stores_list { StoresList words.now }
-    requires words_in_bounds { length (header_text variables clauses ++ stored_text plain words.now) ≤ length out.old }
+    requires out_room { length (header_text variables clauses ++ stored_text plain words.now) ≤ length out.old }
     ensures { Put result out.new (header_text variables clauses ++ stored_text plain words.now) out.old }
 {
     let at = crate::dimacs::put_header(&mut out[0..], variables, clauses);

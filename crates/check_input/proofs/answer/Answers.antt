@@ -12,12 +12,12 @@ unfolding input_buffer
 returns-in-Bytes c =
     let a = c.args in
     let r = c.requires in
-    let room = room_enough a.first.now a.second.now a.state.now (length a.a.now) (length a.b.now) (length a.out.now) (r.file_words_in_bounds, r.file_words_in_bounds_2) r.max_checked_in_bounds in
+    let room = room_enough a.first.now a.second.now a.state.now (length a.a.now) (length a.b.now) (length a.out.now) (r.first_room, r.second_room) r.out_room in
     served_put (check_text a.first.now a.second.now a.state.now) a.out.now _ _ _ room (sym c.check_input.ensures.answer ∙ ap of_text c.in-Bytes.is) c.check_input.ensures.buffer
 
 pub returns-in-Refused : goal.returns-in-Refused
 returns-in-Refused c =
     let a = c.args in
     let r = c.requires in
-    let room = room_enough a.first.now a.second.now a.state.now (length a.a.now) (length a.b.now) (length a.out.now) (r.file_words_in_bounds, r.file_words_in_bounds_2) r.max_checked_in_bounds in
+    let room = room_enough a.first.now a.second.now a.state.now (length a.a.now) (length a.b.now) (length a.out.now) (r.first_room, r.second_room) r.out_room in
     absurd (never room (sym c.check_input.ensures.answer ∙ ap of_text c.in-Refused.is))

@@ -13,7 +13,7 @@ returns-in-Bytes c =
     let a = c.args in
     let r = c.requires in
     let lent = rooms (length a.a.now) (length a.b.now) (length a.miter.now) (length a.clauses.now) in
-    let room = room_enough a.first.now a.second.now lent (length a.out.now) (r.file_words_in_bounds, r.file_words_in_bounds_2, r.miter_words_in_bounds, r.max_list_in_bounds) r.max_compared_in_bounds in
+    let room = room_enough a.first.now a.second.now lent (length a.out.now) (r.first_room, r.second_room, r.miter_room, r.clause_room) r.out_room in
     served_put (compare_text a.first.now a.second.now) a.out.now _ _ _ room (sym c.compare.ensures.answer ∙ ap of_text c.in-Bytes.is) c.compare.ensures.buffer
 
 pub returns-in-Refused : goal.returns-in-Refused
@@ -21,5 +21,5 @@ returns-in-Refused c =
     let a = c.args in
     let r = c.requires in
     let lent = rooms (length a.a.now) (length a.b.now) (length a.miter.now) (length a.clauses.now) in
-    let room = room_enough a.first.now a.second.now lent (length a.out.now) (r.file_words_in_bounds, r.file_words_in_bounds_2, r.miter_words_in_bounds, r.max_list_in_bounds) r.max_compared_in_bounds in
+    let room = room_enough a.first.now a.second.now lent (length a.out.now) (r.first_room, r.second_room, r.miter_room, r.clause_room) r.out_room in
     absurd (never room (sym c.compare.ensures.answer ∙ ap of_text c.in-Refused.is))

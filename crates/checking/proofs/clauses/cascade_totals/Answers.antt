@@ -23,8 +23,8 @@ returns-then-not-line_count_good c =
 pub list_sizes-requires : goal.list_sizes-requires
 list_sizes-requires c =
     record {
-      n_le_max_lines = (lines_good _ (lines (goal.at.list_sizes-requires c).In-Gates)).1;
-      words_len_bound = (size_served c.args.n _ _ _ (size (goal.at.list_sizes-requires c).In-Gates)).1;
+      few_lines = (lines_good _ (lines (goal.at.list_sizes-requires c).In-Gates)).1;
+      few_gates = (size_served c.args.n _ _ _ (size (goal.at.list_sizes-requires c).In-Gates)).1;
     }
 
 pub returns-in-Refused : goal.returns-in-Refused

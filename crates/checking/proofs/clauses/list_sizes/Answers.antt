@@ -24,7 +24,7 @@ good c = sym c.valid.ensures ∙ not-false _ c.if-not-valid.false-raw
 few : (c : After-control_count-k) → c.control_count-k.result ≤ max_lines
 few c =
     let good : valid c.args.n c.gate_at-g.result ≡ true = sym c.valid.ensures ∙ not-false _ c.if-not-valid.false-raw in
-    subst (λ (k : ℕ). k ≤ max_lines) (sym c.control_count-k.ensures) (controls_few _ c.gate_at-g.result c.requires.n_le_max_lines (good))
+    subst (λ (k : ℕ). k ≤ max_lines) (sym c.control_count-k.ensures) (controls_few _ c.gate_at-g.result c.requires.few_lines (good))
 
 pub overflow_add-variables : goal.overflow_add-variables
 overflow_add-variables c = omega (arith, one_more c.control_count-k.result c.extra_variables-variables.result c.extra_variables-variables.ensures)
@@ -38,13 +38,13 @@ overflow_add-controls c = omega (arith, few (goal.at.overflow_add-controls c).Af
 
 pub with_line-hit-requires : goal.with_line-hit-requires
 with_line-hit-requires c =
-    omega (arith, (valid_facts c.args.n c.gate_at-g.result (good (goal.at.with_line-hit-requires c).Else-not-valid)).target_below, c.requires.n_le_max_lines)
+    omega (arith, (valid_facts c.args.n c.gate_at-g.result (good (goal.at.with_line-hit-requires c).Else-not-valid)).target_below, c.requires.few_lines)
 
 pub loop-i-preserved : goal.loop-i-preserved
 loop-i-preserved c =
     subst (λ (hit : ℕ). Summed c.args.n c.args.words.now (c.loop-i.variables + c.extra_variables-variables.result) (c.loop-i.clauses + c.extra_clauses-clauses.result) (c.loop-i.controls + c.control_count-k.result) hit (c.loop-i.i + 1))
     (sym c.with_line-hit.ensures)
-    (summed_next c.args.n c.args.words.now _ _ _ _ _ c.gate_at-g.result c.requires.n_le_max_lines c.loop-i.invariant (omega arith) c.gate_at-g.ensures (good (goal.at.loop-i-preserved c).Else-not-valid) c.control_count-k.result
+    (summed_next c.args.n c.args.words.now _ _ _ _ _ c.gate_at-g.result c.requires.few_lines c.loop-i.invariant (omega arith) c.gate_at-g.ensures (good (goal.at.loop-i-preserved c).Else-not-valid) c.control_count-k.result
     c.extra_variables-variables.result c.extra_clauses-clauses.result c.control_count-k.ensures c.extra_variables-variables.ensures c.extra_clauses-clauses.ensures)
 
 pub overflow_add-result-7 : goal.overflow_add-result-7

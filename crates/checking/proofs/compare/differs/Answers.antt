@@ -15,7 +15,7 @@ returns-then-not-below c =
 pub outputs_differ-requires : goal.outputs_differ-requires
 outputs_differ-requires c =
     let both = pair_gates _ _ _ _ _ (sym c.check_pair.ensures ∙ ap of_pair c.in-Gates.is) in
-    record { a_value = both.0; b_value = both.1 }
+    record { first_valid = both.0; second_valid = both.1 }
 
 pub returns-then-outputs_differ : goal.returns-then-outputs_differ
 returns-then-outputs_differ c =

@@ -19,7 +19,7 @@ returns-then-na-gt-MAX_SWEEP_LINES c =
 pub lowest_difference-requires : goal.lowest_difference-requires
 lowest_difference-requires c =
     let both = pair_gates _ _ _ _ _ (sym c.check_pair.ensures ∙ ap of_pair c.in-Gates.is) in
-    record { a_value = both.0; b_value = both.1 }
+    record { first_valid = both.0; second_valid = both.1 }
 
 pub returns-in-Refused : goal.returns-in-Refused
 returns-in-Refused c =

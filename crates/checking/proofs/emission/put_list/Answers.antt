@@ -55,9 +55,9 @@ slice_bounds-put_last-start c = omega (arith, rest (goal.at.slice_bounds-put_las
 pub put_last-requires : goal.put_last-requires
 put_last-requires c =
     record {
-      n_le_max_lines = c.requires.lines;
-      n_bound = used_few _ _ _ c.requires _ _ _ _ c.put_gates-front.ensures;
-      n_in_bounds = last_room _ _ _ c.requires _ _ _ _ c.put_gates-front.ensures c.put_differences.new.out c.put_differences.result c.put_differences.ensures.answer c.put_differences.ensures.buffer;
+      few_lines = c.requires.lines;
+      fits_word = used_few _ _ _ c.requires _ _ _ _ c.put_gates-front.ensures;
+      out_room = last_room _ _ _ c.requires _ _ _ _ c.put_gates-front.ensures c.put_differences.new.out c.put_differences.result c.put_differences.ensures.answer c.put_differences.ensures.buffer;
     }
 
 pub returns : goal.returns

@@ -7,13 +7,13 @@ pub loop-k-init : goal.loop-k-init
 loop-k-init c = inputs_none c.args.n c.args.current.now
 
 pub offset_bounds-current-k : goal.offset_bounds-current-k
-offset_bounds-current-k c = omega (arith, c.requires.n_le_max_lines)
+offset_bounds-current-k c = omega (arith, c.requires.few_lines)
 
 pub bounds-current-k : goal.bounds-current-k
-bounds-current-k c = omega (arith, c.requires.n_in_bounds, c.loop-k.invariant.as_long)
+bounds-current-k c = omega (arith, c.requires.current_room, c.loop-k.invariant.as_long)
 
 pub loop-k-preserved : goal.loop-k-preserved
-loop-k-preserved c = inputs_next _ _ _ _ c.loop-k.invariant (omega arith) c.requires.n_in_bounds
+loop-k-preserved c = inputs_next _ _ _ _ c.loop-k.invariant (omega arith) c.requires.current_room
 
 pub shape_of-current : goal.shape_of-current
 shape_of-current c = c.loop-k.invariant.as_long

@@ -23,32 +23,32 @@ some c = ⊎_elim (λ z. absurd (c.loop-left-test.true z)) (λ p. p) (eq-zero-or
 line_in : (c : After-lowest-line) → c.lowest-line.result < c.args.n
 line_in c =
     let some : 0 < c.loop-left.left = ⊎_elim (λ z. absurd (c.loop-left-test.true z)) (λ p. p) (eq-zero-or-pos c.loop-left.left) in
-    line_below _ _ _ _ _ _ _ _ _ _ c.requires.currents.lines c.requires.lines c.requires.k_in_bounds c.loop-left.invariant (some) c.lowest-line.result c.lowest-line.ensures
+    line_below _ _ _ _ _ _ _ _ _ _ c.requires.currents.lines c.requires.lines c.requires.out_room c.loop-left.invariant (some) c.lowest-line.result c.lowest-line.ensures
 
 turn_in : (c : After-lowest-line) → c.loop-left.i < c.args.k
 turn_in c =
     let some : 0 < c.loop-left.left = ⊎_elim (λ z. absurd (c.loop-left-test.true z)) (λ p. p) (eq-zero-or-pos c.loop-left.left) in
-    inside _ _ _ _ _ _ _ _ _ _ c.requires.currents.lines c.requires.lines c.requires.k_in_bounds c.loop-left.invariant (some) c.lowest-line.result c.lowest-line.ensures
+    inside _ _ _ _ _ _ _ _ _ _ c.requires.currents.lines c.requires.lines c.requires.out_room c.loop-left.invariant (some) c.lowest-line.result c.lowest-line.ensures
 
 -- its variable fits a word
 variable_small : (c : After-lowest-line) → by_line c.args.current.now c.lowest-line.result < word_limit
 variable_small c =
     let some : 0 < c.loop-left.left = ⊎_elim (λ z. absurd (c.loop-left-test.true z)) (λ p. p) (eq-zero-or-pos c.loop-left.left) in
-    let line_in : c.lowest-line.result < c.args.n = line_below _ _ _ _ _ _ _ _ _ _ c.requires.currents.lines c.requires.lines c.requires.k_in_bounds c.loop-left.invariant (some) c.lowest-line.result c.lowest-line.ensures in
+    let line_in : c.lowest-line.result < c.args.n = line_below _ _ _ _ _ _ _ _ _ _ c.requires.currents.lines c.requires.lines c.requires.out_room c.loop-left.invariant (some) c.lowest-line.result c.lowest-line.ensures in
     c.requires.currents.small c.lowest-line.result (line_in)
 
 -- there is room for its words
 room : (c : After-lowest-line) → c.args.k + 4 * c.loop-left.i + 4 ≤ length c.loop-left.out
 room c =
     let some : 0 < c.loop-left.left = ⊎_elim (λ z. absurd (c.loop-left-test.true z)) (λ p. p) (eq-zero-or-pos c.loop-left.left) in
-    let turn_in : c.loop-left.i < c.args.k = inside _ _ _ _ _ _ _ _ _ _ c.requires.currents.lines c.requires.lines c.requires.k_in_bounds c.loop-left.invariant (some) c.lowest-line.result c.lowest-line.ensures in
-    omega (arith, turn_in, c.requires.k_in_bounds, c.loop-left.invariant.long)
+    let turn_in : c.loop-left.i < c.args.k = inside _ _ _ _ _ _ _ _ _ _ c.requires.currents.lines c.requires.lines c.requires.out_room c.loop-left.invariant (some) c.lowest-line.result c.lowest-line.ensures in
+    omega (arith, turn_in, c.requires.out_room, c.loop-left.invariant.long)
 
 pub literal-not_p-requires : goal.literal-not_p-requires
-literal-not_p-requires c = c.requires.p_lt_word_limit
+literal-not_p-requires c = c.requires.fits_word
 
 pub loop-left-init : goal.loop-left-init
-loop-left-init c = walk_start _ _ _ _ _ _ _ c.requires.lines c.requires.k_in_bounds
+loop-left-init c = walk_start _ _ _ _ _ _ _ c.requires.lines c.requires.out_room
 
 pub offset_bounds-current-line : goal.offset_bounds-current-line
 offset_bounds-current-line c = omega (arith, line_in (goal.at.offset_bounds-current-line c).After-lowest-line, c.requires.currents.lines)
@@ -106,11 +106,11 @@ loop-left-preserved c =
     let sign = c.has-sign.ensures ∙ ap (bit c.args.positive) below in
     let o = set c.loop-left.out c.loop-left.i (kept c.literal.result) in
     let at = c.args.k + 4 * c.loop-left.i in
-    walk_on _ _ _ _ _ _ _ _ _ _ c.requires.currents.lines c.requires.lines c.requires.k_in_bounds c.loop-left.invariant (some (goal.at.loop-left-preserved c).In-loop-left) c.lowest-line.result c.lowest-line.ensures c.put_4.new.out
+    walk_on _ _ _ _ _ _ _ _ _ _ c.requires.currents.lines c.requires.lines c.requires.out_room c.loop-left.invariant (some (goal.at.loop-left-preserved c).In-loop-left) c.lowest-line.result c.lowest-line.ensures c.put_4.new.out
     (kept c.literal.result) _ _
     (literal_kept c.literal.result (not (bit c.args.positive c.lowest-line.result)) v (variable_small (goal.at.loop-left-preserved c).After-lowest-line)
     (c.literal.ensures ∙ ap (λ (b : Bool). literal_word (not b) v) sign))
-    (literal_kept c.literal-not_p.result false c.args.p c.requires.p_lt_word_limit c.literal-not_p.ensures)
+    (literal_kept c.literal-not_p.result false c.args.p c.requires.fits_word c.literal-not_p.ensures)
     (literal_kept c.literal-in-loop-left.result (bit c.args.positive c.lowest-line.result) v (variable_small (goal.at.loop-left-preserved c).After-lowest-line)
     (c.literal-in-loop-left.ensures ∙ ap (λ (b : Bool). literal_word b v) sign))
     c.put_4.ensures
@@ -121,4 +121,4 @@ shape_of-out c = c.loop-left.invariant.long
 
 pub returns : goal.returns
 returns c =
-    walk_done _ _ _ _ _ _ _ _ _ _ c.requires.currents.lines c.requires.lines c.requires.k_in_bounds c.loop-left.invariant c.loop-left-test.false
+    walk_done _ _ _ _ _ _ _ _ _ _ c.requires.currents.lines c.requires.lines c.requires.out_room c.loop-left.invariant c.loop-left-test.false

@@ -14,8 +14,8 @@ put_controls-requires c =
     record {
       currents = c.requires.currents;
       lines = c.requires.many.controls;
-      p_lt_word_limit = omega (arith, c.requires.many.few);
-      k_in_bounds = omega (arith, lent_long c.put_3.new.out 3, c.put_3.auto.out, c.requires.many.enough);
+      fits_word = omega (arith, c.requires.many.few);
+      out_room = omega (arith, lent_long c.put_3.new.out 3, c.put_3.auto.out, c.requires.many.enough);
     }
 
 -- a word as the buffer keeps it

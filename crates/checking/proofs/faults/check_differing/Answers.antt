@@ -12,8 +12,8 @@ loop-i-init c = none_passed _ _ _
 pub outputs_differ-requires : goal.outputs_differ-requires
 outputs_differ-requires c =
     record {
-      a_value = c.requires.a_value;
-      b_value = c.requires.b_value;
+      first_valid = c.requires.first_valid;
+      second_valid = c.requires.second_valid;
     }
 
 pub returns-then-not-outputs_differ : goal.returns-then-not-outputs_differ

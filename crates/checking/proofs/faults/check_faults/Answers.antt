@@ -8,7 +8,7 @@ use Rattle.checking.proofs.faults.check_faults.Goals as goal
 pub check_differing-requires : goal.check_differing-requires
 check_differing-requires c =
     let both = pair_gates _ _ _ _ _ (sym c.check_pair.ensures ∙ ap of_pair c.in-Gates.is) in
-    record { a_value = both.0; b_value = both.1 }
+    record { first_valid = both.0; second_valid = both.1 }
 
 pub returns-in-Refused : goal.returns-in-Refused
 returns-in-Refused c = sym (fault_pair _ _ _ _ _ _ _ (sym c.check_pair.ensures ∙ ap of_pair c.in-Refused.is))

@@ -40,17 +40,17 @@ pub start_masks-requires : goal.start_masks-requires
 start_masks-requires c =
     let k = suspect (goal.at.start_masks-requires c).In-Gates in
     record {
-      n_le_max_lines = k.lines_high;
-      words_value = k.gates;
-      words_in_bounds = omega (arith, k.size, gates_length c.args.suspect.now);
+      few_lines = k.lines_high;
+      valid_gates = k.gates;
+      mask_room = omega (arith, k.size, gates_length c.args.suspect.now);
     }
 
 pub narrow_all-requires : goal.narrow_all-requires
 narrow_all-requires c =
     let k = suspect (goal.at.narrow_all-requires c).In-Gates in
     record {
-      words_value = valid_all_more c.args.na max_lines (gates_of c.args.suspect.now) k.lines_high k.gates;
-      words_in_bounds = omega (arith, k.size, c.start_masks.auto.out, gates_length c.args.suspect.now);
+      valid_gates = valid_all_more c.args.na max_lines (gates_of c.args.suspect.now) k.lines_high k.gates;
+      mask_room = omega (arith, k.size, c.start_masks.auto.out, gates_length c.args.suspect.now);
     }
 
 pub returns-in-Refused : goal.returns-in-Refused

@@ -11,7 +11,7 @@ line-requires c = tt
 
 pub returns : goal.returns
 returns c =
-    let k : c.args.g.target % max_lines ≡ c.args.g.target = omega (arith, c.requires.n_le_max_lines, (valid_facts c.args.n c.args.g c.requires.g_value).target_below) in
+    let k : c.args.g.target % max_lines ≡ c.args.g.target = omega (arith, c.requires.few_lines, (valid_facts c.args.n c.args.g c.requires.valid_gate).target_below) in
     ap₂ (λ (x y : ℕ). bit_and x (bit_xor (bit_or (bit_or c.args.g.positive c.args.g.negative) y) (2 ^ max_lines - 1))) c.lines_below.ensures
     (c.line.ensures ∙ ap (λ (x : ℕ). 2 ^ x) k)
-    ∙ free_mask c.args.n c.args.g c.requires.n_le_max_lines
+    ∙ free_mask c.args.n c.args.g c.requires.few_lines

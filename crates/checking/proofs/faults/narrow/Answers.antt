@@ -10,7 +10,7 @@ use Rattle.checking.proofs.faults.narrow.Goals as goal
 use Rattle.checking.proofs.faults.narrow.Goals.{After-gate_at-g}
 
 pub loop-i-init : goal.loop-i-init
-loop-i-init c = (omega arith, refl, omega (arith, c.requires.words_in_bounds, gates_length c.args.words.now), c.requires.words_value, refl)
+loop-i-init c = (omega arith, refl, omega (arith, c.requires.mask_room, gates_length c.args.words.now), c.requires.valid_gates, refl)
 
 -- the gate that is passed is one
 good : (g : After-gate_at-g) → valid max_lines g.gate_at-g.result ≡ true

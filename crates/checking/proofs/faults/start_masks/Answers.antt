@@ -7,13 +7,13 @@ use Rattle.checking.proofs.lemmas.faults.Loops.{free_masks_lem, free_turn, free_
 use Rattle.checking.proofs.faults.start_masks.Goals as goal
 
 pub loop-i-init : goal.loop-i-init
-loop-i-init c = (omega arith, refl, omega (arith, c.requires.words_in_bounds, gates_length c.args.words.now), c.requires.words_value, refl)
+loop-i-init c = (omega arith, refl, omega (arith, c.requires.mask_room, gates_length c.args.words.now), c.requires.valid_gates, refl)
 
 pub free_lines-free-requires : goal.free_lines-free-requires
 free_lines-free-requires c =
     record {
-      n_le_max_lines = c.requires.n_le_max_lines;
-      g_value = valid_next c.args.n c.args.words.now c.loop-i.i _ (omega arith) c.gate_at.ensures c.loop-i.invariant.3;
+      few_lines = c.requires.few_lines;
+      valid_gate = valid_next c.args.n c.args.words.now c.loop-i.i _ (omega arith) c.gate_at.ensures c.loop-i.invariant.3;
     }
 
 pub bounds-out-at-in-loop-i : goal.bounds-out-at-in-loop-i

@@ -11,7 +11,7 @@ use Rattle.circuit.specs.Refusal.{no_room}
 use Rattle.circuit.specs.Words.{gates_of, words_of, all_valid, Counts, pair_outcome}
 use Rattle.circuit.specs.Run.{run}
 use Rattle.circuit.specs.Inverse.{inverse, put_inverse}
-use Rattle.circuit.proofs.Promises.{told, demand_met, demand_failed, demanded, then_served, then_refused, then_both, above, written_refused, gates_length, gates_words, words_gates, words_append, words_length, valid_append, pair_served, served_pair, pair_wrong, run_append, run_inverse, inverse_run, inverse_length, inverse_valid, inverse-fits}
+use Rattle.circuit.proofs.Promises.{told, demand_met, demand_failed, demanded, then_served, then_refused, then_both, above, written_refused, gates_length, gates_words, words_gates, words_append, words_length, valid_append, pair_served, served_pair, pair_wrong, run_append, run_inverse, inverse_run, inverse_length, inverse_valid, inverse_fits}
 use Rattle.checking.specs.Miter.{miter_gates, miter_outcome, miter_buffer}
 use Rattle.checking.specs.MiterLaws.{MiterServed, MiterRefused, MiterStands, MiterLaws}
 
@@ -67,7 +67,7 @@ module _ (na : ℕ) (a : List ℕ) (nb : ℕ) (b : List ℕ) where
       let n : length mid ≡ length out = ap length e ∙ over_length a out (omega arith) in
       let r : length (take (length mid - length a) (drop (length a) mid)) ≡ length mid - length a = ap length (rest_lent mid (length a)) ∙ length-drop (length a) mid in
       lent_over a back out mid last (length a) e refl (omega arith)
-      (l ∙ inverse-fits b (take (length mid - length a) (drop (length a) mid)) (omega arith))
+      (l ∙ inverse_fits b (take (length mid - length a) (drop (length a) mid)) (omega arith))
       ∙ ap (λ (x : List ℕ). over x out) (sym (front_parts (omega arith)))
 
   -- served exactly for valid pairs with room

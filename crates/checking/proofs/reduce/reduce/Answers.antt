@@ -18,8 +18,8 @@ pub reduce_gates-requires : goal.reduce_gates-requires
 reduce_gates-requires c =
     let k = check_served _ _ _ _ (good (goal.at.reduce_gates-requires c).In-Gates) in
     record {
-      words_len = omega (arith, k.size);
-      words_value = valid_all_more _ max_lines _ k.lines_high k.gates;
+      whole_gates = omega (arith, k.size);
+      valid_gates = valid_all_more _ max_lines _ k.lines_high k.gates;
     }
 
 pub returns-in-Refused : goal.returns-in-Refused

@@ -25,7 +25,7 @@ again m k e pairs merges p q =
     (ap (λ (x : Kind). found m.make_step-s.result.i m.make_step-s.result.j x m.make_step-s.result.gates) e) pairs merges p q
 
 pub loop-i-init : goal.loop-i-init
-loop-i-init c = standing_first _ c.requires.words_len c.requires.words_value
+loop-i-init c = standing_first _ c.requires.whole_gates c.requires.valid_gates
 
 pub search_gates-requires : goal.search_gates-requires
 search_gates-requires c = lent_valid _ c.loop-i.words c.loop-i.gates c.loop-i.pairs c.loop-i.merges c.loop-i.invariant
@@ -40,7 +40,7 @@ returns-in-Nothing c =
 pub make_step-s-requires : goal.make_step-s-requires
 make_step-s-requires c =
     record {
-      words_len = lent_whole _ c.loop-i.words c.loop-i.gates c.loop-i.pairs c.loop-i.merges c.loop-i.invariant;
+      whole_gates = lent_whole _ c.loop-i.words c.loop-i.gates c.loop-i.pairs c.loop-i.merges c.loop-i.invariant;
       found_at = sym c.search_gates.ensures ∙ ap of_search c.in-At.is;
     }
 

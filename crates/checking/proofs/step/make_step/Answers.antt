@@ -18,9 +18,9 @@ inside s = places _ _ _ _ s.requires.found_at
 pub remove_pair-requires : goal.remove_pair-requires
 remove_pair-requires c =
     record {
-      i_lt_j = (inside (goal.at.remove_pair-requires c).Start).0;
-      j_in_bounds = (inside (goal.at.remove_pair-requires c).Start).1;
-      words_len = c.requires.words_len;
+      rising = (inside (goal.at.remove_pair-requires c).Start).0;
+      second_inside = (inside (goal.at.remove_pair-requires c).Start).1;
+      whole_gates = c.requires.whole_gates;
     }
 
 pub overflow_sub-result : goal.overflow_sub-result
@@ -29,9 +29,9 @@ overflow_sub-result c = let (a, b) = inside (goal.at.overflow_sub-result c).Star
 pub merge_pair-requires : goal.merge_pair-requires
 merge_pair-requires c =
     record {
-      i_lt_j = (inside (goal.at.merge_pair-requires c).Start).0;
-      j_in_bounds = (inside (goal.at.merge_pair-requires c).Start).1;
-      words_len = c.requires.words_len;
+      rising = (inside (goal.at.merge_pair-requires c).Start).0;
+      second_inside = (inside (goal.at.merge_pair-requires c).Start).1;
+      whole_gates = c.requires.whole_gates;
     }
 
 pub overflow_sub-result-in-RemoveControl : goal.overflow_sub-result-in-RemoveControl
@@ -40,9 +40,9 @@ overflow_sub-result-in-RemoveControl c = let (a, b) = inside (goal.at.overflow_s
 pub merge_pair-requires-in-InvertControl : goal.merge_pair-requires-in-InvertControl
 merge_pair-requires-in-InvertControl c =
     record {
-      i_lt_j = (inside (goal.at.merge_pair-requires-in-InvertControl c).Start).0;
-      j_in_bounds = (inside (goal.at.merge_pair-requires-in-InvertControl c).Start).1;
-      words_len = c.requires.words_len;
+      rising = (inside (goal.at.merge_pair-requires-in-InvertControl c).Start).0;
+      second_inside = (inside (goal.at.merge_pair-requires-in-InvertControl c).Start).1;
+      whole_gates = c.requires.whole_gates;
     }
 
 pub overflow_sub-result-in-InvertControl : goal.overflow_sub-result-in-InvertControl

@@ -5,4 +5,4 @@ use Rattle.checking.proofs.step.may_pass.Goals as goal
 
 pub returns : goal.returns
 returns c =
-    pass_test c.args.g c.args.h _ _ (c.line.ensures ∙ ap (◌^◌ 2) (mod-eq_of_lt c.requires.target_lt_max_lines)) (c.line-2.ensures ∙ ap (◌^◌ 2) (mod-eq_of_lt c.requires.target_lt_max_lines_2))
+    pass_test c.args.g c.args.h _ _ (c.line.ensures ∙ ap (◌^◌ 2) (mod-eq_of_lt c.requires.first_target)) (c.line-2.ensures ∙ ap (◌^◌ 2) (mod-eq_of_lt c.requires.second_target))

@@ -11,8 +11,8 @@ pub returns : goal.returns
 returns c =
     let ws : List ℕ = c.args.words.now in
     let at : ℕ = 3 * c.args.j in
-    let fits : 3 ≤ length (take (length ws - at) (drop at ws)) = omega (arith, length-take (length ws - at) (drop at ws), length-drop at ws, c.requires.j_in_bounds) in
-    pair_merged ws _ c.close_gap.new.words c.args.i c.args.j c.args.r c.requires.i_lt_j c.requires.j_in_bounds c.requires.words_len
-    (rest_back ws c.put_gate.new.out at (omega (arith, c.requires.j_in_bounds))
+    let fits : 3 ≤ length (take (length ws - at) (drop at ws)) = omega (arith, length-take (length ws - at) (drop at ws), length-drop at ws, c.requires.second_inside) in
+    pair_merged ws _ c.close_gap.new.words c.args.i c.args.j c.args.r c.requires.rising c.requires.second_inside c.requires.whole_gates
+    (rest_back ws c.put_gate.new.out at (omega (arith, c.requires.second_inside))
     ∙ ap (λ (x : List ℕ). take at ws ++ x) (c.put_gate.ensures ∙ put_fits c.args.r (take (length ws - at) (drop at ws)) fits ∙ ap (over (gate_words c.args.r)) (rest_lent ws at)))
     c.close_gap.ensures

@@ -24,8 +24,8 @@ returns-in-Matched c =
 pub may_pass-requires : goal.may_pass-requires
 may_pass-requires c =
     record {
-      target_lt_max_lines = target_low c.args.words.now c.args.i _ c.requires.words_value c.requires.i_in_bounds c.gate_at-g.ensures;
-      target_lt_max_lines_2 = target_low c.args.words.now c.loop-j.j _ c.requires.words_value c.loop-j-test.true c.gate_at-h.ensures;
+      first_target = target_low c.args.words.now c.args.i _ c.requires.valid_gates c.requires.gate_inside c.gate_at-g.ensures;
+      second_target = target_low c.args.words.now c.loop-j.j _ c.requires.valid_gates c.loop-j-test.true c.gate_at-h.ensures;
     }
 
 pub returns-then-not-may_pass : goal.returns-then-not-may_pass

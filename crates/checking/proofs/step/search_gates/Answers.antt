@@ -10,8 +10,8 @@ loop-i-init c = (omega arith, refl)
 pub scan_after-requires : goal.scan_after-requires
 scan_after-requires c =
     record {
-      i_in_bounds = c.loop-i-test.true;
-      words_value = c.requires;
+      gate_inside = c.loop-i-test.true;
+      valid_gates = c.requires;
     }
 
 pub returns-in-At : goal.returns-in-At

@@ -22,7 +22,7 @@ pub make_step-requires : goal.make_step-requires
 make_step-requires c =
     let k = check_served _ _ _ _ (good (goal.at.make_step-requires c).In-Gates) in
     record {
-      words_len = omega (arith, k.size);
+      whole_gates = omega (arith, k.size);
       found_at = sym c.search_gates.ensures ∙ ap of_search c.in-At.is;
     }
 

@@ -50,7 +50,7 @@ pub put_list-requires : goal.put_list-requires
 put_list-requires c =
     record {
       stores_list = c.requires;
-      words_in_bounds = omega (arith, ap length (text_is (goal.at.put_list-requires c).After-list_sizes-sizes), long (goal.at.put_list-requires c).After-list_sizes-sizes, c.three_digits.ensures, c.if-out-three_digits.false);
+      out_room = omega (arith, ap length (text_is (goal.at.put_list-requires c).After-list_sizes-sizes), long (goal.at.put_list-requires c).After-list_sizes-sizes, c.three_digits.ensures, c.if-out-three_digits.false);
     }
 
 pub returns : goal.returns

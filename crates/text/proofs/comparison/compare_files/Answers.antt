@@ -31,10 +31,10 @@ pub compare_pair-requires : goal.compare_pair-requires
 compare_pair-requires c =
     let g = good (goal.at.compare_pair-requires c).In-Cascades in
     record {
-      file_words = g.ready.0.words;
-      file_words_2 = g.ready.1.words;
-      miter_words_in_bounds = c.requires.miter_words_in_bounds;
-      max_list_in_bounds = c.requires.max_list_in_bounds;
+      first_words = g.ready.0.words;
+      second_words = g.ready.1.words;
+      miter_room = c.requires.miter_room;
+      clause_room = c.requires.clause_room;
     }
 
 pub returns-in-Refused : goal.returns-in-Refused

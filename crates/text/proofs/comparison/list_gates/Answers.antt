@@ -12,7 +12,7 @@ returns-then-totals c =
 
 pub returns-in-Refused : goal.returns-in-Refused
 returns-in-Refused c =
-    list_refused _ _ c.requires.miter_cascade c.in-Refused.why _ (length c.args.clauses.now) c.requires.max_list_in_bounds (sym c.emit.ensures.answer ∙ ap of_emit c.in-Refused.is)
+    list_refused _ _ c.requires.miter_cascade c.in-Refused.why _ (length c.args.clauses.now) c.requires.clause_room (sym c.emit.ensures.answer ∙ ap of_emit c.in-Refused.is)
 
 pub returns-else-totals : goal.returns-else-totals
 returns-else-totals c =

@@ -15,7 +15,7 @@ use Rattle.text.proofs.comparison.reduce_miter.Goals.{In-Gates}
 -- the miter was made
 made : (c : In-Gates) → Mitered c.args.n c.args.a.now c.args.n c.args.b.now c.miter.new.out c.in-Gates.gates
 made c =
-    mitered _ _ _ _ c.requires.file_words c.requires.file_words_2 (length c.args.room.now) c.requires.miter_words_in_bounds c.in-Gates.gates c.miter.new.out _ refl (sym c.miter.ensures.answer ∙ ap of_count c.in-Gates.is) c.miter.ensures.buffer (omega (arith, c.requires.miter_words_in_bounds, c.miter.auto.out))
+    mitered _ _ _ _ c.requires.first_words c.requires.second_words (length c.args.room.now) c.requires.miter_room c.in-Gates.gates c.miter.new.out _ refl (sym c.miter.ensures.answer ∙ ap of_count c.in-Gates.is) c.miter.ensures.buffer (omega (arith, c.requires.miter_room, c.miter.auto.out))
 
 pub reduce_gates-requires : goal.reduce_gates-requires
 reduce_gates-requires c = let g = made (goal.at.reduce_gates-requires c).In-Gates in record { inside = g.inside; cascade = g.cascade }
@@ -27,4 +27,4 @@ returns-in-Gates c =
 
 pub returns-in-Refused : goal.returns-in-Refused
 returns-in-Refused c =
-    absurd (never (miter_made _ _ _ _ c.requires.file_words c.requires.file_words_2 (length c.args.room.now) c.requires.miter_words_in_bounds refl) (sym c.miter.ensures.answer ∙ ap of_count c.in-Refused.is))
+    absurd (never (miter_made _ _ _ _ c.requires.first_words c.requires.second_words (length c.args.room.now) c.requires.miter_room refl) (sym c.miter.ensures.answer ∙ ap of_count c.in-Refused.is))

@@ -11,13 +11,13 @@ use Rattle.text.proofs.comparison.sweep.Goals as goal
 
 pub returns-in-State : goal.returns-in-State
 returns-in-State c =
-    swept_as_lem _ _ _ c.requires.file_words c.requires.file_words_2 c.requires.n_le_max_sweep_lines _ (lowest c.in-State.state) _ (ap of_difference c.in-State.is) c.first_difference.ensures.answer
-    (λ clauses. record { is = ap₂ (λ (y z : ℕ). answered (differ_on c.in-State.state y z)) (c.run_tested.ensures ∙ tested_run _ (valid_all_more _ max_lines _ c.requires.file_words.cascade.lines_high c.requires.file_words.cascade.gates) c.in-State.state) (c.run_tested-in-State.ensures ∙ tested_run _ (valid_all_more _ max_lines _ c.requires.file_words_2.cascade.lines_high c.requires.file_words_2.cascade.gates) c.in-State.state); ready = tt })
+    swept_as_lem _ _ _ c.requires.first_words c.requires.second_words c.requires.few_lines _ (lowest c.in-State.state) _ (ap of_difference c.in-State.is) c.first_difference.ensures.answer
+    (λ clauses. record { is = ap₂ (λ (y z : ℕ). answered (differ_on c.in-State.state y z)) (c.run_tested.ensures ∙ tested_run _ (valid_all_more _ max_lines _ c.requires.first_words.cascade.lines_high c.requires.first_words.cascade.gates) c.in-State.state) (c.run_tested-in-State.ensures ∙ tested_run _ (valid_all_more _ max_lines _ c.requires.second_words.cascade.lines_high c.requires.second_words.cascade.gates) c.in-State.state); ready = tt })
 
 pub returns-in-Nothing : goal.returns-in-Nothing
 returns-in-Nothing c =
-    swept_as_lem _ _ _ c.requires.file_words c.requires.file_words_2 c.requires.n_le_max_sweep_lines _ none _ (ap of_difference c.in-Nothing.is) c.first_difference.ensures.answer (λ clauses. record { is = refl; ready = tt })
+    swept_as_lem _ _ _ c.requires.first_words c.requires.second_words c.requires.few_lines _ none _ (ap of_difference c.in-Nothing.is) c.first_difference.ensures.answer (λ clauses. record { is = refl; ready = tt })
 
 pub returns-in-Refused : goal.returns-in-Refused
 returns-in-Refused c =
-    never_refused _ _ _ c.requires.file_words c.requires.file_words_2 c.requires.n_le_max_sweep_lines _ _ _ (ap of_difference c.in-Refused.is) c.first_difference.ensures.answer
+    never_refused _ _ _ c.requires.first_words c.requires.second_words c.requires.few_lines _ _ _ (ap of_difference c.in-Refused.is) c.first_difference.ensures.answer

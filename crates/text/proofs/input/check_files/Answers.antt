@@ -30,8 +30,8 @@ slice_bounds-check_pair-end-in-Cascades-3 c = sym (length-take-le _ _ (good (goa
 pub check_pair-requires : goal.check_pair-requires
 check_pair-requires c = let g = (good (goal.at.check_pair-requires c).In-Cascades).ready in
     record {
-      file_words = g.0.words;
-      file_words_2 = g.1.words;
+      first_words = g.0.words;
+      second_words = g.1.words;
     }
 
 pub returns-in-Refused : goal.returns-in-Refused

@@ -11,13 +11,13 @@ use Rattle.text.proofs.FileOutcome.{why_at}
 use Rattle.text.proofs.input.check_pair.Goals as goal
 
 pub read_state-requires : goal.read_state-requires
-read_state-requires c = c.requires.file_words.cascade.lines_high
+read_state-requires c = c.requires.first_words.cascade.lines_high
 
 pub returns-in-State : goal.returns-in-State
 returns-in-State c =
     record {
-      is = ap₂ (λ (x y : ℕ). answered (outputs c.args.n x y)) (c.run_tested.ensures ∙ tested_run _ (valid_all_more _ max_lines _ c.requires.file_words.cascade.lines_high c.requires.file_words.cascade.gates) _) (c.run_tested-in-State.ensures ∙ tested_run _ (valid_all_more _ max_lines _ c.requires.file_words_2.cascade.lines_high c.requires.file_words_2.cascade.gates) _) ∙ ap (checked_on c.args.n (gates_of c.args.a.now) (gates_of c.args.b.now)) (sym (ap of_state c.in-State.is) ∙ c.read_state.ensures);
-      ready = c.requires.file_words.cascade.lines_high;
+      is = ap₂ (λ (x y : ℕ). answered (outputs c.args.n x y)) (c.run_tested.ensures ∙ tested_run _ (valid_all_more _ max_lines _ c.requires.first_words.cascade.lines_high c.requires.first_words.cascade.gates) _) (c.run_tested-in-State.ensures ∙ tested_run _ (valid_all_more _ max_lines _ c.requires.second_words.cascade.lines_high c.requires.second_words.cascade.gates) _) ∙ ap (checked_on c.args.n (gates_of c.args.a.now) (gates_of c.args.b.now)) (sym (ap of_state c.in-State.is) ∙ c.read_state.ensures);
+      ready = c.requires.first_words.cascade.lines_high;
     }
 
 pub returns-in-Nothing : goal.returns-in-Nothing

@@ -44,8 +44,8 @@ slice_bounds-list_second-start c = let h = (whole (goal.at.slice_bounds-list_sec
 pub list_second-requires : goal.list_second-requires
 list_second-requires c =
     record {
-      file_words = (whole (goal.at.list_second-requires c).In-Cascade).words;
-      clauses_len = c.requires;
+      first_words = (whole (goal.at.list_second-requires c).In-Cascade).words;
+      clause_room = c.requires;
     }
 
 pub returns-in-Refused : goal.returns-in-Refused

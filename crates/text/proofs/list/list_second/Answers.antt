@@ -26,9 +26,9 @@ pub list_pair-requires : goal.list_pair-requires
 list_pair-requires c =
     let g = good (goal.at.list_pair-requires c).In-Cascade in
     record {
-      file_words = c.requires.file_words;
-      file_words_2 = g.ready.words;
-      clauses_len = c.requires.clauses_len;
+      first_words = c.requires.first_words;
+      second_words = g.ready.words;
+      clause_room = c.requires.clause_room;
     }
 
 pub returns-in-Refused : goal.returns-in-Refused

@@ -15,7 +15,7 @@ read_second-requires c =
     let w = told_whole _ _ _ _ _ c.read_whole.ensures c.in-Cascade.is in
     record {
       in_room = w.ready;
-      file_words_in_bounds = c.requires.file_words_in_bounds_2;
+      second_room = c.requires.second_room;
     }
 
 pub returns-in-Refused : goal.returns-in-Refused

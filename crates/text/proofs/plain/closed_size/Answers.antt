@@ -6,7 +6,7 @@ use borrow.Author.Rules.{rules, sfits_of}
 use Rattle.text.proofs.plain.closed_size.Goals as goal
 
 pub loop-i-init : goal.loop-i-init
-loop-i-init c = closing_start _ c.requires.literals_len_bound c.requires.literals_within
+loop-i-init c = closing_start _ c.requires.few_literals c.requires.literals_within
 
 pub offset_bounds-literals-i : goal.offset_bounds-literals-i
 offset_bounds-literals-i c = search rules

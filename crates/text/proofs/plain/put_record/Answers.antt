@@ -29,8 +29,8 @@ put_pair-requires c =
     let t = two_literals c.args.kind c.args.literals.now c.requires.plainable (xor_kind c.args.kind c.ranges.kind c.if-kind-eq1.true) c.if-literals-eq2.true in
     let e = ap (λ (cs : List Clause). length (clauses_text cs)) (two_passed c.args.kind c.args.literals.now t) in
     record {
-      a_bound = (small_size (at_place c.args.literals.now 0) t.first, small_size (at_place c.args.literals.now 1) t.second);
-      b_in_bounds = search rules;
+      literals_fit = (small_size (at_place c.args.literals.now 0) t.first, small_size (at_place c.args.literals.now 1) t.second);
+      out_room = search rules;
     }
 
 pub returns-then-literals-eq2 : goal.returns-then-literals-eq2
@@ -50,8 +50,8 @@ put_triple-requires c =
     let t = three_literals c.args.kind c.args.literals.now c.requires.plainable (xor_kind c.args.kind c.ranges.kind c.if-kind-eq1.true) c.if-literals-eq2.false in
     let e = ap (λ (cs : List Clause). length (clauses_text cs)) (three_passed c.args.kind c.args.literals.now t) in
     record {
-      a_bound = (small_size (at_place c.args.literals.now 0) t.first, small_size (at_place c.args.literals.now 1) t.second, small_size (at_place c.args.literals.now 2) t.third);
-      c_in_bounds = search rules;
+      literals_fit = (small_size (at_place c.args.literals.now 0) t.first, small_size (at_place c.args.literals.now 1) t.second, small_size (at_place c.args.literals.now 2) t.third);
+      out_room = search rules;
     }
 
 pub returns-then-kind-eq1 : goal.returns-then-kind-eq1

@@ -30,7 +30,7 @@ first s = ap₂ (λ (x y : ℤ). both_ors x y (to_z word_width (of_z word_width 
 
 second : (c : After-negated-2) → let s = c.before.before.before.before.before.before.before.before in both_ors (to_z word_width (of_z word_width c.negated.result)) (to_z word_width (of_z word_width s.args.b)) (to_z word_width (of_z word_width c.negated-2.result)) ≡ both_ors (neg_ℤ s.args.a) s.args.b (neg_ℤ s.args.c)
 second c =
-    ap₂ (λ (x y : ℤ). both_ors x y (to_z word_width (of_z word_width c.negated-2.result))) (passed_opposite c.args.a _ c.ranges.a c.requires.a_bound.0 c.negated.ensures) (word_is c.args.b c.ranges.b) ∙ ap (both_ors (neg_ℤ c.args.a) c.args.b) (passed_opposite c.args.c _ c.ranges.c c.requires.a_bound.2 c.negated-2.ensures)
+    ap₂ (λ (x y : ℤ). both_ors x y (to_z word_width (of_z word_width c.negated-2.result))) (passed_opposite c.args.a _ c.ranges.a c.requires.literals_fit.0 c.negated.ensures) (word_is c.args.b c.ranges.b) ∙ ap (both_ors (neg_ℤ c.args.a) c.args.b) (passed_opposite c.args.c _ c.ranges.c c.requires.literals_fit.2 c.negated-2.ensures)
 
 halves : (s : Start) → length (clauses_text (plain_clause (XOR (s.args.a ∷ s.args.b ∷ s.args.c ∷ [])))) ≡ length (clauses_text (both_ors s.args.a s.args.b s.args.c)) + length (clauses_text (both_ors (neg_ℤ s.args.a) s.args.b (neg_ℤ s.args.c)))
 halves s = ap (λ (cs : List Clause). length (clauses_text cs)) (triple_parts s.args.a s.args.b s.args.c) ∙ clauses_long (both_ors s.args.a s.args.b s.args.c) (both_ors (neg_ℤ s.args.a) s.args.b (neg_ℤ s.args.c))
@@ -40,8 +40,8 @@ put_both-at-requires c =
     let e = ap (λ (cs : List Clause). length (clauses_text cs)) (first (goal.at.put_both-at-requires c).Start) in
     let l = halves (goal.at.put_both-at-requires c).Start in
     record {
-      b_bound = (small_passed c.args.b c.ranges.b c.requires.a_bound.1, small_passed c.args.c c.ranges.c c.requires.a_bound.2);
-      c_in_bounds = search rules;
+      literals_fit = (small_passed c.args.b c.ranges.b c.requires.literals_fit.1, small_passed c.args.c c.ranges.c c.requires.literals_fit.2);
+      out_room = search rules;
     }
 
 pub slice_bounds-put_both-count-2 : goal.slice_bounds-put_both-count-2
@@ -62,8 +62,8 @@ put_both-requires c =
     let f = ap (λ (cs : List Clause). length (clauses_text cs)) (second c) in
     let l = halves (goal.at.put_both-requires c).Start in
     record {
-      b_bound = (small_passed c.args.b c.ranges.b c.requires.a_bound.1, omega (arith, ap variable_of (passed_opposite c.args.c _ c.ranges.c c.requires.a_bound.2 c.negated-2.ensures), neg_size c.args.c, c.requires.a_bound.2));
-      c_in_bounds = search rules;
+      literals_fit = (small_passed c.args.b c.ranges.b c.requires.literals_fit.1, omega (arith, ap variable_of (passed_opposite c.args.c _ c.ranges.c c.requires.literals_fit.2 c.negated-2.ensures), neg_size c.args.c, c.requires.literals_fit.2));
+      out_room = search rules;
     }
 
 pub overflow_add-result : goal.overflow_add-result
@@ -76,4 +76,4 @@ overflow_add-result c =
 pub returns : goal.returns
 returns c =
     put_as _ _ _ _ _ (ap clauses_text (sym (triple_parts c.args.a c.args.b c.args.c)))
-    (halves_put (both_ors c.args.a c.args.b c.args.c) (both_ors (neg_ℤ c.args.a) c.args.b (neg_ℤ c.args.c)) c.args.out.now _ _ _ (ap clauses_text (first (goal.at.returns c).Start)) c.put_both-at.ensures c.put_both-at.auto.out _ _ _ (ap clauses_text (second (goal.at.returns c).After-negated-2)) (omega (arith, halves (goal.at.returns c).Start, clauses_long (both_ors c.args.a c.args.b c.args.c) (both_ors (neg_ℤ c.args.a) c.args.b (neg_ℤ c.args.c)), c.requires.c_in_bounds)) c.put_both.ensures c.put_both.auto.out)
+    (halves_put (both_ors c.args.a c.args.b c.args.c) (both_ors (neg_ℤ c.args.a) c.args.b (neg_ℤ c.args.c)) c.args.out.now _ _ _ (ap clauses_text (first (goal.at.returns c).Start)) c.put_both-at.ensures c.put_both-at.auto.out _ _ _ (ap clauses_text (second (goal.at.returns c).After-negated-2)) (omega (arith, halves (goal.at.returns c).Start, clauses_long (both_ors c.args.a c.args.b c.args.c) (both_ors (neg_ℤ c.args.a) c.args.b (neg_ℤ c.args.c)), c.requires.out_room)) c.put_both.ensures c.put_both.auto.out)

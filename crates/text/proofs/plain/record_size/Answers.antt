@@ -65,7 +65,7 @@ returns-then-kind-eq1 c =
 pub closed_size-requires : goal.closed_size-requires
 closed_size-requires c =
     record {
-      literals_len_bound = c.requires.few;
+      few_literals = c.requires.few;
       literals_within = c.requires.within;
     }
 

@@ -43,7 +43,7 @@ put_list-requires c =
     let w = listed (goal.at.put_list-requires c).In-Listed in
     record {
       stores_list = w.stores;
-      words_in_bounds = omega (arith, ap length w.text, text_fits c.args.input.now, c.requires);
+      out_room = omega (arith, ap length w.text, text_fits c.args.input.now, c.requires);
     }
 
 pub returns-in-Refused : goal.returns-in-Refused

@@ -23,7 +23,7 @@ counted c h =
     ∙ ap variable_of (word_is _ (sfits_of c.magnitude-arg-1.given) ∙ left_count _ _ c.loop-i.invariant.left h)
 
 pub loop-i-init : goal.loop-i-init
-loop-i-init c = listing_start _ _ _ c.requires.stores_list c.requires.words_in_bounds
+loop-i-init c = listing_start _ _ _ c.requires.stores_list c.requires.out_room
 
 pub overflow_add-from : goal.overflow_add-from
 overflow_add-from c = let l = left_inside _ _ c.loop-i.invariant.left (more c) in search rules
@@ -63,7 +63,7 @@ put_formed-at-requires c =
     let h = listing_at _ _ _ _ _ _ c.loop-i.invariant in
     record {
       plainable = left_plainable _ _ c.loop-i.invariant.left (more (goal.at.put_formed-at-requires c).In-loop-i) _ (counted (goal.at.put_formed-at-requires c).After-magnitude (more (goal.at.put_formed-at-requires c).In-loop-i)) _ _ (word_is _ (sfits_of c.put_formed-arg-in-loop-i-1.given)) refl;
-      literals_in_bounds = omega (arith, listing_room _ _ _ _ _ _ c.loop-i.invariant (more (goal.at.put_formed-at-requires c).In-loop-i) _ (counted (goal.at.put_formed-at-requires c).After-magnitude (more (goal.at.put_formed-at-requires c).In-loop-i)) _ _ (word_is _ (sfits_of c.put_formed-arg-in-loop-i-1.given)) refl, rest_length c.loop-i.out c.loop-i.at h);
+      out_room = omega (arith, listing_room _ _ _ _ _ _ c.loop-i.invariant (more (goal.at.put_formed-at-requires c).In-loop-i) _ (counted (goal.at.put_formed-at-requires c).After-magnitude (more (goal.at.put_formed-at-requires c).In-loop-i)) _ _ (word_is _ (sfits_of c.put_formed-arg-in-loop-i-1.given)) refl, rest_length c.loop-i.out c.loop-i.at h);
     }
 
 pub overflow_add-at : goal.overflow_add-at

@@ -16,7 +16,7 @@ put_record-requires c =
     let f = ap (λ (z : ℤ). length (formed_text true z c.args.literals.now)) w in
     record {
       plainable = subst (λ (z : ℤ). Plainable z c.args.literals.now) (sym w) c.requires.plainable;
-      literals_in_bounds = omega (arith, c.requires.literals_in_bounds, e, f);
+      out_room = omega (arith, c.requires.out_room, e, f);
     }
 
 pub returns-then-plain : goal.returns-then-plain
@@ -31,7 +31,7 @@ put_clause-requires c =
     let w = word_is c.args.kind c.ranges.kind in
     let e = ap (λ (b : Bool). length (formed_text b c.args.kind c.args.literals.now)) c.if-plain.false in
     let f = ap (λ (z : ℤ). length (formed_text false z c.args.literals.now)) w in
-    omega (arith, c.requires.literals_in_bounds, e, f)
+    omega (arith, c.requires.out_room, e, f)
 
 pub returns : goal.returns
 returns c =

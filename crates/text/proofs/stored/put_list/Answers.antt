@@ -27,7 +27,7 @@ put_clauses-requires c =
     let e = length-append (header_text c.args.variables c.args.clauses) (stored_text c.args.plain c.args.words.now) in
     record {
       stores_list = c.requires.stores_list;
-      words_in_bounds = search rules;
+      out_room = search rules;
     }
 
 pub overflow_add-result : goal.overflow_add-result

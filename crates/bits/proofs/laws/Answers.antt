@@ -1,11 +1,10 @@
 -- `bits::laws` meets its contract: the record of the laws. Assumes nothing.
 use Rattle.bits.proofs.Digits.{bit-and, bit-or, bit-xor, bit_pow, bit_sum, bits_equal, bit_above, below_of_bits, lines_ones, ones_both}
 use Rattle.bits.proofs.Lowest.{lines_lowest}
-use mathlib.Core.Path.{sym}
-use Rattle.bits.proofs.laws.Statement.{statement}
-use Rattle.bits.proofs.laws.Tie as tie
+use Rattle.std.proofs.Common.{sym}
+use Rattle.bits.proofs.laws.Goals as goal
 
-returns : tie.Need-returns
+pub returns : goal.returns
 returns c =
     record {
       bit-and = bit-and;
@@ -19,6 +18,3 @@ returns c =
       ones_both = ones_both;
       lines_lowest = lines_lowest;
     }
-
-pub laws_spec : {M : Type 1} → statement M
-laws_spec = tie.close (tie.spec returns)
