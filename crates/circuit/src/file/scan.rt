@@ -13,6 +13,9 @@ const TAB: u64 = 9;
 
 const LINE_FEED: u64 = 10;
 
+// The byte that ends the header's line.
+const HEADER_END: u8 = 10;
+
 // What no number field has.
 const NO_NUMBER: u64 = 100;
 
@@ -337,7 +340,7 @@ pub(crate) fn header(text: &[u8]) -> HeaderAnswer
     if text.len() <= at {
         return HeaderAnswer::Refused(Refusal::wrong_form(0));
     }
-    if text[at] != 10 {
+    if text[at] != HEADER_END {
         return HeaderAnswer::Refused(Refusal::wrong_form(0));
     }
     HeaderAnswer::Lines {

@@ -1,6 +1,5 @@
 -- `checking::clauses::cascade_totals` meets its contract. Assumes nothing.
 use Rattle.std.proofs.Common.{◌≡◌, true, sym, ap, ◌∙◌}
-use borrow.Author.Tests.{not-true, not-false}
 use Rattle.circuit.specs.Gate.{max_miter_gates}
 use Rattle.circuit.specs.Outcome.{served}
 use Rattle.circuit.specs.Words.{of_count, line_count_good, size_outcome}
@@ -11,14 +10,14 @@ use Rattle.checking.proofs.clauses.cascade_totals.Goals.{In-Gates}
 
 -- the line count and the size are good
 lines : (c : In-Gates) → line_count_good c.args.n ≡ true
-lines c = sym c.line_count_good.ensures ∙ not-false _ c.if-not-line_count_good.false-raw
+lines c = sym c.line_count_good.ensures ∙ c.if-not-line_count_good.false
 
 size : (c : In-Gates) → size_outcome c.args.words.now max_miter_gates ≡ served c.in-Gates.field-0
 size c = sym c.check_size.ensures ∙ ap of_count c.in-Gates.is
 
 pub returns-then-not-line_count_good : goal.returns-then-not-line_count_good
 returns-then-not-line_count_good c =
-    why c.bad_line_count.ensures ∙ sym (sizes_lines _ _ (sym c.line_count_good.ensures ∙ not-true _ c.if-not-line_count_good.true-raw))
+    why c.bad_line_count.ensures ∙ sym (sizes_lines _ _ (sym c.line_count_good.ensures ∙ c.if-not-line_count_good.true))
 
 pub list_sizes-requires : goal.list_sizes-requires
 list_sizes-requires c =
@@ -29,7 +28,7 @@ list_sizes-requires c =
 
 pub returns-in-Refused : goal.returns-in-Refused
 returns-in-Refused c =
-    sym (sizes_refused _ _ (sym c.line_count_good.ensures ∙ not-false _ c.if-not-line_count_good.false-raw) _ _ (sym c.check_size.ensures ∙ ap of_count c.in-Refused.is))
+    sym (sizes_refused _ _ (sym c.line_count_good.ensures ∙ c.if-not-line_count_good.false) _ _ (sym c.check_size.ensures ∙ ap of_count c.in-Refused.is))
 
 pub returns-in-Gates : goal.returns-in-Gates
 returns-in-Gates c = c.list_sizes.ensures ∙ sym (sizes_tested _ _ (lines (goal.at.returns-in-Gates c).In-Gates) _ (size (goal.at.returns-in-Gates c).In-Gates))

@@ -1,6 +1,5 @@
 -- `checking::clauses::list_sizes` meets its contract.
 use Rattle.std.proofs.Common.{◌≡◌, ℕ, ◌+◌, ◌/◌, ◌≤◌, true, length, sym, ap, ◌∙◌, subst, arith}
-use borrow.Author.Tests.{not-true, not-false}
 use Rattle.circuit.specs.Gate.{max_lines, valid}
 use Rattle.circuit.specs.Outcome.{served}
 use Rattle.circuit.proofs.Promises.{why, then_refused, valid_facts, next_bad}
@@ -15,15 +14,15 @@ pub returns-then-not-valid : goal.returns-then-not-valid
 returns-then-not-valid c =
     why c.no_gate.ensures
     ∙ sym (then_refused _ _ _ _
-    (c.loop-i.invariant.tested ∙ next_bad _ _ _ _ (omega arith) c.gate_at-g.ensures (sym c.valid.ensures ∙ not-true _ c.if-not-valid.true-raw)))
+    (c.loop-i.invariant.tested ∙ next_bad _ _ _ _ (omega arith) c.gate_at-g.ensures (sym c.valid.ensures ∙ c.if-not-valid.true)))
 
 -- the gate of this turn is valid, and so has at most 64 controls
 good : (c : Else-not-valid) → valid c.args.n c.gate_at-g.result ≡ true
-good c = sym c.valid.ensures ∙ not-false _ c.if-not-valid.false-raw
+good c = sym c.valid.ensures ∙ c.if-not-valid.false
 
 few : (c : After-control_count-k) → c.control_count-k.result ≤ max_lines
 few c =
-    let good : valid c.args.n c.gate_at-g.result ≡ true = sym c.valid.ensures ∙ not-false _ c.if-not-valid.false-raw in
+    let good : valid c.args.n c.gate_at-g.result ≡ true = sym c.valid.ensures ∙ c.if-not-valid.false in
     subst (λ (k : ℕ). k ≤ max_lines) (sym c.control_count-k.ensures) (controls_few _ c.gate_at-g.result c.requires.few_lines (good))
 
 pub overflow_add-variables : goal.overflow_add-variables

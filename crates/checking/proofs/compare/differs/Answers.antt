@@ -1,6 +1,5 @@
 -- `checking::compare::differs` meets its contract. Assumes nothing.
 use Rattle.std.proofs.Common.{sym, ap, ◌∙◌}
-use borrow.Author.Tests.{not-true, not-false}
 use Rattle.circuit.specs.Words.{of_pair}
 use Rattle.circuit.proofs.Promises.{why}
 use Rattle.checking.proofs.lemmas.compare.Laws.{pair_gates, differs_refused, differs_outside, differs_made}
@@ -10,7 +9,7 @@ pub returns-then-not-below : goal.returns-then-not-below
 returns-then-not-below c =
     why c.bad_state.ensures
     ∙ sym (differs_outside _ _ _ _ _ (sym c.check_pair.ensures ∙ ap of_pair c.in-Gates.is) _
-    (sym c.below.ensures ∙ not-true _ c.if-not-below.true-raw))
+    (sym c.below.ensures ∙ c.if-not-below.true))
 
 pub outputs_differ-requires : goal.outputs_differ-requires
 outputs_differ-requires c =
@@ -20,7 +19,7 @@ outputs_differ-requires c =
 pub returns-then-outputs_differ : goal.returns-then-outputs_differ
 returns-then-outputs_differ c =
     sym (differs_made _ _ _ _ _ (sym c.check_pair.ensures ∙ ap of_pair c.in-Gates.is) _ _
-    (sym c.below.ensures ∙ not-false _ c.if-not-below.false-raw) (sym c.outputs_differ.ensures ∙ c.if-outputs_differ.true))
+    (sym c.below.ensures ∙ c.if-not-below.false) (sym c.outputs_differ.ensures ∙ c.if-outputs_differ.true))
 
 pub returns-in-Refused : goal.returns-in-Refused
 returns-in-Refused c = sym (differs_refused _ _ _ _ _ _ _ (sym c.check_pair.ensures ∙ ap of_pair c.in-Refused.is))
@@ -28,4 +27,4 @@ returns-in-Refused c = sym (differs_refused _ _ _ _ _ _ _ (sym c.check_pair.ensu
 pub returns-else-outputs_differ : goal.returns-else-outputs_differ
 returns-else-outputs_differ c =
     sym (differs_made _ _ _ _ _ (sym c.check_pair.ensures ∙ ap of_pair c.in-Gates.is) _ _
-    (sym c.below.ensures ∙ not-false _ c.if-not-below.false-raw) (sym c.outputs_differ.ensures ∙ c.if-outputs_differ.false))
+    (sym c.below.ensures ∙ c.if-not-below.false) (sym c.outputs_differ.ensures ∙ c.if-outputs_differ.false))

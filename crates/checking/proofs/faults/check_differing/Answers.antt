@@ -1,6 +1,5 @@
 -- `checking::faults::check_differing` meets its contract.
 use Rattle.std.proofs.Common.{sym, ◌∙◌, arith}
-use borrow.Author.Tests.{not-true, not-false}
 use Rattle.circuit.specs.Refusal.{agreeing_state}
 use Rattle.circuit.proofs.Promises.{why}
 use Rattle.checking.proofs.lemmas.faults.Loops.{none_passed, each_next, each_fails, each_end}
@@ -18,11 +17,11 @@ outputs_differ-requires c =
 
 pub returns-then-not-outputs_differ : goal.returns-then-not-outputs_differ
 returns-then-not-outputs_differ c =
-    why c.agreeing_state.ensures ∙ sym (each_fails _ agreeing_state _ _ c.loop-i.invariant (omega arith) (sym c.outputs_differ.ensures ∙ not-true _ c.if-not-outputs_differ.true-raw))
+    why c.agreeing_state.ensures ∙ sym (each_fails _ agreeing_state _ _ c.loop-i.invariant (omega arith) (sym c.outputs_differ.ensures ∙ c.if-not-outputs_differ.true))
 
 pub loop-i-preserved : goal.loop-i-preserved
 loop-i-preserved c =
-    each_next _ agreeing_state _ _ c.loop-i.invariant (omega arith) (sym c.outputs_differ.ensures ∙ not-false _ c.if-not-outputs_differ.false-raw)
+    each_next _ agreeing_state _ _ c.loop-i.invariant (omega arith) (sym c.outputs_differ.ensures ∙ c.if-not-outputs_differ.false)
 
 pub returns : goal.returns
 returns c = sym (each_end _ agreeing_state _ _ c.loop-i.invariant (omega arith))

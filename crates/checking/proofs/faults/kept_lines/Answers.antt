@@ -1,7 +1,6 @@
 -- `checking::faults::kept_lines` meets its contract. Assumes nothing.
 use Rattle.std.proofs.Common.{◌≡◌, ◌-◌, ◌^◌, Bool, cond, sym, ap, ◌∙◌, eq-eqb, ne_eqb}
 use lib.Bits.{bit_xor}
-use borrow.Author.Tests.{not-true, not-false}
 use Rattle.circuit.specs.Gate.{max_lines}
 use Rattle.circuit.proofs.Promises.{missed_none}
 use Rattle.checking.specs.Faults.{missing_control}
@@ -22,7 +21,7 @@ left m z b e =
     ∙ kept_fired m.args.positive m.args.g m.args.state m.ranges.state.fits (sym (missed_none _ _ m.requires) ∙ eq-eqb _ _ (sym m.missed.ensures ∙ z))
 
 pub returns-then-not-positive : goal.returns-then-not-positive
-returns-then-not-positive c = left (goal.at.returns-then-not-positive c).After-missed c.if-missed-ne0.false _ (not-true _ c.if-not-positive.true-raw)
+returns-then-not-positive c = left (goal.at.returns-then-not-positive c).After-missed c.if-missed-ne0.false _ (c.if-not-positive.true)
 
 pub returns : goal.returns
-returns c = left (goal.at.returns c).After-missed c.if-missed-ne0.false _ (not-false _ c.if-not-positive.false-raw)
+returns c = left (goal.at.returns c).After-missed c.if-missed-ne0.false _ (c.if-not-positive.false)

@@ -1,6 +1,5 @@
 -- `checking::step::scan_after` meets its contract.
 use Rattle.std.proofs.Common.{◌≡◌, ℕ, ◌+◌, ◌*◌, drop, sym, ap, ◌∙◌, arith}
-use borrow.Author.Tests.{not-true, not-false}
 use Rattle.circuit.specs.declared.gate.Gate.{Gate}
 use Rattle.circuit.specs.Words.{gates_of}
 use Rattle.checking.specs.Step.{Scan, scan_from}
@@ -32,7 +31,7 @@ pub returns-then-not-may_pass : goal.returns-then-not-may_pass
 returns-then-not-may_pass c =
     found c.args.i (c.loop-j.invariant.2
     ∙ words_stop _ _ _ _ c.loop-j-test.true c.gate_at-h.ensures (sym c.match_gates.ensures ∙ ap of_verdict c.in-Apart.is)
-    (sym c.may_pass.ensures ∙ not-true _ c.if-not-may_pass.true-raw))
+    (sym c.may_pass.ensures ∙ c.if-not-may_pass.true))
 
 pub loop-j-preserved : goal.loop-j-preserved
 loop-j-preserved c = (
@@ -40,7 +39,7 @@ loop-j-preserved c = (
   omega arith,
   c.loop-j.invariant.2
       ∙ words_on _ _ _ _ c.loop-j-test.true c.gate_at-h.ensures (sym c.match_gates.ensures ∙ ap of_verdict c.in-Apart.is)
-      (sym c.may_pass.ensures ∙ not-false _ c.if-not-may_pass.false-raw),
+      (sym c.may_pass.ensures ∙ c.if-not-may_pass.false),
 )
 
 pub returns : goal.returns

@@ -1,6 +1,5 @@
 -- `circuit::run::run_gates` meets its contract.
 use Rattle.std.proofs.Common.{sym, refl, ap, ◌∙◌, arith}
-use borrow.Author.Tests.{not-true, not-false}
 use Rattle.circuit.specs.Gate.{apply}
 use Rattle.circuit.specs.Outcome.{served}
 use Rattle.circuit.specs.Run.{run}
@@ -18,11 +17,11 @@ pub returns-then-not-valid : goal.returns-then-not-valid
 returns-then-not-valid c =
     why c.no_gate.ensures
     ∙ sym (then_refused _ _ _ _
-    (c.loop-i.invariant.1 ∙ next_bad _ _ _ _ (omega arith) c.gate_at-g.ensures (sym c.valid.ensures ∙ not-true _ c.if-not-valid.true-raw)))
+    (c.loop-i.invariant.1 ∙ next_bad _ _ _ _ (omega arith) c.gate_at-g.ensures (sym c.valid.ensures ∙ c.if-not-valid.true)))
 
 pub loop-i-preserved : goal.loop-i-preserved
 loop-i-preserved c =
-    let good = sym c.valid.ensures ∙ not-false _ c.if-not-valid.false-raw in (
+    let good = sym c.valid.ensures ∙ c.if-not-valid.false in (
       omega arith,
       c.loop-i.invariant.1 ∙ next_good _ _ _ _ (omega arith) c.gate_at-g.ensures good,
       c.loop-i.invariant.2

@@ -1,6 +1,5 @@
 -- `circuit::words::check_each` meets its contract.
 use Rattle.std.proofs.Common.{◌≡◌, ◌/◌, length, sym, refl, ap, ◌∙◌, arith}
-use borrow.Author.Tests.{not-true, not-false}
 use Rattle.circuit.specs.Outcome.{served}
 use Rattle.circuit.proofs.lemmas.Outcome.{why}
 use Rattle.circuit.proofs.lemmas.words.Tests.{next_good, next_bad, none_left}
@@ -12,11 +11,11 @@ loop-i-init c = (omega arith, refl)
 pub returns-then-not-valid : goal.returns-then-not-valid
 returns-then-not-valid c =
     why c.no_gate.ensures
-    ∙ sym (c.loop-i.invariant.1 ∙ next_bad _ _ _ _ (omega arith) c.gate_at-g.ensures (sym c.valid.ensures ∙ not-true _ c.if-not-valid.true-raw))
+    ∙ sym (c.loop-i.invariant.1 ∙ next_bad _ _ _ _ (omega arith) c.gate_at-g.ensures (sym c.valid.ensures ∙ c.if-not-valid.true))
 
 pub loop-i-preserved : goal.loop-i-preserved
 loop-i-preserved c =
-    (omega arith, c.loop-i.invariant.1 ∙ next_good _ _ _ _ (omega arith) c.gate_at-g.ensures (sym c.valid.ensures ∙ not-false _ c.if-not-valid.false-raw))
+    (omega arith, c.loop-i.invariant.1 ∙ next_good _ _ _ _ (omega arith) c.gate_at-g.ensures (sym c.valid.ensures ∙ c.if-not-valid.false))
 
 pub returns : goal.returns
 returns c =

@@ -1,6 +1,5 @@
 -- `circuit::file::scan::control` meets its contract. Assumes nothing.
 use Rattle.std.proofs.Common.{◌≡◌, ℕ, ◌+◌, true, ◌||◌, eqb, List, get_or, drop, sym, ap, ◌∙◌, subst, arith, length-drop, drop-drop}
-use borrow.Author.Tests.{not-true, not-false}
 use Rattle.circuit.specs.Text.{plus_sign, minus_sign}
 use Rattle.circuit.specs.File.{line_of}
 use Rattle.circuit.specs.Outcome.{served}
@@ -16,7 +15,7 @@ first c = c.byte-s.ensures ∙ byte_at c.args.text.now c.args.at
 signed : (c : Else-not-sign) → (eqb (get_or ((drop c.args.at c.args.text.now)) 0 10) plus_sign || eqb (get_or ((drop c.args.at c.args.text.now)) 0 10) minus_sign) ≡ true
 signed c =
     let first : c.byte-s.result ≡ get_or ((drop c.args.at c.args.text.now)) 0 10 = c.byte-s.ensures ∙ byte_at c.args.text.now c.args.at in
-    sym (ap (λ (b : ℕ). eqb b plus_sign || eqb b minus_sign) (first)) ∙ sym c.sign.ensures ∙ not-false _ c.if-not-sign.false-raw
+    sym (ap (λ (b : ℕ). eqb b plus_sign || eqb b minus_sign) (first)) ∙ sym c.sign.ensures ∙ c.if-not-sign.false
 
 -- the field after the sign
 later : (c : Else-not-sign)
@@ -29,7 +28,7 @@ later c =
 pub returns-then-not-sign : goal.returns-then-not-sign
 returns-then-not-sign c = (
   why c.wrong_form.ensures
-      ∙ sym (control_unsigned _ _ ((drop c.args.at c.args.text.now)) (sym (ap (λ (b : ℕ). eqb b plus_sign || eqb b minus_sign) (first (goal.at.returns-then-not-sign c).After-byte-s)) ∙ sym c.sign.ensures ∙ not-true _ c.if-not-sign.true-raw)),
+      ∙ sym (control_unsigned _ _ ((drop c.args.at c.args.text.now)) (sym (ap (λ (b : ℕ). eqb b plus_sign || eqb b minus_sign) (first (goal.at.returns-then-not-sign c).After-byte-s)) ∙ sym c.sign.ensures ∙ c.if-not-sign.true)),
   tt,
 )
 

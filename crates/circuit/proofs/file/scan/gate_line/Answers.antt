@@ -1,6 +1,5 @@
 -- `circuit::file::scan::gate_line` meets its contract. Assumes nothing.
 use Rattle.std.proofs.Common.{◌≡◌, ℕ, ◌+◌, true, List, [], ◌∷◌, length, drop, sym, ap, ◌∙◌, subst, arith, length-drop, drop-drop}
-use borrow.Author.Tests.{not-true, not-false}
 use Rattle.circuit.specs.File.{line_of}
 use Rattle.circuit.specs.Outcome.{served}
 use Rattle.circuit.specs.private.Scan.{field_at, starts_with, of_line, LineEnds}
@@ -11,7 +10,7 @@ use Rattle.circuit.proofs.file.scan.gate_line.Goals.{Else-not-starts, In-Line}
 
 -- the line starts `g` tab
 word : (e : Else-not-starts) → starts_with (103 ∷ 9 ∷ []) (drop e.args.start e.args.text.now) ≡ true
-word e = sym e.starts.ensures ∙ not-false _ e.if-not-starts.false-raw
+word e = sym e.starts.ensures ∙ e.if-not-starts.false
 
 -- the target that was read, the position after it, and the text from there on
 target : (c : In-Line)
@@ -41,7 +40,7 @@ after c =
 
 pub returns-then-not-starts : goal.returns-then-not-starts
 returns-then-not-starts c =
-    why c.wrong_form.ensures ∙ sym (gate_other _ _ _ _ _ (sym c.starts.ensures ∙ not-true _ c.if-not-starts.true-raw))
+    why c.wrong_form.ensures ∙ sym (gate_other _ _ _ _ _ (sym c.starts.ensures ∙ c.if-not-starts.true))
 
 pub returns-then-gates-ge-MAX_GATES : goal.returns-then-gates-ge-MAX_GATES
 returns-then-gates-ge-MAX_GATES c =

@@ -1,6 +1,5 @@
 -- `circuit::file::scan::header` meets its contract. Assumes nothing.
 use Rattle.std.proofs.Common.{◌≡◌, ℕ, ◌+◌, true, [], ◌∷◌, get_or, sym, ap, ◌∙◌, arith}
-use borrow.Author.Tests.{not-true, not-false}
 use Rattle.circuit.specs.Outcome.{served}
 use Rattle.circuit.specs.Words.{line_count_good}
 use Rattle.circuit.specs.private.Scan.{starts_with, width}
@@ -12,10 +11,10 @@ use Rattle.circuit.proofs.file.scan.header.Goals.{Else-not-line_count_good, Else
 
 -- the line starts `lines` tab
 word : (e : Else-not-starts) → starts_with (108 ∷ 105 ∷ 110 ∷ 101 ∷ 115 ∷ 9 ∷ []) e.args.text.now ≡ true
-word e = sym e.starts.ensures ∙ not-false _ e.if-not-starts.false-raw
+word e = sym e.starts.ensures ∙ e.if-not-starts.false
 
 good : (c : Else-not-line_count_good) → line_count_good c.number-k.result.value ≡ true
-good c = sym c.line_count_good.ensures ∙ not-false _ c.if-not-line_count_good.false-raw
+good c = sym c.line_count_good.ensures ∙ c.if-not-line_count_good.false
 
 -- the position after the number, and the byte there
 after : (c : Else-not-line_count_good) → c.number-k.result.next ≡ 6 + width c.number-k.result.value
@@ -30,7 +29,7 @@ byte c =
 
 pub returns-then-not-starts : goal.returns-then-not-starts
 returns-then-not-starts c =
-    why c.wrong_form.ensures ∙ sym (header_other _ (sym c.starts.ensures ∙ not-true _ c.if-not-starts.true-raw))
+    why c.wrong_form.ensures ∙ sym (header_other _ (sym c.starts.ensures ∙ c.if-not-starts.true))
 
 pub number-k-requires : goal.number-k-requires
 number-k-requires c = header_room _ (word (goal.at.number-k-requires c).Else-not-starts)
@@ -42,19 +41,19 @@ returns-then-n-eq-NO_NUMBER c =
 pub returns-then-not-line_count_good : goal.returns-then-not-line_count_good
 returns-then-not-line_count_good c =
     why c.bad_line_count.ensures
-    ∙ sym (header_outside _ (word (goal.at.returns-then-not-line_count_good c).Else-not-starts) _ (sym c.number-k.ensures.0) c.if-n-eq-NO_NUMBER.false (sym c.line_count_good.ensures ∙ not-true _ c.if-not-line_count_good.true-raw))
+    ∙ sym (header_outside _ (word (goal.at.returns-then-not-line_count_good c).Else-not-starts) _ (sym c.number-k.ensures.0) c.if-n-eq-NO_NUMBER.false (sym c.line_count_good.ensures ∙ c.if-not-line_count_good.true))
 
 pub returns-then-text-at : goal.returns-then-text-at
 returns-then-text-at c =
     why c.wrong_form-then-text-at.ensures
     ∙ sym (header_missing _ (word (goal.at.returns-then-text-at c).Else-not-starts) _ (sym c.number-k.ensures.0) c.if-n-eq-NO_NUMBER.false (good (goal.at.returns-then-text-at c).Else-not-line_count_good) (omega (arith, after (goal.at.returns-then-text-at c).Else-not-line_count_good)))
 
-pub returns-then-text-at-ne10 : goal.returns-then-text-at-ne10
-returns-then-text-at-ne10 c =
-    why c.wrong_form-then-text-at-ne10.ensures
-    ∙ sym (header_further _ (word (goal.at.returns-then-text-at-ne10 c).Else-not-starts) _ (sym c.number-k.ensures.0) c.if-n-eq-NO_NUMBER.false (good (goal.at.returns-then-text-at-ne10 c).Else-not-line_count_good) (omega (arith, after (goal.at.returns-then-text-at-ne10 c).Else-not-line_count_good)) (λ z. c.if-text-at-ne10.true (byte (goal.at.returns-then-text-at-ne10 c).Else-text-at ∙ z)))
+pub returns-then-text-at-ne-HEADER_END : goal.returns-then-text-at-ne-HEADER_END
+returns-then-text-at-ne-HEADER_END c =
+    why c.wrong_form-then-text-at-ne-HEADER_END.ensures
+    ∙ sym (header_further _ (word (goal.at.returns-then-text-at-ne-HEADER_END c).Else-not-starts) _ (sym c.number-k.ensures.0) c.if-n-eq-NO_NUMBER.false (good (goal.at.returns-then-text-at-ne-HEADER_END c).Else-not-line_count_good) (omega (arith, after (goal.at.returns-then-text-at-ne-HEADER_END c).Else-not-line_count_good)) (λ z. c.if-text-at-ne-HEADER_END.true (byte (goal.at.returns-then-text-at-ne-HEADER_END c).Else-text-at ∙ z)))
 
 pub returns : goal.returns
 returns c =
     ap (λ (k : ℕ). served (record { lines = c.number-k.result.value; next = k + 1 })) (after (goal.at.returns c).Else-not-line_count_good)
-    ∙ sym (header_good _ (word (goal.at.returns c).Else-not-starts) _ (sym c.number-k.ensures.0) c.if-n-eq-NO_NUMBER.false (good (goal.at.returns c).Else-not-line_count_good) (omega (arith, after (goal.at.returns c).Else-not-line_count_good)) (sym (byte (goal.at.returns c).Else-text-at) ∙ c.if-text-at-ne10.false))
+    ∙ sym (header_good _ (word (goal.at.returns c).Else-not-starts) _ (sym c.number-k.ensures.0) c.if-n-eq-NO_NUMBER.false (good (goal.at.returns c).Else-not-line_count_good) (omega (arith, after (goal.at.returns c).Else-not-line_count_good)) (sym (byte (goal.at.returns c).Else-text-at) ∙ c.if-text-at-ne-HEADER_END.false))

@@ -1,6 +1,5 @@
 -- `circuit::file::scan::number` meets its contract. Assumes nothing.
 use Rattle.std.proofs.Common.{◌≡◌, ℕ, ◌+◌, ◌-◌, ◌*◌, ◌≤◌, true, false, get_or, drop, sym, ap, ◌∙◌, ap₂, arith}
-use borrow.Author.Tests.{not-true, not-false}
 use Rattle.circuit.specs.declared.file.scan.Numeral.{Numeral}
 use Rattle.circuit.specs.File.{is_digit}
 use Rattle.circuit.specs.private.Scan.{is_stop, width}
@@ -13,7 +12,7 @@ first : (c : After-byte-a) → c.byte-a.result ≡ get_or ((drop c.args.at c.arg
 first c = c.byte-a.ensures ∙ byte_at c.args.text.now c.args.at
 
 first_digit : (c : Else-not-digit) → is_digit c.byte-a.result ≡ true
-first_digit c = sym c.digit.ensures ∙ not-false _ c.if-not-digit.false-raw
+first_digit c = sym c.digit.ensures ∙ c.if-not-digit.false
 
 second : (c : After-byte-b) → c.byte-b.result ≡ get_or ((drop c.args.at c.args.text.now)) 1 10
 second c = c.byte-b.ensures ∙ byte_after c.args.text.now c.args.at 1
@@ -22,7 +21,7 @@ second_goes : (c : Else-stop) → is_stop c.byte-b.result ≡ false
 second_goes c = sym c.stop.ensures ∙ c.if-stop.false
 
 second_digit : (c : Else-not-digit-2) → is_digit c.byte-b.result ≡ true
-second_digit c = sym c.digit-2.ensures ∙ not-false _ c.if-not-digit-2.false-raw
+second_digit c = sym c.digit-2.ensures ∙ c.if-not-digit-2.false
 
 third : (c : After-byte) → c.byte.result ≡ get_or ((drop c.args.at c.args.text.now)) 2 10
 third c = c.byte.ensures ∙ byte_after c.args.text.now c.args.at 2
@@ -33,7 +32,7 @@ none r at e f = let v : r.value ≡ 100 = ap (λ (x : Numeral). x.value) e in (v
 
 pub returns-then-not-digit : goal.returns-then-not-digit
 returns-then-not-digit c =
-    none _ _ c.no_number.ensures (number_first ((drop c.args.at c.args.text.now)) (sym (ap is_digit (first (goal.at.returns-then-not-digit c).After-byte-a)) ∙ sym c.digit.ensures ∙ not-true _ c.if-not-digit.true-raw))
+    none _ _ c.no_number.ensures (number_first ((drop c.args.at c.args.text.now)) (sym (ap is_digit (first (goal.at.returns-then-not-digit c).After-byte-a)) ∙ sym c.digit.ensures ∙ c.if-not-digit.true))
 
 pub overflow_sub-result : goal.overflow_sub-result
 overflow_sub-result c = digit_low _ (first_digit (goal.at.overflow_sub-result c).Else-not-digit)
@@ -58,22 +57,22 @@ returns-then-not-digit-2 c =
     let f = first (goal.at.returns-then-not-digit-2 c).After-byte-a in
     let g = second (goal.at.returns-then-not-digit-2 c).After-byte-b in
     none _ _ c.no_number-then-not-digit-2.ensures (number_second ((drop c.args.at c.args.text.now)) (sym (ap is_digit f) ∙ first_digit (goal.at.returns-then-not-digit-2 c).Else-not-digit)
-    (sym (ap is_stop g) ∙ second_goes (goal.at.returns-then-not-digit-2 c).Else-stop) (sym (ap is_digit g) ∙ sym c.digit-2.ensures ∙ not-true _ c.if-not-digit-2.true-raw))
+    (sym (ap is_stop g) ∙ second_goes (goal.at.returns-then-not-digit-2 c).Else-stop) (sym (ap is_digit g) ∙ sym c.digit-2.ensures ∙ c.if-not-digit-2.true))
 
 pub returns-then-not-stop : goal.returns-then-not-stop
 returns-then-not-stop c =
     let f = first (goal.at.returns-then-not-stop c).After-byte-a in
     none _ _ c.no_number-then-not-stop.ensures (number_third ((drop c.args.at c.args.text.now)) (sym (ap is_digit f) ∙ first_digit (goal.at.returns-then-not-stop c).Else-not-digit)
     (sym (ap is_stop (second (goal.at.returns-then-not-stop c).After-byte-b)) ∙ second_goes (goal.at.returns-then-not-stop c).Else-stop)
-    (sym (ap is_stop (third (goal.at.returns-then-not-stop c).After-byte)) ∙ sym c.stop-2.ensures ∙ not-true _ c.if-not-stop.true-raw))
+    (sym (ap is_stop (third (goal.at.returns-then-not-stop c).After-byte)) ∙ sym c.stop-2.ensures ∙ c.if-not-stop.true))
 
 -- both bytes are digits
 digits : (c : Else-not-stop)
     → (48 ≤ c.byte-a.result) × (48 ≤ c.byte-b.result)
     × (c.byte-a.result ≤ 57) × (c.byte-b.result ≤ 57)
 digits c =
-    let first_digit : is_digit c.byte-a.result ≡ true = sym c.digit.ensures ∙ not-false _ c.if-not-digit.false-raw in
-    let second_digit : is_digit c.byte-b.result ≡ true = sym c.digit-2.ensures ∙ not-false _ c.if-not-digit-2.false-raw in
+    let first_digit : is_digit c.byte-a.result ≡ true = sym c.digit.ensures ∙ c.if-not-digit.false in
+    let second_digit : is_digit c.byte-b.result ≡ true = sym c.digit-2.ensures ∙ c.if-not-digit-2.false in
     (digit_low _ (first_digit), digit_low _ (second_digit), digit_high _ (first_digit), digit_high _ (second_digit))
 
 pub overflow_sub-result-2 : goal.overflow_sub-result-2
@@ -95,6 +94,6 @@ returns c =
       ap₂ (λ (x y : ℕ). 10 * (x - 48) + (y - 48)) f g
           ∙ number_two ((drop c.args.at c.args.text.now)) (sym (ap is_digit f) ∙ first_digit (goal.at.returns c).Else-not-digit)
           (sym (ap is_stop g) ∙ second_goes (goal.at.returns c).Else-stop) (sym (ap is_digit g) ∙ second_digit (goal.at.returns c).Else-not-digit-2) (λ z. c.if-a-eq48.false (f ∙ z))
-          (sym (ap is_stop (third (goal.at.returns c).After-byte)) ∙ sym c.stop-2.ensures ∙ not-false _ c.if-not-stop.false-raw),
+          (sym (ap is_stop (third (goal.at.returns c).After-byte)) ∙ sym c.stop-2.ensures ∙ c.if-not-stop.false),
       (λ h. omega (arith, width_long (10 * (c.byte-a.result - 48) + (c.byte-b.result - 48)) (omega (arith, digits (goal.at.returns c).Else-not-stop, c.if-a-eq48.false)))),
     )

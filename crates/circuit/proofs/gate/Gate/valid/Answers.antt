@@ -1,7 +1,6 @@
 -- `circuit::gate::Gate::valid` meets its contract. Assumes nothing.
 use Rattle.std.proofs.Common.{◌≡◌, ℕ, ◌%◌, ◌^◌, ◌<◌, true, eqb, ltb, sym, ap, ◌∙◌, arith, lt-ltb}
 use lib.Bits.{bit_and, bit_or, or_lt}
-use borrow.Author.Tests.{not-true, not-false}
 use Rattle.bits.proofs.Bools.{refuted}
 use Rattle.circuit.specs.declared.gate.Gate.{Gate}
 use Rattle.circuit.specs.Gate.{max_lines, valid}
@@ -14,7 +13,7 @@ returns-then-n-target c = sym (not_valid _ _ (λ v. omega (arith, v.target_below
 pub returns-then-not-below : goal.returns-then-not-below
 returns-then-not-below c =
     sym (not_valid _ _ (λ v.
-    refuted (sym c.below.ensures ∙ not-true _ c.if-not-below.true-raw) (lt-ltb _ _ (or_lt _ _ _ v.positive_below v.negative_below))))
+    refuted (sym c.below.ensures ∙ c.if-not-below.true) (lt-ltb _ _ (or_lt _ _ _ v.positive_below v.negative_below))))
 
 pub returns-then-positive-negative-ne0 : goal.returns-then-positive-negative-ne0
 returns-then-positive-negative-ne0 c = sym (not_valid _ _ (λ v. c.if-positive-negative-ne0.true v.apart))
@@ -28,10 +27,10 @@ last n g h b a =
 
 pub returns-then-n-gt-MAX_LINES : goal.returns-then-n-gt-MAX_LINES
 returns-then-n-gt-MAX_LINES c =
-    c.clear.ensures ∙ last c.args.n c.args.self (omega arith) (sym c.below.ensures ∙ not-false _ c.if-not-below.false-raw) c.if-positive-negative-ne0.false
+    c.clear.ensures ∙ last c.args.n c.args.self (omega arith) (sym c.below.ensures ∙ c.if-not-below.false) c.if-positive-negative-ne0.false
 
 pub returns : goal.returns
 returns c =
     let k : c.args.self.target % max_lines ≡ c.args.self.target = omega arith in
     ap (λ (x : ℕ). eqb (bit_and (bit_or c.args.self.positive c.args.self.negative) x) 0) (c.line.ensures ∙ ap (◌^◌ 2) k)
-    ∙ last c.args.n c.args.self (omega arith) (sym c.below.ensures ∙ not-false _ c.if-not-below.false-raw) c.if-positive-negative-ne0.false
+    ∙ last c.args.n c.args.self (omega arith) (sym c.below.ensures ∙ c.if-not-below.false) c.if-positive-negative-ne0.false

@@ -1,6 +1,5 @@
 -- `circuit::run::RunAnswer::advance` meets its contract. Assumes nothing.
 use Rattle.std.proofs.Common.{sym, ap, ◌∙◌}
-use borrow.Author.Tests.{not-true, not-false}
 use Rattle.circuit.specs.Outcome.{served}
 use Rattle.circuit.specs.Run.{of_run}
 use Rattle.circuit.proofs.lemmas.Outcome.{why, demand_met, demand_failed, then_served, then_refused}
@@ -12,7 +11,7 @@ pub returns-then-not-valid : goal.returns-then-not-valid
 returns-then-not-valid c =
     why c.no_gate.ensures
     ∙ sym (then_served _ _ _ (ap of_run c.in-State.is)
-    ∙ demand_failed _ _ _ _ (sym c.valid.ensures ∙ not-true _ c.if-not-valid.true-raw))
+    ∙ demand_failed _ _ _ _ (sym c.valid.ensures ∙ c.if-not-valid.true))
 
 pub returns-in-Refused : goal.returns-in-Refused
 returns-in-Refused c = sym (then_refused _ _ _ _ (ap of_run c.in-Refused.is))
@@ -20,5 +19,5 @@ returns-in-Refused c = sym (then_refused _ _ _ _ (ap of_run c.in-Refused.is))
 pub returns-else-not-valid : goal.returns-else-not-valid
 returns-else-not-valid c =
     sym (then_served _ _ _ (ap of_run c.in-State.is)
-    ∙ demand_met _ _ _ _ (sym c.valid.ensures ∙ not-false _ c.if-not-valid.false-raw)
-    ∙ ap served (sym (c.toggle.ensures ∙ toggled_apply _ _ (valid_more _ _ _ c.requires (sym c.valid.ensures ∙ not-false _ c.if-not-valid.false-raw)))))
+    ∙ demand_met _ _ _ _ (sym c.valid.ensures ∙ c.if-not-valid.false)
+    ∙ ap served (sym (c.toggle.ensures ∙ toggled_apply _ _ (valid_more _ _ _ c.requires (sym c.valid.ensures ∙ c.if-not-valid.false)))))

@@ -1,6 +1,5 @@
 -- `circuit::run::RunAnswer::end` meets its contract. Assumes nothing.
 use Rattle.std.proofs.Common.{sym, ap, ◌∙◌}
-use borrow.Author.Tests.{not-true, not-false}
 use Rattle.circuit.specs.Run.{of_run}
 use Rattle.circuit.proofs.lemmas.Outcome.{why, demand_met, demand_failed, then_served, then_refused}
 use Rattle.circuit.proofs.run.RunAnswer.end.Goals as goal
@@ -9,7 +8,7 @@ pub returns-then-not-below : goal.returns-then-not-below
 returns-then-not-below c =
     why c.bad_state.ensures
     ∙ sym (then_served _ _ _ (ap of_run c.in-State.is)
-    ∙ demand_failed _ _ _ _ (sym c.below.ensures ∙ not-true _ c.if-not-below.true-raw))
+    ∙ demand_failed _ _ _ _ (sym c.below.ensures ∙ c.if-not-below.true))
 
 pub returns-in-Refused : goal.returns-in-Refused
 returns-in-Refused c = sym (then_refused _ _ _ _ (ap of_run c.in-Refused.is))
@@ -17,4 +16,4 @@ returns-in-Refused c = sym (then_refused _ _ _ _ (ap of_run c.in-Refused.is))
 pub returns-else-not-below : goal.returns-else-not-below
 returns-else-not-below c =
     sym (then_served _ _ _ (ap of_run c.in-State.is)
-    ∙ demand_met _ _ _ _ (sym c.below.ensures ∙ not-false _ c.if-not-below.false-raw))
+    ∙ demand_met _ _ _ _ (sym c.below.ensures ∙ c.if-not-below.false))
