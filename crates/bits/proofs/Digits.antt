@@ -1,12 +1,12 @@
 -- The laws of `bit` and `lines_in`: of the operations on masks, of a power of two, of a sum, of a bound, of a count, and that a number is its digits. Assumes nothing.
 use mathlib.Core.Path.{◌≡◌, refl, sym, ap, ap₂, ◌∙◌, subst}
-use mathlib.Core.Bool.{Bool, false, ◌&&◌, ◌||◌, xor, cond, and-true}
+use mathlib.Core.Bool.{Bool, true, false, ◌&&◌, ◌||◌, xor, cond, and-true}
 use Prim.Native.Nat.{ℕ, zero, suc, ◌+◌, ◌-◌, ◌*◌, ◌/◌, ◌%◌, ◌^◌, ◌≤◌, ◌<◌, min, max, suc-le-suc}
 use native.Mathlib.Nat.{div-eq_of_lt, mod-lt, pow-suc, lt_of_lt_of_le, zero-lt-suc, div-lt_iff_lt-mul, le-max_left, le-max_right}
 use native.Mathlib.Numerals.{one-add}
 use native.Mathlib.Omega.{arith}
 use lib.Dec.{eqb, eqb-zero-suc, eqb-suc-zero, eqb-suc-suc}
-use borrow.Author.Tests.{eqb-true, eq-eqb}
+use borrow.Author.Tests.{eqb-true, eqb-false, eq-eqb}
 use lib.Arith.{bin_ind, digits_div, digits_mod, lt-one}
 use lib.Pow.{pow_mono, pow_pos, shr-shr, split, field, mod-mod-pow}
 use lib.Count.{ones, ones_step, ones_cat, ones-ones}
@@ -14,7 +14,7 @@ use lib.ListN.{length, length-append}
 use mathlib.Core.List.{List, [], ◌∷◌, ◌++◌}
 use lib.Bits.{bit_and, bit_or, bit_xor, differ, and_step, or_step, xor_step, and_zero_l, or_zero_l, or_disjoint, or_add_and, and_le_l, and_le_r}
 use Rattle.bits.specs.Digits.{bit, lines_in}
-use Rattle.bits.proofs.Bools.{and_apart}
+use Rattle.bits.proofs.Bools.{and_apart, either}
 
 -- the higher digits are those of the half
 pub bit_suc : (x k : ℕ) → bit x (suc k) ≡ bit (x / 2) k
@@ -29,6 +29,15 @@ bit_first x = simp native.Mathlib.Nat.div-one
 pub bit_none : (k : ℕ) → bit 0 k ≡ false
 unfolding bit
 bit_none k = simp native.Mathlib.Nat.zero-div
+
+-- any other number has a digit that is 1
+pub bit_some : (x : ℕ) → (x ≡ 0 → ⊥) → (k : ℕ) × (bit x k ≡ true)
+bit_some =
+    bin_ind (λ (x : ℕ). (x ≡ 0 → ⊥) → (k : ℕ) × (bit x k ≡ true)) (λ d. absurd (d refl))
+    (λ x ih d.
+    either (eqb (x % 2) 1)
+    (λ t. (0, bit_first x ∙ t))
+    (λ t. let o = eqb-false (x % 2) 1 t in let (k, e) = ih (λ h. d (omega arith)) in (suc k, bit_suc x k ∙ e)))
 
 -- ---- the operations, digit by digit: `op` by its step, `f` on two digits as numbers, `F` as tests
 module _ (op f : ℕ → ℕ → ℕ) (F : Bool → Bool → Bool)

@@ -1,6 +1,7 @@
 -- `checking::laws` meets its contract: the record of the laws. Assumes nothing.
 use Rattle.checking.proofs.lemmas.miter.Laws.{miter_laws}
 use Rattle.checking.proofs.lemmas.step.Laws.{step_laws}
+use Rattle.checking.proofs.lemmas.step.Wider.{wider_laws}
 use Rattle.checking.proofs.lemmas.reduce.Relation.{reduce_laws}
 use Rattle.checking.proofs.lemmas.StandIns.{stand_in_laws}
 use Rattle.checking.proofs.lemmas.clauses.Laws.{clause_laws}
@@ -16,6 +17,7 @@ returns c =
     record {
       miter = miter_laws;
       steps = step_laws;
+      wider = wider_laws;
       reductions = reduce_laws;
       stand_ins = stand_in_laws;
       clauses = clause_laws;

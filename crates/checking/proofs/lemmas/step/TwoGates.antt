@@ -20,17 +20,18 @@ xor_off : (x f : Bool) → xor x (f && false) ≡ x
 unfolding xor
 xor_off = table₂ _ _ refl
 
-module _ (g h : Gate) (vg : valid max_lines g ≡ true) (clear : Uncontrolled h g.target) (s : ℕ) where
-  elsewhere : (l : ℕ) → (l ≡ g.target → ⊥) → bit (apply g s) l ≡ bit s l
-  elsewhere l d = apply_bit g s l vg ∙ ap (λ (e : Bool). xor (bit s l) (fires g s && e)) (ne_eqb l g.target d) ∙ xor_off (bit s l) (fires g s)
+-- a gate keeps every line but its target
+pub elsewhere : (g : Gate) → valid max_lines g ≡ true → (s l : ℕ) → (l ≡ g.target → ⊥) → bit (apply g s) l ≡ bit s l
+elsewhere g vg s l d = apply_bit g s l vg ∙ ap (λ (e : Bool). xor (bit s l) (fires g s && e)) (ne_eqb l g.target d) ∙ xor_off (bit s l) (fires g s)
 
+module _ (g h : Gate) (vg : valid max_lines g ≡ true) (clear : Uncontrolled h g.target) (s : ℕ) where
   -- the second fires as it would without the first
   pub fires_past : fires h (apply g s) ≡ fires h s
   fires_past =
       let on : (l : ℕ) → bit h.positive l ≡ true → bit (apply g s) l ≡ bit s l =
-      λ l e. elsewhere l (λ q. refuted clear.not_positive (sym (ap (bit h.positive) q) ∙ e)) in
+      λ l e. elsewhere g vg s l (λ q. refuted clear.not_positive (sym (ap (bit h.positive) q) ∙ e)) in
       let off : (l : ℕ) → bit h.negative l ≡ true → bit (apply g s) l ≡ bit s l =
-      λ l e. elsewhere l (λ q. refuted clear.not_negative (sym (ap (bit h.negative) q) ∙ e)) in
+      λ l e. elsewhere g vg s l (λ q. refuted clear.not_negative (sym (ap (bit h.negative) q) ∙ e)) in
       same_test (fires h (apply g s)) (fires h s)
       (λ f. let w = fires_lines h (apply g s) f in lines_fires h s (record { on = λ l e. sym (on l e) ∙ w.on l e; off = λ l e. sym (off l e) ∙ w.off l e }))
       (λ f. let w = fires_lines h s f in lines_fires h (apply g s) (record { on = λ l e. on l e ∙ w.on l e; off = λ l e. off l e ∙ w.off l e }))
