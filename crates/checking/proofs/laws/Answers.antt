@@ -1,9 +1,8 @@
 -- `checking::laws` meets its contract: the record of the laws. Assumes nothing.
 use Rattle.checking.proofs.lemmas.miter.Laws.{miter_laws}
 use Rattle.checking.proofs.lemmas.step.Laws.{step_laws}
-use Rattle.checking.proofs.lemmas.step.Wider.{wider_laws}
 use Rattle.checking.proofs.lemmas.reduce.Relation.{reduce_laws}
-use Rattle.checking.proofs.lemmas.StandIns.{stand_in_laws}
+use Rattle.checking.proofs.lemmas.StandIns.{stand_in_laws, wider_laws}
 use Rattle.checking.proofs.lemmas.clauses.Laws.{clause_laws}
 use Rattle.checking.proofs.lemmas.EqualityLaws.{equality_laws}
 use Rattle.checking.proofs.lemmas.clauses.Answers.{emit_laws}

@@ -1,5 +1,5 @@
 -- The laws of the wider rule of passing: by masks, by lines, and that gates pass by it exactly where swapping them leaves the function unchanged; rules that are wrong have not that law, by gates of T-01 and of the starred rows. Assumes nothing.
-use Rattle.std.proofs.Common.{◌≡◌, ℕ, ◌^◌, ◌<◌, ◌≤◌, Bool, true, false, not, ◌&&◌, ◌||◌, eqb, [], ◌∷◌, sym, refl, ap, ◌∙◌, ap₂, eq-eqb, eqb-true, arith}
+use Rattle.std.proofs.Common.{◌≡◌, ℕ, ◌^◌, ◌<◌, ◌≤◌, Bool, true, false, not, ◌&&◌, ◌||◌, eqb, [], ◌∷◌, sym, refl, ap, ◌∙◌, ap₂, eq-eqb, eqb-true}
 use mathlib.Core.Bool.{xor, or_comm, not-eq-not}
 use lib.Bits.{bit_and, bit_or}
 use borrow.Author.Tests.{eqb-false, not-true}
@@ -11,8 +11,7 @@ use Rattle.circuit.specs.Gate.{max_lines, fires, valid, apply}
 use Rattle.circuit.specs.Run.{run, Equal}
 use Rattle.circuit.proofs.Promises.{fires_lines, lines_fires, valid_by_lines, valid_more, apply_bit, apply_gate, inverted_idle, run_one, run_next}
 use Rattle.checking.specs.Match.{control_lines, may_pass}
-use Rattle.checking.specs.Wider.{opposing, wider_pass, Opposed, first_positive, second_positive, PassesByLines, targets_apart, opposed, PassingOf, always_pass, WiderLaws}
-use Rattle.checking.specs.Rows.{t1, t2+0, t2+1}
+use Rattle.checking.specs.Wider.{opposing, wider_pass, Opposed, first_positive, second_positive, PassesByLines, targets_apart, opposed, PassingOf}
 use Rattle.checking.proofs.lemmas.step.TwoGates.{elsewhere, pass_clear, clear_pass, clear_commute}
 
 -- ---- by lines
@@ -183,32 +182,8 @@ pass_exactly n g h few vg vh = (
 -- ---- other rules
 
 -- what has the law says what this one says
-passing_only : (rule : Gate → Gate → Bool) → PassingOf rule → (n : ℕ) (g h : Gate) → n ≤ max_lines → valid n g ≡ true → valid n h ≡ true → rule g h ≡ wider_pass g h
+pub passing_only : (rule : Gate → Gate → Bool) → PassingOf rule → (n : ℕ) (g h : Gate) → n ≤ max_lines → valid n g ≡ true → valid n h ≡ true → rule g h ≡ wider_pass g h
 passing_only rule is n g h few vg vh =
     let theirs = is n g h few vg vh in
     let ours = pass_exactly n g h few vg vh in
     same_test _ _ (λ e. ours.1 (theirs.0 e)) (λ e. theirs.1 (ours.0 e))
-
--- t1+2-0
-abbrev t1+2-0 : Gate
-t1+2-0 = record { positive = 4; negative = 1; target = 1 }
-
--- t2+0 and t1+2-0 pass since line 0 is opposed
-narrow_refuted : (rule : Gate → Gate → Bool) → ((g h : Gate) → rule g h ≡ true → may_pass g h ≡ true) → PassingOf rule → ⊥
-unfolding valid control_lines may_pass opposing wider_pass
-narrow_refuted rule narrow is = refuted {b = false} refl (narrow t2+0 t1+2-0 (passing_only rule is 3 t2+0 t1+2-0 (omega arith) refl refl))
-
--- the second inverts a line that the first reads
-always_refuted : PassingOf always_pass → ⊥
-unfolding valid control_lines may_pass opposing wider_pass
-always_refuted is = refuted {b = false} refl (sym (passing_only always_pass is 3 t2+1 t1 (omega arith) refl refl))
-
-pub wider_laws : WiderLaws
-wider_laws =
-    record {
-      pass_lines = λ g h. (pass_lines g h, lines_pass g h);
-      pass_exactly = pass_exactly;
-      passing_only = passing_only;
-      narrow_refuted = narrow_refuted;
-      always_refuted = always_refuted;
-    }
