@@ -54,7 +54,7 @@
  * true literal, and an XOR clause an odd number of them.
  *
  * examples/editor.c uses all of this. `tests/archive` proves the library and writes it, for Linux on
- * x86-64, to target/staticlib/libcapi.a; it is linked by cc -Iinclude PROGRAM.c target/staticlib/libcapi.a
+ * x86-64-v2, to target/staticlib/libcapi.a; it is linked by cc -Iinclude PROGRAM.c target/staticlib/libcapi.a
  */
 #ifndef CASCADE_H
 #define CASCADE_H
