@@ -145,7 +145,8 @@ IS_FALSE = "; the facts known there allow values at which this goal is false"
 # What is tried; the file of edits and its log; the exit status and a part of what is printed.
 CASES = [
     ("an edit alone", DOUBLE, AT_DOUBLE, 0, "demo/tried: refused at proofs/double/Answers.antt returns"),
-    ("an edit alone, at another fact too", DOUBLE, error("proofs/double/Answers.antt", "loop-i-preserved") + AT_DOUBLE, 0, "1 refused"),
+    ("an edit alone, at another fact first", DOUBLE, error("proofs/double/Answers.antt", "loop-i-preserved") + AT_DOUBLE, 1, "is refused after another fact of that place; the first is:\n    # refused: proofs/double/Answers.antt loop-i-preserved"),
+    ("an edit alone, at another fact too", DOUBLE, AT_DOUBLE + error("proofs/double/Answers.antt", "loop-i-preserved"), 0, "1 refused"),
     ("an edit alone, at another fact", DOUBLE, error("proofs/double/Answers.antt", "loop-i-preserved"), 1, "proofs/double/Answers.antt returns is not refused; of the facts that it reaches these are:\n    # refused: proofs/double/Answers.antt loop-i-preserved"),
     ("an edit alone that names no fact", DOUBLE.replace("# refused: proofs/double/Answers.antt returns\n", ""), AT_DOUBLE, 1, "it names no fact; of those that it reaches these are refused:\n    # refused: proofs/double/Answers.antt returns"),
     ("an edit alone that was proved", DOUBLE, None, 1, "did not refuse it"),
@@ -186,7 +187,8 @@ CASES = [
     ("two edits of definitions, at two facts of one file", group(one=LAW, two=THIRD), AT_LAW + AT_THIRD + AT_SIXTH, 0, "2 refused"),
     ("two edits of definitions, the second one not refused", group(one=LAW, two=THIRD), AT_LAW, 1, "demo/two: FAILED: proofs/Laws.antt third is not refused"),
     ("two edits of definitions, at a fact that both reach", group(one=LAW, two=THIRD.replace("Laws.antt third", "Laws.antt sixth")), AT_LAW + AT_SIXTH, 1, "one reaches proofs/Laws.antt sixth, which two names"),
-    ("two edits of definitions, a fact that both reach refused before", group(one=LAW, two=THIRD), AT_LAW + AT_SIXTH, 1, "demo/two: FAILED: proofs/Laws.antt third is not refused; of the facts that it reaches these are:\n    # refused: proofs/Laws.antt sixth"),
+    ("two edits of definitions, a fact that both reach refused before", group(one=LAW, two=THIRD), AT_LAW + AT_SIXTH + AT_THIRD, 1, "demo/two: FAILED: proofs/Laws.antt third is refused after another fact of that place; the first is:\n    # refused: proofs/Laws.antt sixth"),
+    ("two edits of definitions, only a fact that both reach refused", group(one=LAW, two=THIRD), AT_LAW + AT_SIXTH, 1, "demo/two: FAILED: proofs/Laws.antt third is not refused; of the facts that it reaches these are:\n    # refused: proofs/Laws.antt sixth"),
     ("an edit of a definition, with an error at a fact of that file that it does not reach", group(one=LAW, two=TRIPLE), AT_LAW + AT_TRIPLE + error("proofs/Laws.antt", "other"), 1, "an error that none of its edits reaches, at proofs/Laws.antt other"),
     ("an edit of a definition, at a fact inside a module, by another name", group(one=LAW, two=THIRD.replace("Laws.antt third", "Blocks.antt inner")), AT_LAW + error("proofs/Blocks.antt", "inner"), 0, "2 refused"),
     ("an edit of a definition, through a fact inside a module", group(one=LAW, two=THIRD.replace("Laws.antt third", "Blocks.antt outer")), AT_LAW + error("proofs/Blocks.antt", "outer"), 0, "2 refused"),
