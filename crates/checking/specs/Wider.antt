@@ -39,7 +39,7 @@ pub record WiderLaws : Type 0 where
   pub pass_lines : (g h : Gate) → (wider_pass g h ≡ true) ↔ PassesByLines g h
   -- gates pass exactly when swapping them leaves the function unchanged
   pub pass_exactly : PassingOf wider_pass
-  -- any rule that has the law is this one, of all gates on n lines; none has it that is as narrow as `may_pass`, nor the one by which all pass
+  -- a rule that has the law agrees with this one on all gates of n lines; none has it that passes only what `may_pass` passes, nor the one by which all pass
   pub passing_only : (rule : Gate → Gate → Bool) → PassingOf rule → (n : ℕ) (g h : Gate) → n ≤ max_lines → valid n g ≡ true → valid n h ≡ true → rule g h ≡ wider_pass g h
   pub narrow_refuted : (rule : Gate → Gate → Bool) → ((g h : Gate) → rule g h ≡ true → may_pass g h ≡ true) → PassingOf rule → ⊥
   pub always_refuted : PassingOf always_pass → ⊥

@@ -1,4 +1,4 @@
--- The laws of the wider rule of passing: by masks, by lines, and that gates pass by it exactly where swapping them leaves the function unchanged; rules that are wrong have not that law, by gates of T-01 and of the starred rows. Assumes nothing.
+-- The laws of the wider rule of passing: by masks, by lines, and that gates pass by it exactly where swapping them leaves the function unchanged, and that no other rule has that law. Assumes nothing.
 use Rattle.std.proofs.Common.{◌≡◌, ℕ, ◌^◌, ◌<◌, ◌≤◌, Bool, true, false, not, ◌&&◌, ◌||◌, eqb, [], ◌∷◌, sym, refl, ap, ◌∙◌, ap₂, eq-eqb, eqb-true}
 use mathlib.Core.Bool.{xor, or_comm, not-eq-not}
 use lib.Bits.{bit_and, bit_or}
