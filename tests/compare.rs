@@ -282,8 +282,8 @@ fn check_unread(compare: &str, check_input: &str) {
     let output = Command::new(compare).args(["/dev/null", "/nonexistent/two"]).output().expect("the program runs");
     assert!(String::from_utf8_lossy(&output.stderr).contains("/nonexistent/two"));
     // a name that is no text: the file is there, and is not opened
-    let folder = std::env::temp_dir().join(format!("compare-{}", std::process::id()));
-    std::fs::create_dir_all(&folder).expect("a folder for a file");
+    let folder = std::env::temp_dir().join(format!("unread-{}", std::process::id()));
+    std::fs::create_dir(&folder).expect("a folder for a file");
     let file = folder.join(OsStr::from_bytes(b"\xff"));
     std::fs::write(&file, b"lines\t4\nend\n").expect("a file whose name is not UTF-8");
     let output = Command::new(compare).arg(&file).arg(&file).output().expect("the program runs");
