@@ -37,25 +37,25 @@ pub bounds-words-i : goal.bounds-words-i
 bounds-words-i c = let l = left_inside _ _ c.loop-i.invariant.left (more c) in search rules
 
 pub overflow_add-to : goal.overflow_add-to
-overflow_add-to c = let e = counted c in let l = left_inside _ _ c.loop-i.invariant.left (more (goal.at.overflow_add-to c).In-loop-i) in search rules
+overflow_add-to c = let h = more (goal.at.overflow_add-to c).In-loop-i in let e = counted c h in let l = left_inside _ _ c.loop-i.invariant.left h in search rules
 
 pub offset_bounds-words-i-in-loop-i : goal.offset_bounds-words-i-in-loop-i
-offset_bounds-words-i-in-loop-i c = let e = counted c in let l = left_inside _ _ c.loop-i.invariant.left (more (goal.at.offset_bounds-words-i-in-loop-i c).In-loop-i) in search rules
+offset_bounds-words-i-in-loop-i c = let h = more (goal.at.offset_bounds-words-i-in-loop-i c).In-loop-i in let e = counted c h in let l = left_inside _ _ c.loop-i.invariant.left h in search rules
 
 pub bounds-words-i-in-loop-i : goal.bounds-words-i-in-loop-i
-bounds-words-i-in-loop-i c = let e = counted c in let l = left_inside _ _ c.loop-i.invariant.left (more (goal.at.bounds-words-i-in-loop-i c).In-loop-i) in search rules
+bounds-words-i-in-loop-i c = let h = more (goal.at.bounds-words-i-in-loop-i c).In-loop-i in let e = counted c h in let l = left_inside _ _ c.loop-i.invariant.left h in search rules
 
 pub offset_bounds-words-from : goal.offset_bounds-words-from
-offset_bounds-words-from c = let e = counted (goal.at.offset_bounds-words-from c).After-magnitude (more (goal.at.offset_bounds-words-from c).In-loop-i) in let l = left_inside _ _ c.loop-i.invariant.left (more (goal.at.offset_bounds-words-from c).In-loop-i) in search rules
+offset_bounds-words-from c = let h = more (goal.at.offset_bounds-words-from c).In-loop-i in let e = counted (goal.at.offset_bounds-words-from c).After-magnitude h in let l = left_inside _ _ c.loop-i.invariant.left h in search rules
 
 pub slice_bounds-record_size-count : goal.slice_bounds-record_size-count
-slice_bounds-record_size-count c = let e = counted (goal.at.slice_bounds-record_size-count c).After-magnitude (more (goal.at.slice_bounds-record_size-count c).In-loop-i) in let l = left_inside _ _ c.loop-i.invariant.left (more (goal.at.slice_bounds-record_size-count c).In-loop-i) in search rules
+slice_bounds-record_size-count c = let h = more (goal.at.slice_bounds-record_size-count c).In-loop-i in let e = counted (goal.at.slice_bounds-record_size-count c).After-magnitude h in let l = left_inside _ _ c.loop-i.invariant.left h in search rules
 
 pub slice_bounds-record_size-start : goal.slice_bounds-record_size-start
-slice_bounds-record_size-start c = let e = counted (goal.at.slice_bounds-record_size-start c).After-magnitude (more (goal.at.slice_bounds-record_size-start c).In-loop-i) in let l = left_inside _ _ c.loop-i.invariant.left (more (goal.at.slice_bounds-record_size-start c).In-loop-i) in search rules
+slice_bounds-record_size-start c = let h = more (goal.at.slice_bounds-record_size-start c).In-loop-i in let e = counted (goal.at.slice_bounds-record_size-start c).After-magnitude h in let l = left_inside _ _ c.loop-i.invariant.left h in search rules
 
 pub slice_bounds-record_size-end : goal.slice_bounds-record_size-end
-slice_bounds-record_size-end c = let e = counted (goal.at.slice_bounds-record_size-end c).After-magnitude (more (goal.at.slice_bounds-record_size-end c).In-loop-i) in let l = left_inside _ _ c.loop-i.invariant.left (more (goal.at.slice_bounds-record_size-end c).In-loop-i) in search rules
+slice_bounds-record_size-end c = let h = more (goal.at.slice_bounds-record_size-end c).In-loop-i in let e = counted (goal.at.slice_bounds-record_size-end c).After-magnitude h in let l = left_inside _ _ c.loop-i.invariant.left h in search rules
 
 pub record_size-bytes-requires : goal.record_size-bytes-requires
 record_size-bytes-requires c = left_plainable _ _ c.loop-i.invariant.left (more (goal.at.record_size-bytes-requires c).In-loop-i) _ (counted (goal.at.record_size-bytes-requires c).After-magnitude (more (goal.at.record_size-bytes-requires c).In-loop-i)) _ _ (word_is _ (sfits_of c.record_size-arg-1.given)) refl
@@ -64,22 +64,22 @@ pub overflow_add-bytes : goal.overflow_add-bytes
 overflow_add-bytes c = omega (arith, bytes_room _ _ _ _ c.loop-i.invariant (more (goal.at.overflow_add-bytes c).In-loop-i) _ (counted (goal.at.overflow_add-bytes c).After-magnitude (more (goal.at.overflow_add-bytes c).In-loop-i)) _ _ (word_is _ (sfits_of c.record_size-arg-1.given)) refl, c.record_size-bytes.ensures)
 
 pub offset_bounds-words-i-in-loop-i-2 : goal.offset_bounds-words-i-in-loop-i-2
-offset_bounds-words-i-in-loop-i-2 c = let e = counted (goal.at.offset_bounds-words-i-in-loop-i-2 c).After-magnitude (more (goal.at.offset_bounds-words-i-in-loop-i-2 c).In-loop-i) in let l = left_inside _ _ c.loop-i.invariant.left (more (goal.at.offset_bounds-words-i-in-loop-i-2 c).In-loop-i) in search rules
+offset_bounds-words-i-in-loop-i-2 c = let h = more (goal.at.offset_bounds-words-i-in-loop-i-2 c).In-loop-i in let e = counted (goal.at.offset_bounds-words-i-in-loop-i-2 c).After-magnitude h in let l = left_inside _ _ c.loop-i.invariant.left h in search rules
 
 pub bounds-words-i-in-loop-i-2 : goal.bounds-words-i-in-loop-i-2
-bounds-words-i-in-loop-i-2 c = let e = counted (goal.at.bounds-words-i-in-loop-i-2 c).After-magnitude (more (goal.at.bounds-words-i-in-loop-i-2 c).In-loop-i) in let l = left_inside _ _ c.loop-i.invariant.left (more (goal.at.bounds-words-i-in-loop-i-2 c).In-loop-i) in search rules
+bounds-words-i-in-loop-i-2 c = let h = more (goal.at.bounds-words-i-in-loop-i-2 c).In-loop-i in let e = counted (goal.at.bounds-words-i-in-loop-i-2 c).After-magnitude h in let l = left_inside _ _ c.loop-i.invariant.left h in search rules
 
 pub offset_bounds-words-from-in-loop-i : goal.offset_bounds-words-from-in-loop-i
-offset_bounds-words-from-in-loop-i c = let e = counted (goal.at.offset_bounds-words-from-in-loop-i c).After-magnitude (more (goal.at.offset_bounds-words-from-in-loop-i c).In-loop-i) in let l = left_inside _ _ c.loop-i.invariant.left (more (goal.at.offset_bounds-words-from-in-loop-i c).In-loop-i) in search rules
+offset_bounds-words-from-in-loop-i c = let h = more (goal.at.offset_bounds-words-from-in-loop-i c).In-loop-i in let e = counted (goal.at.offset_bounds-words-from-in-loop-i c).After-magnitude h in let l = left_inside _ _ c.loop-i.invariant.left h in search rules
 
 pub slice_bounds-record_clauses-count : goal.slice_bounds-record_clauses-count
-slice_bounds-record_clauses-count c = let e = counted (goal.at.slice_bounds-record_clauses-count c).After-magnitude (more (goal.at.slice_bounds-record_clauses-count c).In-loop-i) in let l = left_inside _ _ c.loop-i.invariant.left (more (goal.at.slice_bounds-record_clauses-count c).In-loop-i) in search rules
+slice_bounds-record_clauses-count c = let h = more (goal.at.slice_bounds-record_clauses-count c).In-loop-i in let e = counted (goal.at.slice_bounds-record_clauses-count c).After-magnitude h in let l = left_inside _ _ c.loop-i.invariant.left h in search rules
 
 pub slice_bounds-record_clauses-start : goal.slice_bounds-record_clauses-start
-slice_bounds-record_clauses-start c = let e = counted (goal.at.slice_bounds-record_clauses-start c).After-magnitude (more (goal.at.slice_bounds-record_clauses-start c).In-loop-i) in let l = left_inside _ _ c.loop-i.invariant.left (more (goal.at.slice_bounds-record_clauses-start c).In-loop-i) in search rules
+slice_bounds-record_clauses-start c = let h = more (goal.at.slice_bounds-record_clauses-start c).In-loop-i in let e = counted (goal.at.slice_bounds-record_clauses-start c).After-magnitude h in let l = left_inside _ _ c.loop-i.invariant.left h in search rules
 
 pub slice_bounds-record_clauses-end : goal.slice_bounds-record_clauses-end
-slice_bounds-record_clauses-end c = let e = counted (goal.at.slice_bounds-record_clauses-end c).After-magnitude (more (goal.at.slice_bounds-record_clauses-end c).In-loop-i) in let l = left_inside _ _ c.loop-i.invariant.left (more (goal.at.slice_bounds-record_clauses-end c).In-loop-i) in search rules
+slice_bounds-record_clauses-end c = let h = more (goal.at.slice_bounds-record_clauses-end c).In-loop-i in let e = counted (goal.at.slice_bounds-record_clauses-end c).After-magnitude h in let l = left_inside _ _ c.loop-i.invariant.left h in search rules
 
 pub record_clauses-clauses-requires : goal.record_clauses-clauses-requires
 record_clauses-clauses-requires c = left_plainable _ _ c.loop-i.invariant.left (more (goal.at.record_clauses-clauses-requires c).In-loop-i) _ (counted (goal.at.record_clauses-clauses-requires c).After-magnitude (more (goal.at.record_clauses-clauses-requires c).In-loop-i)) _ _ (word_is _ (sfits_of c.record_clauses-arg-1.given)) refl

@@ -38,7 +38,7 @@ pub bounds-words-i : goal.bounds-words-i
 bounds-words-i c = let l = left_inside _ _ c.loop-i.invariant.left (more c) in search rules
 
 pub overflow_add-to : goal.overflow_add-to
-overflow_add-to c = let e = counted c in let l = left_inside _ _ c.loop-i.invariant.left (more (goal.at.overflow_add-to c).In-loop-i) in search rules
+overflow_add-to c = let h = more (goal.at.overflow_add-to c).In-loop-i in let e = counted c h in let l = left_inside _ _ c.loop-i.invariant.left h in search rules
 
 pub slice_bounds-put_formed-count : goal.slice_bounds-put_formed-count
 slice_bounds-put_formed-count c = listing_at _ _ _ _ _ _ c.loop-i.invariant
@@ -50,13 +50,13 @@ pub offset_bounds-words-from : goal.offset_bounds-words-from
 offset_bounds-words-from c = let l = left_inside _ _ c.loop-i.invariant.left (more (goal.at.offset_bounds-words-from c).In-loop-i) in search rules
 
 pub slice_bounds-put_formed-count-in-loop-i : goal.slice_bounds-put_formed-count-in-loop-i
-slice_bounds-put_formed-count-in-loop-i c = let e = counted (goal.at.slice_bounds-put_formed-count-in-loop-i c).After-magnitude (more (goal.at.slice_bounds-put_formed-count-in-loop-i c).In-loop-i) in let l = left_inside _ _ c.loop-i.invariant.left (more (goal.at.slice_bounds-put_formed-count-in-loop-i c).In-loop-i) in search rules
+slice_bounds-put_formed-count-in-loop-i c = let h = more (goal.at.slice_bounds-put_formed-count-in-loop-i c).In-loop-i in let e = counted (goal.at.slice_bounds-put_formed-count-in-loop-i c).After-magnitude h in let l = left_inside _ _ c.loop-i.invariant.left h in search rules
 
 pub slice_bounds-put_formed-start-in-loop-i : goal.slice_bounds-put_formed-start-in-loop-i
-slice_bounds-put_formed-start-in-loop-i c = let e = counted (goal.at.slice_bounds-put_formed-start-in-loop-i c).After-magnitude (more (goal.at.slice_bounds-put_formed-start-in-loop-i c).In-loop-i) in let l = left_inside _ _ c.loop-i.invariant.left (more (goal.at.slice_bounds-put_formed-start-in-loop-i c).In-loop-i) in search rules
+slice_bounds-put_formed-start-in-loop-i c = let h = more (goal.at.slice_bounds-put_formed-start-in-loop-i c).In-loop-i in let e = counted (goal.at.slice_bounds-put_formed-start-in-loop-i c).After-magnitude h in let l = left_inside _ _ c.loop-i.invariant.left h in search rules
 
 pub slice_bounds-put_formed-end-in-loop-i : goal.slice_bounds-put_formed-end-in-loop-i
-slice_bounds-put_formed-end-in-loop-i c = let e = counted (goal.at.slice_bounds-put_formed-end-in-loop-i c).After-magnitude (more (goal.at.slice_bounds-put_formed-end-in-loop-i c).In-loop-i) in let l = left_inside _ _ c.loop-i.invariant.left (more (goal.at.slice_bounds-put_formed-end-in-loop-i c).In-loop-i) in search rules
+slice_bounds-put_formed-end-in-loop-i c = let h = more (goal.at.slice_bounds-put_formed-end-in-loop-i c).In-loop-i in let e = counted (goal.at.slice_bounds-put_formed-end-in-loop-i c).After-magnitude h in let l = left_inside _ _ c.loop-i.invariant.left h in search rules
 
 pub put_formed-at-requires : goal.put_formed-at-requires
 put_formed-at-requires c =
