@@ -9,10 +9,10 @@ use Rattle.checking.proofs.check.check.Goals as goal
 use Rattle.checking.proofs.check.check.Goals.{After-make_calls-left, In-Gates}
 
 made : (g : In-Gates)
-    → let a = g.args in miter_outcome a.na a.a.now a.nb a.b.now (length a.work.now) ≡ served ((g.in-Gates.gates))
+    → let a = g.args in miter_outcome a.na a.a.now a.nb a.b.now (length a.work.now) ≡ served (g.in-Gates.gates)
 made g = sym g.miter.ensures.answer ∙ ap of_count g.in-Gates.is
 
-left : (l : After-make_calls-left) → Yields l.make_calls-left.result l.make_calls-left.new.words ((held l.args.na l.args.a.now l.args.nb l.args.b.now (calls_of l.args.calls.now) l.args.work.now ((l.in-Gates.gates)))).gates ((held l.args.na l.args.a.now l.args.nb l.args.b.now (calls_of l.args.calls.now) l.args.work.now ((l.in-Gates.gates)))).words
+left : (l : After-make_calls-left) → Yields l.make_calls-left.result l.make_calls-left.new.words (held l.args.na l.args.a.now l.args.nb l.args.b.now (calls_of l.args.calls.now) l.args.work.now (l.in-Gates.gates)).gates (held l.args.na l.args.a.now l.args.nb l.args.b.now (calls_of l.args.calls.now) l.args.work.now (l.in-Gates.gates)).words
 left l =
     let calls = calls_of l.args.calls.now in
     let g = (l.in-Gates.gates) in
@@ -22,21 +22,21 @@ left l =
 
 inside : (l : After-make_calls-left) → 3 * l.make_calls-left.result ≤ length l.make_calls-left.new.words
 inside l =
-    let made : let a = l.args in miter_outcome a.na a.a.now a.nb a.b.now (length a.work.now) ≡ served ((l.in-Gates.gates)) = sym l.miter.ensures.answer ∙ ap of_count l.in-Gates.is in
-    let left : Yields l.make_calls-left.result l.make_calls-left.new.words ((held l.args.na l.args.a.now l.args.nb l.args.b.now (calls_of l.args.calls.now) l.args.work.now ((l.in-Gates.gates)))).gates ((held l.args.na l.args.a.now l.args.nb l.args.b.now (calls_of l.args.calls.now) l.args.work.now ((l.in-Gates.gates)))).words = let calls = calls_of l.args.calls.now in
+    let made : let a = l.args in miter_outcome a.na a.a.now a.nb a.b.now (length a.work.now) ≡ served (l.in-Gates.gates) = sym l.miter.ensures.answer ∙ ap of_count l.in-Gates.is in
+    let left : Yields l.make_calls-left.result l.make_calls-left.new.words (held l.args.na l.args.a.now l.args.nb l.args.b.now (calls_of l.args.calls.now) l.args.work.now (l.in-Gates.gates)).gates (held l.args.na l.args.a.now l.args.nb l.args.b.now (calls_of l.args.calls.now) l.args.work.now (l.in-Gates.gates)).words = let calls = calls_of l.args.calls.now in
     let g = (l.in-Gates.gates) in
     subst
     (λ (ws : List ℕ). Yields l.make_calls-left.result l.make_calls-left.new.words (called_all calls (record { gates = g; words = ws })).gates (called_all calls (record { gates = g; words = ws })).words)
     l.miter.ensures.buffer l.make_calls-left.ensures in
-    held_room l.args.na l.args.a.now l.args.nb l.args.b.now (calls_of l.args.calls.now) l.args.work.now ((l.in-Gates.gates)) (made) _ _ (left)
+    held_room l.args.na l.args.a.now l.args.nb l.args.b.now (calls_of l.args.calls.now) l.args.work.now (l.in-Gates.gates) made _ _ left
 
 pub make_calls-left-requires : goal.make_calls-left-requires
 make_calls-left-requires c =
-    omega (arith, miter_room c.args.na c.args.a.now c.args.nb c.args.b.now (calls_of c.args.calls.now) c.args.work.now ((c.in-Gates.gates)) (made (goal.at.make_calls-left-requires c).In-Gates), ap length c.miter.ensures.buffer)
+    omega (arith, miter_room c.args.na c.args.a.now c.args.nb c.args.b.now (calls_of c.args.calls.now) c.args.work.now (c.in-Gates.gates) (made (goal.at.make_calls-left-requires c).In-Gates), ap length c.miter.ensures.buffer)
 
 pub overflow_mul-end : goal.overflow_mul-end
 overflow_mul-end c =
-    omega (arith, held_few c.args.na c.args.a.now c.args.nb c.args.b.now (calls_of c.args.calls.now) c.args.work.now ((c.in-Gates.gates)) (made (goal.at.overflow_mul-end c).In-Gates) _ _ (left (goal.at.overflow_mul-end c).After-make_calls-left))
+    omega (arith, held_few c.args.na c.args.a.now c.args.nb c.args.b.now (calls_of c.args.calls.now) c.args.work.now (c.in-Gates.gates) (made (goal.at.overflow_mul-end c).In-Gates) _ _ (left (goal.at.overflow_mul-end c).After-make_calls-left))
 
 pub slice_bounds-emit-end : goal.slice_bounds-emit-end
 slice_bounds-emit-end c = inside (goal.at.slice_bounds-emit-end c).After-make_calls-left
@@ -51,5 +51,5 @@ returns-in-Refused c =
 
 pub returns-in-Gates : goal.returns-in-Gates
 returns-in-Gates c =
-    check_served c.before.args.na c.before.args.a.now c.before.args.nb c.before.args.b.now (calls_of c.before.args.calls.now) c.before.args.work.now c.before.args.out.now _ c.make_calls-left.new.words _ ((c.in-Gates.gates)) c.make_calls-left.result
+    check_served c.before.args.na c.before.args.a.now c.before.args.nb c.before.args.b.now (calls_of c.before.args.calls.now) c.before.args.work.now c.before.args.out.now _ c.make_calls-left.new.words _ (c.in-Gates.gates) c.make_calls-left.result
     (made (goal.at.returns-in-Gates c).In-Gates) (left (goal.at.returns-in-Gates c).After-make_calls-left) c.emit.ensures

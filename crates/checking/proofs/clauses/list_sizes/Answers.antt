@@ -23,7 +23,7 @@ good c = sym c.valid.ensures ∙ c.if-not-valid.false
 few : (c : After-control_count-k) → c.control_count-k.result ≤ max_lines
 few c =
     let good : valid c.args.n c.gate_at-g.result ≡ true = sym c.valid.ensures ∙ c.if-not-valid.false in
-    subst (λ (k : ℕ). k ≤ max_lines) (sym c.control_count-k.ensures) (controls_few _ c.gate_at-g.result c.requires.few_lines (good))
+    subst (λ (k : ℕ). k ≤ max_lines) (sym c.control_count-k.ensures) (controls_few _ c.gate_at-g.result c.requires.few_lines good)
 
 pub overflow_add-variables : goal.overflow_add-variables
 overflow_add-variables c = omega (arith, one_more c.control_count-k.result c.extra_variables-variables.result c.extra_variables-variables.ensures)

@@ -23,25 +23,25 @@ some c = ⊎_elim (λ z. absurd (c.loop-left-test.true z)) (λ p. p) (eq-zero-or
 line_in : (c : After-lowest-line) → c.lowest-line.result < c.args.n
 line_in c =
     let some : 0 < c.loop-left.left = ⊎_elim (λ z. absurd (c.loop-left-test.true z)) (λ p. p) (eq-zero-or-pos c.loop-left.left) in
-    line_below _ _ _ _ _ _ _ _ _ _ c.requires.currents.lines c.requires.lines c.requires.out_room c.loop-left.invariant (some) c.lowest-line.result c.lowest-line.ensures
+    line_below _ _ _ _ _ _ _ _ _ _ c.requires.currents.lines c.requires.lines c.requires.out_room c.loop-left.invariant some c.lowest-line.result c.lowest-line.ensures
 
 turn_in : (c : After-lowest-line) → c.loop-left.i < c.args.k
 turn_in c =
     let some : 0 < c.loop-left.left = ⊎_elim (λ z. absurd (c.loop-left-test.true z)) (λ p. p) (eq-zero-or-pos c.loop-left.left) in
-    inside _ _ _ _ _ _ _ _ _ _ c.requires.currents.lines c.requires.lines c.requires.out_room c.loop-left.invariant (some) c.lowest-line.result c.lowest-line.ensures
+    inside _ _ _ _ _ _ _ _ _ _ c.requires.currents.lines c.requires.lines c.requires.out_room c.loop-left.invariant some c.lowest-line.result c.lowest-line.ensures
 
 -- its variable fits a word
 variable_small : (c : After-lowest-line) → by_line c.args.current.now c.lowest-line.result < word_limit
 variable_small c =
     let some : 0 < c.loop-left.left = ⊎_elim (λ z. absurd (c.loop-left-test.true z)) (λ p. p) (eq-zero-or-pos c.loop-left.left) in
-    let line_in : c.lowest-line.result < c.args.n = line_below _ _ _ _ _ _ _ _ _ _ c.requires.currents.lines c.requires.lines c.requires.out_room c.loop-left.invariant (some) c.lowest-line.result c.lowest-line.ensures in
-    c.requires.currents.small c.lowest-line.result (line_in)
+    let line_in : c.lowest-line.result < c.args.n = line_below _ _ _ _ _ _ _ _ _ _ c.requires.currents.lines c.requires.lines c.requires.out_room c.loop-left.invariant some c.lowest-line.result c.lowest-line.ensures in
+    c.requires.currents.small c.lowest-line.result line_in
 
 -- there is room for its words
 room : (c : After-lowest-line) → c.args.k + 4 * c.loop-left.i + 4 ≤ length c.loop-left.out
 room c =
     let some : 0 < c.loop-left.left = ⊎_elim (λ z. absurd (c.loop-left-test.true z)) (λ p. p) (eq-zero-or-pos c.loop-left.left) in
-    let turn_in : c.loop-left.i < c.args.k = inside _ _ _ _ _ _ _ _ _ _ c.requires.currents.lines c.requires.lines c.requires.out_room c.loop-left.invariant (some) c.lowest-line.result c.lowest-line.ensures in
+    let turn_in : c.loop-left.i < c.args.k = inside _ _ _ _ _ _ _ _ _ _ c.requires.currents.lines c.requires.lines c.requires.out_room c.loop-left.invariant some c.lowest-line.result c.lowest-line.ensures in
     omega (arith, turn_in, c.requires.out_room, c.loop-left.invariant.long)
 
 pub literal-not_p-requires : goal.literal-not_p-requires

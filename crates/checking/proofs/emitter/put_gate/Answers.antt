@@ -75,13 +75,13 @@ alone c = omega arith
 line_in : (c : After-lowest-line) → c.lowest-line.result < c.args.n
 line_in c =
     let alone : c.control_count-k.result ≡ 1 = omega arith in
-    line_below _ _ _ _ _ c.requires _ c.control_count-k.ensures (alone) c.lowest-line.result c.lowest-line.ensures
+    line_below _ _ _ _ _ c.requires _ c.control_count-k.ensures alone c.lowest-line.result c.lowest-line.ensures
 
 variable_small : (c : After-lowest-line) → by_line c.args.current.now c.lowest-line.result < word_limit
 variable_small c =
     let alone : c.control_count-k.result ≡ 1 = omega arith in
-    let line_in : c.lowest-line.result < c.args.n = line_below _ _ _ _ _ c.requires _ c.control_count-k.ensures (alone) c.lowest-line.result c.lowest-line.ensures in
-    c.requires.currents.small c.lowest-line.result (line_in)
+    let line_in : c.lowest-line.result < c.args.n = line_below _ _ _ _ _ c.requires _ c.control_count-k.ensures alone c.lowest-line.result c.lowest-line.ensures in
+    c.requires.currents.small c.lowest-line.result line_in
 
 pub offset_bounds-current-line : goal.offset_bounds-current-line
 offset_bounds-current-line c =

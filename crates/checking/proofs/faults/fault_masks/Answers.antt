@@ -27,7 +27,7 @@ suspect c =
     c.args.nb c.args.reference.now
     c.args.states.now
     ≡ served c.in-Gates.gates = sym c.check_faults.ensures ∙ ap of_count c.in-Gates.is in
-    fault_suspect _ _ _ _ _ _ (good)
+    fault_suspect _ _ _ _ _ _ good
 
 pub overflow_mul-gates : goal.overflow_mul-gates
 overflow_mul-gates c = omega (arith, (suspect (goal.at.overflow_mul-gates c).In-Gates).few)

@@ -20,7 +20,7 @@ whole : (c : In-Cascade)
     → (r : Reading) × (reading c.args.text.now ≡ served r) × (counts_of r ≡ (record { lines = c.in-Cascade.header.lines; gates = c.in-Cascade.gates; taken = c.in-Cascade.taken }))
 whole c =
     let started : Started c.args.text.now c.in-Lines.lines c.in-Lines.next = header_start _ _ _ (sym c.header.ensures ∙ ap of_header c.in-Lines.is) in
-    judged _ _ _ (started) ((record { lines = c.in-Cascade.header.lines; gates = c.in-Cascade.gates; taken = c.in-Cascade.taken })) (sym c.judge.ensures ∙ ap of_read c.in-Cascade.is)
+    judged _ _ _ started (record { lines = c.in-Cascade.header.lines; gates = c.in-Cascade.gates; taken = c.in-Cascade.taken }) (sym c.judge.ensures ∙ ap of_read c.in-Cascade.is)
 
 counted : (c : In-Cascade) → length (whole c).0.gates ≡ c.in-Cascade.gates
 counted c = ap (λ (x : ReadCounts). x.gates) (whole c).2
@@ -51,7 +51,7 @@ returns-in-Refused-judge c =
 pub returns-else-out-gates : goal.returns-else-out-gates
 returns-else-out-gates c =
     let r = whole (goal.at.returns-else-out-gates c).In-Cascade in
-    read_told _ _ _ (served ((record { lines = c.in-Cascade.header.lines; gates = c.in-Cascade.gates; taken = c.in-Cascade.taken }))) _ refl
+    read_told _ _ _ (served (record { lines = c.in-Cascade.header.lines; gates = c.in-Cascade.gates; taken = c.in-Cascade.taken })) _ refl
     (read_fits _ _ r.0 r.1 (omega (arith, counted (goal.at.returns-else-out-gates c).In-Cascade, c.if-out-gates.false)) ∙ ap served r.2)
     (c.fill.ensures r.0.gates (judged_good _ _ _ (started (goal.at.returns-else-out-gates c).In-Lines) r.0 r.1) (counted (goal.at.returns-else-out-gates c).In-Cascade)
     ∙ ap (λ (o : Outcome Reading). over (words_of (gates_read o)) c.args.out.now) (sym r.1))

@@ -22,7 +22,7 @@ cascade : (c : In-Gates)
     → Cascade c.args.n c.args.words.now max_gates c.in-Gates.field-0
 cascade c =
     let good : check_outcome c.args.n c.args.words.now max_gates ≡ served c.in-Gates.field-0 = sym c.check_cascade.ensures ∙ ap of_count c.in-Gates.is in
-    check_served _ _ _ _ (good)
+    check_served _ _ _ _ good
 
 pub text_size-size-requires : goal.text_size-size-requires
 text_size-size-requires c = let k = cascade (goal.at.text_size-size-requires c).In-Gates in omega (arith, k.size, k.few)

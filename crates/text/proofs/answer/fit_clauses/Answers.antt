@@ -27,7 +27,7 @@ text_is : (c : After-list_sizes-sizes)
 unfolding dimacs_of
 text_is c =
     let clauses_are : c.list_sizes-sizes.result.clauses ≡ length (plain_clauses (stored_in c.args.words.now)) = ap (λ (r : PlainSizes). r.clauses) c.list_sizes-sizes.ensures in
-    ap (λ (k : ℕ). header_text c.args.variables k ++ stored_text true c.args.words.now) (clauses_are)
+    ap (λ (k : ℕ). header_text c.args.variables k ++ stored_text true c.args.words.now) clauses_are
 
 long : (c : After-list_sizes-sizes)
     → length (dimacs_of c.args.variables (plain_clauses (stored_in c.args.words.now))) ≡ length (decimal c.args.variables) + length (decimal c.list_sizes-sizes.result.clauses) + length (decimal 0) + 7 + c.list_sizes-sizes.result.bytes

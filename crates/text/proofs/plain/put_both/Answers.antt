@@ -27,7 +27,7 @@ written : (c : After-negated-2) → let s = c.before.before.before in OR (to_z w
 written c =
     let first : to_z word_width (of_z word_width c.args.a) ∷ to_z word_width (of_z word_width c.args.b) ∷ to_z word_width (of_z word_width c.args.c) ∷ [] ≡ c.args.a ∷ c.args.b ∷ c.args.c ∷ [] = three_words c.args.a c.args.b c.args.c c.ranges.a c.ranges.b c.ranges.c in
     let second : let s = c.before.before.before in to_z word_width (of_z word_width s.args.a) ∷ to_z word_width (of_z word_width c.negated.result) ∷ to_z word_width (of_z word_width c.negated-2.result) ∷ [] ≡ s.args.a ∷ neg_ℤ s.args.b ∷ neg_ℤ s.args.c ∷ [] = ap₂ (λ (x : ℤ) (l : List ℤ). x ∷ l) (word_is c.args.a c.ranges.a) (ap₂ (λ (x y : ℤ). x ∷ y ∷ []) (passed_opposite c.args.b _ c.ranges.b c.requires.literals_fit.0 c.negated.ensures) (passed_opposite c.args.c _ c.ranges.c c.requires.literals_fit.1 c.negated-2.ensures)) in
-    ap₂ (λ (l m : List ℤ). OR l ∷ OR m ∷ []) (first) (second)
+    ap₂ (λ (l m : List ℤ). OR l ∷ OR m ∷ []) first second
 
 pub put_ors-requires : goal.put_ors-requires
 put_ors-requires c =

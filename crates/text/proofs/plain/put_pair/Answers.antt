@@ -26,7 +26,7 @@ written : (c : After-negated-2) → let s = c.before.before.before in OR (to_z w
 written c =
     let first : to_z word_width (of_z word_width c.args.a) ∷ to_z word_width (of_z word_width c.args.b) ∷ [] ≡ c.args.a ∷ c.args.b ∷ [] = two_words c.args.a c.args.b c.ranges.a c.ranges.b in
     let second : let s = c.before.before.before in to_z word_width (of_z word_width c.negated.result) ∷ to_z word_width (of_z word_width c.negated-2.result) ∷ [] ≡ neg_ℤ s.args.a ∷ neg_ℤ s.args.b ∷ [] = ap₂ (λ (x y : ℤ). x ∷ y ∷ []) (passed_opposite c.args.a _ c.ranges.a c.requires.literals_fit.0 c.negated.ensures) (passed_opposite c.args.b _ c.ranges.b c.requires.literals_fit.1 c.negated-2.ensures) in
-    ap₂ (λ (l m : List ℤ). OR l ∷ OR m ∷ []) (first) (second) ∙ sym (pair_parts c.args.a c.args.b)
+    ap₂ (λ (l m : List ℤ). OR l ∷ OR m ∷ []) first second ∙ sym (pair_parts c.args.a c.args.b)
 
 pub put_ors-requires : goal.put_ors-requires
 put_ors-requires c =

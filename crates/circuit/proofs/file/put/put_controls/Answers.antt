@@ -21,13 +21,13 @@ loop-left-init c =
 below : (c : After-lowest-k) → c.lowest-k.result < max_lines
 below c =
     let some : 0 < c.loop-left.left = ⊎_elim (λ z. absurd (c.loop-left-test.true z)) (λ p. p) (eq-zero-or-pos c.loop-left.left) in
-    line_below _ _ _ _ _ _ c.loop-left.invariant (some) c.lowest-k.result c.lowest-k.ensures
+    line_below _ _ _ _ _ _ c.loop-left.invariant some c.lowest-k.result c.lowest-k.ensures
 
 room : (c : After-lowest-k)
     → c.loop-left.at + length (tab ∷ control_text (control_on c.args.positive c.lowest-k.result)) ≤ length c.loop-left.out
 room c =
     let some : 0 < c.loop-left.left = ⊎_elim (λ z. absurd (c.loop-left-test.true z)) (λ p. p) (eq-zero-or-pos c.loop-left.left) in
-    putting_room _ _ _ _ _ _ c.loop-left.invariant (some) c.lowest-k.result c.lowest-k.ensures
+    putting_room _ _ _ _ _ _ c.loop-left.invariant some c.lowest-k.result c.lowest-k.ensures
 
 pub slice_bounds-put_control-count : goal.slice_bounds-put_control-count
 slice_bounds-put_control-count c = omega (arith, room (goal.at.slice_bounds-put_control-count c).After-lowest-k)

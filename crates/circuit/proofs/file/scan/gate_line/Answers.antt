@@ -14,29 +14,29 @@ word e = sym e.starts.ensures ∙ e.if-not-starts.false
 
 -- the target that was read, the position after it, and the text from there on
 target : (c : In-Line)
-    → line_of c.args.n c.args.place (field_at ((drop 2 ((drop c.args.start c.args.text.now)))))
+    → line_of c.args.n c.args.place (field_at (drop 2 (drop c.args.start c.args.text.now)))
     ≡ served c.in-Line.line
 target c =
     ap (λ (x : List ℕ). line_of c.args.n c.args.place (field_at x)) (drop-drop 2 c.args.start c.args.text.now) ∙ sym c.line.ensures.0 ∙ ap of_line c.in-Line.is
 
 next : (c : In-Line)
-    → c.in-Line.next ≡ c.args.start + 2 + length (field_at ((drop 2 ((drop c.args.start c.args.text.now)))))
+    → c.in-Line.next ≡ c.args.start + 2 + length (field_at (drop 2 (drop c.args.start c.args.text.now)))
 next c =
-    let target : line_of c.args.n c.args.place (field_at ((drop 2 ((drop c.args.start c.args.text.now)))))
+    let target : line_of c.args.n c.args.place (field_at (drop 2 (drop c.args.start c.args.text.now)))
     ≡ served c.in-Line.line = ap (λ (x : List ℕ). line_of c.args.n c.args.place (field_at x)) (drop-drop 2 c.args.start c.args.text.now) ∙ sym c.line.ensures.0 ∙ ap of_line c.in-Line.is in
     let at : ℕ = c.args.start + 2 in
-    subst (LineEnds at) c.in-Line.is c.line.ensures.1 ∙ ap (λ (k : ℕ). at + k) (sym (line_field_length _ _ _ _ (target)))
+    subst (LineEnds at) c.in-Line.is c.line.ensures.1 ∙ ap (λ (k : ℕ). at + k) (sym (line_field_length _ _ _ _ target))
 
 after : (c : In-Line)
     → drop c.in-Line.next c.args.text.now
-    ≡ drop (length (field_at ((drop 2 ((drop c.args.start c.args.text.now)))))) ((drop 2 ((drop c.args.start c.args.text.now))))
+    ≡ drop (length (field_at (drop 2 (drop c.args.start c.args.text.now)))) (drop 2 (drop c.args.start c.args.text.now))
 after c =
-    let target : line_of c.args.n c.args.place (field_at ((drop 2 ((drop c.args.start c.args.text.now)))))
+    let target : line_of c.args.n c.args.place (field_at (drop 2 (drop c.args.start c.args.text.now)))
     ≡ served c.in-Line.line = ap (λ (x : List ℕ). line_of c.args.n c.args.place (field_at x)) (drop-drop 2 c.args.start c.args.text.now) ∙ sym c.line.ensures.0 ∙ ap of_line c.in-Line.is in
-    let next : c.in-Line.next ≡ c.args.start + 2 + length (field_at ((drop 2 ((drop c.args.start c.args.text.now))))) = let at : ℕ = c.args.start + 2 in
-    subst (LineEnds at) c.in-Line.is c.line.ensures.1 ∙ ap (λ (k : ℕ). at + k) (sym (line_field_length _ _ _ _ (target))) in
-    ap (λ (k : ℕ). drop k c.args.text.now) (next)
-    ∙ sym (ap (drop (length (field_at ((drop 2 ((drop c.args.start c.args.text.now))))))) (drop-drop 2 c.args.start c.args.text.now) ∙ drop-drop (length (field_at ((drop 2 ((drop c.args.start c.args.text.now)))))) (c.args.start + 2) c.args.text.now)
+    let next : c.in-Line.next ≡ c.args.start + 2 + length (field_at (drop 2 (drop c.args.start c.args.text.now))) = let at : ℕ = c.args.start + 2 in
+    subst (LineEnds at) c.in-Line.is c.line.ensures.1 ∙ ap (λ (k : ℕ). at + k) (sym (line_field_length _ _ _ _ target)) in
+    ap (λ (k : ℕ). drop k c.args.text.now) next
+    ∙ sym (ap (drop (length (field_at (drop 2 (drop c.args.start c.args.text.now))))) (drop-drop 2 c.args.start c.args.text.now) ∙ drop-drop (length (field_at (drop 2 (drop c.args.start c.args.text.now)))) (c.args.start + 2) c.args.text.now)
 
 pub returns-then-not-starts : goal.returns-then-not-starts
 returns-then-not-starts c =
@@ -52,9 +52,9 @@ line-requires c =
 
 pub controls-requires : goal.controls-requires
 controls-requires c = (
-  omega (arith, next (goal.at.controls-requires c).In-Line, (parted ((drop 2 ((drop c.args.start c.args.text.now))))).inside, gate_room _ (word (goal.at.controls-requires c).Else-not-starts), length-drop 2 ((drop c.args.start c.args.text.now)), length-drop c.args.start c.args.text.now),
+  omega (arith, next (goal.at.controls-requires c).In-Line, (parted (drop 2 (drop c.args.start c.args.text.now))).inside, gate_room _ (word (goal.at.controls-requires c).Else-not-starts), length-drop 2 (drop c.args.start c.args.text.now), length-drop c.args.start c.args.text.now),
   omega arith,
-  ap field_at (after (goal.at.controls-requires c).In-Line) ∙ (parted ((drop 2 ((drop c.args.start c.args.text.now))))).stop,
+  ap field_at (after (goal.at.controls-requires c).In-Line) ∙ (parted (drop 2 (drop c.args.start c.args.text.now))).stop,
 )
 
 pub returns-in-Refused : goal.returns-in-Refused

@@ -25,7 +25,7 @@ byte : (c : Else-text-at)
     ≡ get_or c.args.text.now (6 + width c.number-k.result.value) 10
 byte c =
     let after : c.number-k.result.next ≡ 6 + width c.number-k.result.value = c.number-k.ensures.1 c.if-n-eq-NO_NUMBER.false in
-    default_any c.args.text.now c.number-k.result.next 0 10 c.if-text-at.false ∙ ap (λ (k : ℕ). get_or c.args.text.now k 10) (after)
+    default_any c.args.text.now c.number-k.result.next 0 10 c.if-text-at.false ∙ ap (λ (k : ℕ). get_or c.args.text.now k 10) after
 
 pub returns-then-not-starts : goal.returns-then-not-starts
 returns-then-not-starts c =

@@ -8,13 +8,13 @@ use Rattle.circuit.proofs.file.scan.number.Goals as goal
 use Rattle.circuit.proofs.file.scan.number.Goals.{After-byte, After-byte-a, After-byte-b, Else-not-digit, Else-not-digit-2, Else-not-stop, Else-stop}
 
 -- the bytes, and what the tests found of them
-first : (c : After-byte-a) → c.byte-a.result ≡ get_or ((drop c.args.at c.args.text.now)) 0 10
+first : (c : After-byte-a) → c.byte-a.result ≡ get_or (drop c.args.at c.args.text.now) 0 10
 first c = c.byte-a.ensures ∙ byte_at c.args.text.now c.args.at
 
 first_digit : (c : Else-not-digit) → is_digit c.byte-a.result ≡ true
 first_digit c = sym c.digit.ensures ∙ c.if-not-digit.false
 
-second : (c : After-byte-b) → c.byte-b.result ≡ get_or ((drop c.args.at c.args.text.now)) 1 10
+second : (c : After-byte-b) → c.byte-b.result ≡ get_or (drop c.args.at c.args.text.now) 1 10
 second c = c.byte-b.ensures ∙ byte_after c.args.text.now c.args.at 1
 
 second_goes : (c : Else-stop) → is_stop c.byte-b.result ≡ false
@@ -23,7 +23,7 @@ second_goes c = sym c.stop.ensures ∙ c.if-stop.false
 second_digit : (c : Else-not-digit-2) → is_digit c.byte-b.result ≡ true
 second_digit c = sym c.digit-2.ensures ∙ c.if-not-digit-2.false
 
-third : (c : After-byte) → c.byte.result ≡ get_or ((drop c.args.at c.args.text.now)) 2 10
+third : (c : After-byte) → c.byte.result ≡ get_or (drop c.args.at c.args.text.now) 2 10
 third c = c.byte.ensures ∙ byte_after c.args.text.now c.args.at 2
 
 -- no number, so nothing is said of the field's end
@@ -32,7 +32,7 @@ none r at e f = let v : r.value ≡ 100 = ap (λ (x : Numeral). x.value) e in (v
 
 pub returns-then-not-digit : goal.returns-then-not-digit
 returns-then-not-digit c =
-    none _ _ c.no_number.ensures (number_first ((drop c.args.at c.args.text.now)) (sym (ap is_digit (first (goal.at.returns-then-not-digit c).After-byte-a)) ∙ sym c.digit.ensures ∙ c.if-not-digit.true))
+    none _ _ c.no_number.ensures (number_first (drop c.args.at c.args.text.now) (sym (ap is_digit (first (goal.at.returns-then-not-digit c).After-byte-a)) ∙ sym c.digit.ensures ∙ c.if-not-digit.true))
 
 pub overflow_sub-result : goal.overflow_sub-result
 overflow_sub-result c = digit_low _ (first_digit (goal.at.overflow_sub-result c).Else-not-digit)
@@ -42,27 +42,27 @@ returns-then-stop c =
     let f = first (goal.at.returns-then-stop c).After-byte-a in
     let d = first_digit (goal.at.returns-then-stop c).Else-not-digit in (
       ap (λ (x : ℕ). x - 48) f
-          ∙ number_one ((drop c.args.at c.args.text.now)) (sym (ap is_digit f) ∙ d) (sym (ap is_stop (second (goal.at.returns-then-stop c).After-byte-b)) ∙ sym c.stop.ensures ∙ c.if-stop.true),
+          ∙ number_one (drop c.args.at c.args.text.now) (sym (ap is_digit f) ∙ d) (sym (ap is_stop (second (goal.at.returns-then-stop c).After-byte-b)) ∙ sym c.stop.ensures ∙ c.if-stop.true),
       (λ h. omega (arith, width_short (c.byte-a.result - 48) (omega (arith, digit_low c.byte-a.result d, digit_high c.byte-a.result d)))),
     )
 
 pub returns-then-a-eq48 : goal.returns-then-a-eq48
 returns-then-a-eq48 c =
     let f = first (goal.at.returns-then-a-eq48 c).After-byte-a in
-    none _ _ c.no_number-then-a-eq48.ensures (number_zero ((drop c.args.at c.args.text.now)) (sym (ap is_digit f) ∙ first_digit (goal.at.returns-then-a-eq48 c).Else-not-digit)
+    none _ _ c.no_number-then-a-eq48.ensures (number_zero (drop c.args.at c.args.text.now) (sym (ap is_digit f) ∙ first_digit (goal.at.returns-then-a-eq48 c).Else-not-digit)
     (sym (ap is_stop (second (goal.at.returns-then-a-eq48 c).After-byte-b)) ∙ second_goes (goal.at.returns-then-a-eq48 c).Else-stop) (sym f ∙ c.if-a-eq48.true))
 
 pub returns-then-not-digit-2 : goal.returns-then-not-digit-2
 returns-then-not-digit-2 c =
     let f = first (goal.at.returns-then-not-digit-2 c).After-byte-a in
     let g = second (goal.at.returns-then-not-digit-2 c).After-byte-b in
-    none _ _ c.no_number-then-not-digit-2.ensures (number_second ((drop c.args.at c.args.text.now)) (sym (ap is_digit f) ∙ first_digit (goal.at.returns-then-not-digit-2 c).Else-not-digit)
+    none _ _ c.no_number-then-not-digit-2.ensures (number_second (drop c.args.at c.args.text.now) (sym (ap is_digit f) ∙ first_digit (goal.at.returns-then-not-digit-2 c).Else-not-digit)
     (sym (ap is_stop g) ∙ second_goes (goal.at.returns-then-not-digit-2 c).Else-stop) (sym (ap is_digit g) ∙ sym c.digit-2.ensures ∙ c.if-not-digit-2.true))
 
 pub returns-then-not-stop : goal.returns-then-not-stop
 returns-then-not-stop c =
     let f = first (goal.at.returns-then-not-stop c).After-byte-a in
-    none _ _ c.no_number-then-not-stop.ensures (number_third ((drop c.args.at c.args.text.now)) (sym (ap is_digit f) ∙ first_digit (goal.at.returns-then-not-stop c).Else-not-digit)
+    none _ _ c.no_number-then-not-stop.ensures (number_third (drop c.args.at c.args.text.now) (sym (ap is_digit f) ∙ first_digit (goal.at.returns-then-not-stop c).Else-not-digit)
     (sym (ap is_stop (second (goal.at.returns-then-not-stop c).After-byte-b)) ∙ second_goes (goal.at.returns-then-not-stop c).Else-stop)
     (sym (ap is_stop (third (goal.at.returns-then-not-stop c).After-byte)) ∙ sym c.stop-2.ensures ∙ c.if-not-stop.true))
 
@@ -73,7 +73,7 @@ digits : (c : Else-not-stop)
 digits c =
     let first_digit : is_digit c.byte-a.result ≡ true = sym c.digit.ensures ∙ c.if-not-digit.false in
     let second_digit : is_digit c.byte-b.result ≡ true = sym c.digit-2.ensures ∙ c.if-not-digit-2.false in
-    (digit_low _ (first_digit), digit_low _ (second_digit), digit_high _ (first_digit), digit_high _ (second_digit))
+    (digit_low _ first_digit, digit_low _ second_digit, digit_high _ first_digit, digit_high _ second_digit)
 
 pub overflow_sub-result-2 : goal.overflow_sub-result-2
 overflow_sub-result-2 c = (digits (goal.at.overflow_sub-result-2 c).Else-not-stop).0
@@ -92,7 +92,7 @@ returns c =
     let f = first (goal.at.returns c).After-byte-a in
     let g = second (goal.at.returns c).After-byte-b in (
       ap₂ (λ (x y : ℕ). 10 * (x - 48) + (y - 48)) f g
-          ∙ number_two ((drop c.args.at c.args.text.now)) (sym (ap is_digit f) ∙ first_digit (goal.at.returns c).Else-not-digit)
+          ∙ number_two (drop c.args.at c.args.text.now) (sym (ap is_digit f) ∙ first_digit (goal.at.returns c).Else-not-digit)
           (sym (ap is_stop g) ∙ second_goes (goal.at.returns c).Else-stop) (sym (ap is_digit g) ∙ second_digit (goal.at.returns c).Else-not-digit-2) (λ z. c.if-a-eq48.false (f ∙ z))
           (sym (ap is_stop (third (goal.at.returns c).After-byte)) ∙ sym c.stop-2.ensures ∙ c.if-not-stop.false),
       (λ h. omega (arith, width_long (10 * (c.byte-a.result - 48) + (c.byte-b.result - 48)) (omega (arith, digits (goal.at.returns c).Else-not-stop, c.if-a-eq48.false)))),
