@@ -15,7 +15,7 @@ All P (x ∷ xs) = P x × All P xs
 abbrev pub over : {B : Type 0} → List B → List B → List B
 over front out = front ++ drop (length front) out
 
--- these bytes stand at the start of the buffer, and their number was told
-pub record Put (told : ℕ) (last bytes first : List ℕ) : Type 0 where
-  pub count : told ≡ length bytes
-  pub buffer : last ≡ over bytes first
+-- these items stand at the start of the buffer, and their number was told
+pub record Put {B : Type 0} (told : ℕ) (last items first : List B) : Type 0 where
+  pub count : told ≡ length items
+  pub buffer : last ≡ over items first

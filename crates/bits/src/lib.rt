@@ -1,7 +1,19 @@
-// Laws on the binary digits of numbers and on lists, for the crates above.
+// Laws on the binary digits of numbers and on lists, and copying to a buffer's start, for the crates above.
 #![tactic(auto)]
 
+ghost use Rattle.std.specs.Prelude.{◌≤◌, length};
 ghost use Rattle.bits.specs.Laws.{DigitLaws};
+ghost use Rattle.bits.specs.Lists.{Put};
+
+// Copies the items to the buffer's start, and tells how many they are.
+pub fn put<T: Copy>(out: &mut [T], items: &[T]) -> usize
+    requires { length items.now ≤ length out.old }
+    ensures { Put result out.new items.now out.old }
+{
+    let size = items.len();
+    out[..size].copy_from_slice(items);
+    size
+}
 
 // Has no effect: its contract is the record of the laws on digits.
 pub fn laws()
