@@ -1,11 +1,18 @@
 -- What a call answers and leaves, in document 01's numbers and values.
-use Rattle.std.specs.Prelude.{◌≡◌, ℕ, Bool, cond, List}
+use Rattle.std.specs.Prelude.{◌≡◌, ℕ, Bool, cond, List, Result, Ok, Err}
 use Rattle.bits.specs.Lists.{over}
+use Rattle.circuit.specs.declared.refusal.Refusal.{Refusal}
+use Rattle.circuit.specs.Refusal.{number_of, place_of}
 
 -- served with a value, or refused with a number and a place
 pub data Outcome (A : Type 0) : Type 0 where
   served : A → Outcome A
   refused : ℕ → ℕ → Outcome A
+
+-- a result in document 01's numbers and values
+abbrev pub outcome_of : {A : Type 0} → Result A Refusal → Outcome A
+outcome_of (Ok a) = served a
+outcome_of (Err why) = refused (number_of why) (place_of why)
 
 -- the call goes on where the test holds, and is else refused
 abbrev pub demand : {A : Type 0} → Bool → ℕ → ℕ → Outcome A → Outcome A

@@ -1,6 +1,7 @@
 -- The refusals of document 01 by number.
 use Rattle.std.specs.Prelude.{ℕ}
 use Rattle.circuit.specs.declared.refusal.Refusal.{Refusal}
+use Rattle.circuit.specs.declared.refusal.Refusal.TheVariants.{WrongForm, BadLineCount, LineOutside, TargetControlled, NotRising, TooManyGates, NoGate, LineCountsDiffer, BadState, NoRoom, BadWordCount, AgreeingState, TooWide}
 
 -- a line of the wrong form, a missing `end` or LF
 abbrev pub wrong_form : ℕ
@@ -54,6 +55,34 @@ agreeing_state = 12
 abbrev pub too_wide : ℕ
 too_wide = 13
 
--- the refusal with this number at this place
-abbrev pub refusal : ℕ → ℕ → Refusal
-refusal number place = record { number = number; place = place }
+-- a refusal's number
+abbrev pub number_of : Refusal → ℕ
+number_of (WrongForm place) = wrong_form
+number_of BadLineCount = bad_line_count
+number_of (LineOutside place) = line_outside
+number_of (TargetControlled place) = target_controlled
+number_of (NotRising place) = not_rising
+number_of (TooManyGates place) = too_many_gates
+number_of (NoGate place) = no_gate
+number_of LineCountsDiffer = line_counts_differ
+number_of (BadState place) = bad_state
+number_of NoRoom = no_room
+number_of BadWordCount = bad_word_count
+number_of (AgreeingState place) = agreeing_state
+number_of TooWide = too_wide
+
+-- its place: the line of a file, the gate or the list index; else 0
+abbrev pub place_of : Refusal → ℕ
+place_of (WrongForm place) = place
+place_of BadLineCount = 0
+place_of (LineOutside place) = place
+place_of (TargetControlled place) = place
+place_of (NotRising place) = place
+place_of (TooManyGates place) = place
+place_of (NoGate place) = place
+place_of LineCountsDiffer = 0
+place_of (BadState place) = place
+place_of NoRoom = 0
+place_of BadWordCount = 0
+place_of (AgreeingState place) = place
+place_of TooWide = 0

@@ -2,8 +2,6 @@
 use Rattle.std.specs.Prelude.{◌≡◌, ℕ, ◌^◌, ◌<◌, List, length, nat_le, nat_lt}
 use Rattle.bits.specs.Lists.{fold}
 use Rattle.circuit.specs.declared.gate.Gate.{Gate}
-use Rattle.circuit.specs.declared.run.RunAnswer.{RunAnswer}
-use Rattle.circuit.specs.declared.run.RunAnswer.TheVariants.{State, Refused}
 use Rattle.circuit.specs.Gate.{max_gates, apply, toggled}
 use Rattle.circuit.specs.Outcome.{Outcome, served, refused, demand, and_then}
 use Rattle.circuit.specs.Refusal.{bad_line_count, too_many_gates, bad_state}
@@ -39,8 +37,3 @@ records_outcome n gates s =
     (demand (nat_le (length gates) max_gates) too_many_gates 0
     (and_then (valid_from n 0 gates) (λ k.
     demand (nat_lt s (2 ^ n)) bad_state 0 (served (run gates s)))))
-
--- the answer in document 01's numbers and values
-abbrev pub of_run : RunAnswer → Outcome ℕ
-of_run (State s) = served s
-of_run (Refused r) = refused r.number r.place

@@ -2,10 +2,7 @@
 use Rattle.std.specs.Prelude.{◌≡◌, ℕ, ◌+◌, ◌*◌, ◌/◌, ◌%◌, ◌<◌, ◌≤◌, Bool, true, false, cond, ◌&&◌, List, [], ◌∷◌, ◌++◌, length, take, ◌==◌, ◌≢◌, nat_le, slice_index_or}
 use Rattle.bits.specs.Lists.{over}
 use Rattle.circuit.specs.declared.gate.Gate.{Gate}
-use Rattle.circuit.specs.declared.words.CountAnswer.{CountAnswer}
-use Rattle.circuit.specs.declared.words.CountAnswer.TheVariants as count
-use Rattle.circuit.specs.declared.words.PairAnswer.{PairAnswer}
-use Rattle.circuit.specs.declared.words.PairAnswer.TheVariants as pair
+pub use Rattle.circuit.specs.declared.words.Counts.{Counts}
 use Rattle.circuit.specs.Gate.{max_lines, max_gates, not_gate, valid}
 use Rattle.circuit.specs.Outcome.{Outcome, served, refused, demand, and_then, Wrong, Fails}
 use Rattle.circuit.specs.Refusal.{bad_line_count, too_many_gates, no_gate, line_counts_differ, bad_word_count}
@@ -80,11 +77,6 @@ pub data WordsRefused (n : ℕ) (ws : List ℕ) (limit : ℕ) : ℕ → ℕ → 
   gate : 1 ≤ n → n ≤ max_lines → length ws % 3 ≡ 0 → length ws / 3 ≤ limit
       → (i : ℕ) → i < length ws / 3 → all_valid n (take i (gates_of ws)) ≡ true → valid n (gate_at ws i) ≡ false → WordsRefused n ws limit no_gate i
 
--- the numbers of gates of two cascades
-pub record Counts : Type 0 where
-  pub first : ℕ
-  pub second : ℕ
-
 -- 2, 11, 6, 7 for the first cascade, the same for the second, 8
 unfoldable pub pair_outcome : ℕ → List ℕ → ℕ → List ℕ → Outcome Counts
 pair_outcome na a nb b =
@@ -103,12 +95,3 @@ abbrev pub PairRefused : ℕ → List ℕ → ℕ → List ℕ → ℕ → ℕ �
 PairRefused na a nb b =
     Wrong (WordsRefused na a max_gates) (Cascade na a max_gates) (λ k.
     Wrong (WordsRefused nb b max_gates) (Cascade nb b max_gates) (λ m. Fails (na ≢ nb) line_counts_differ 0))
-
--- the answers in document 01's numbers and values
-abbrev pub of_count : CountAnswer → Outcome ℕ
-of_count (count.Gates k) = served k
-of_count (count.Refused r) = refused r.number r.place
-
-abbrev pub of_pair : PairAnswer → Outcome Counts
-of_pair (pair.Gates k m) = served (record { first = k; second = m })
-of_pair (pair.Refused r) = refused r.number r.place

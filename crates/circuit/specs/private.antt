@@ -2,4 +2,3 @@
 pub mod Scan
 pub mod Fill
 pub mod Put
-pub mod Records

@@ -2,23 +2,17 @@
 
 ghost use Rattle.std.specs.Prelude.{◌≡◌, ◌≤◌, length};
 ghost use Rattle.bits.specs.Lists.{over};
-ghost use Rattle.circuit.specs.Words.{gates_of, gate_at, gate_words, put_gate, line_count_good, valid_from, size_outcome, gates_outcome, check_outcome, pair_outcome, of_count, of_pair};
+ghost use Rattle.circuit.specs.Outcome.{outcome_of};
+ghost use Rattle.circuit.specs.Words.{gates_of, gate_at, gate_words, put_gate, line_count_good, valid_from, size_outcome, gates_outcome, check_outcome, pair_outcome};
 
 use crate::gate::Gate;
 use crate::refusal::Refusal;
 
-// A number of gates, or a refusal.
-#[derive(Clone, Copy)]
-pub enum CountAnswer {
-    Gates(usize),
-    Refused(Refusal),
-}
-
-// The numbers of gates of two cascades, or a refusal.
-#[derive(Clone, Copy)]
-pub enum PairAnswer {
-    Gates { first: usize, second: usize },
-    Refused(Refusal),
+// The numbers of gates of two cascades.
+#[derive(Clone, Copy, Debug, PartialEq, Eq)]
+pub struct Counts {
+    pub first: usize,
+    pub second: usize,
 }
 
 // Gate i of the words; three zero words where there is none.
@@ -66,69 +60,62 @@ pub fn line_count_good(n: u64) -> bool
 }
 
 // The number of gates, at most `limit`, by the number of words; else 11 or 6.
-pub fn check_size(words: &[u64], limit: usize) -> CountAnswer
-    ensures { of_count result ≡ size_outcome words.now limit }
+#[tactic(auto, unfolding(crate::specs::Words::size_outcome))]
+pub fn check_size(words: &[u64], limit: usize) -> Result<usize, Refusal>
+    ensures { outcome_of result ≡ size_outcome words.now limit }
 {
     if words.len() % Gate::WORDS != 0 {
-        return CountAnswer::Refused(Refusal::bad_word_count());
+        return Err(Refusal::BadWordCount);
     }
     let gates = words.len() / Gate::WORDS;
     if limit < gates {
-        return CountAnswer::Refused(Refusal::too_many_gates(0));
+        return Err(Refusal::TooManyGates(0));
     }
-    CountAnswer::Gates(gates)
+    Ok(gates)
 }
 
 // The number of whole gates that the words are on n lines; else 7.
-fn check_each(n: u64, words: &[u64]) -> CountAnswer
-    ensures { of_count result ≡ valid_from n 0 (gates_of words.now) }
+fn check_each(n: u64, words: &[u64]) -> Result<usize, Refusal>
+    ensures { outcome_of result ≡ valid_from n 0 (gates_of words.now) }
 {
     let gates = words.len() / Gate::WORDS;
-    let mut i = 0;
-    while i < gates {
-        let g = gate_at(words, i);
-        if !g.valid(n) {
-            return CountAnswer::Refused(Refusal::no_gate(i as u64));
+    for i in 0..gates {
+        if !gate_at(words, i).valid(n) {
+            return Err(Refusal::NoGate(i as u64));
         }
-        i += 1;
     }
-    CountAnswer::Gates(gates)
+    Ok(gates)
 }
 
 // The number of gates, at most `limit`, that the words are on n lines; else 11, 6 or 7.
-pub fn check_gates(n: u64, words: &[u64], limit: usize) -> CountAnswer
-    ensures { of_count result ≡ gates_outcome n words.now limit }
+#[tactic(auto, unfolding(crate::specs::Words::gates_outcome))]
+pub fn check_gates(n: u64, words: &[u64], limit: usize) -> Result<usize, Refusal>
+    ensures { outcome_of result ≡ gates_outcome n words.now limit }
 {
-    match check_size(words, limit) {
-        CountAnswer::Refused(why) => CountAnswer::Refused(why),
-        CountAnswer::Gates(_) => check_each(n, words),
-    }
+    check_size(words, limit)?;
+    check_each(n, words)
 }
 
 // The number of gates, at most `limit`, of a cascade on n lines; else 2, 11, 6 or 7.
-pub fn check_cascade(n: u64, words: &[u64], limit: usize) -> CountAnswer
-    ensures { of_count result ≡ check_outcome n words.now limit }
+#[tactic(auto, unfolding(crate::specs::Words::check_outcome))]
+pub fn check_cascade(n: u64, words: &[u64], limit: usize) -> Result<usize, Refusal>
+    ensures { outcome_of result ≡ check_outcome n words.now limit }
 {
     if !line_count_good(n) {
-        return CountAnswer::Refused(Refusal::bad_line_count());
+        return Err(Refusal::BadLineCount);
     }
     check_gates(n, words, limit)
 }
 
 // The numbers of gates of two cascades on as many lines; else what is wrong with the first, with the second, or 8.
-pub fn check_pair(na: u64, a: &[u64], nb: u64, b: &[u64]) -> PairAnswer
-    ensures { of_pair result ≡ pair_outcome na a.now nb b.now }
+#[tactic(auto, unfolding(crate::specs::Words::pair_outcome))]
+pub fn check_pair(na: u64, a: &[u64], nb: u64, b: &[u64]) -> Result<Counts, Refusal>
+    ensures { outcome_of result ≡ pair_outcome na a.now nb b.now }
 {
-    match check_cascade(na, a, Gate::MAX_GATES) {
-        CountAnswer::Refused(why) => PairAnswer::Refused(why),
-        CountAnswer::Gates(first) => match check_cascade(nb, b, Gate::MAX_GATES) {
-            CountAnswer::Refused(why) => PairAnswer::Refused(why),
-            CountAnswer::Gates(second) => {
-                if na != nb {
-                    return PairAnswer::Refused(Refusal::line_counts_differ());
-                }
-                PairAnswer::Gates { first, second }
-            }
-        },
+    let first = check_cascade(na, a, Gate::MAX_GATES)?;
+    let second = check_cascade(nb, b, Gate::MAX_GATES)?;
+    if na != nb {
+        return Err(Refusal::LineCountsDiffer);
     }
+    Ok(Counts { first, second })
 }
