@@ -8,7 +8,7 @@ use Rattle.circuit.specs.declared.file.WriteAnswer.{WriteAnswer}
 use Rattle.circuit.specs.declared.file.WriteAnswer.TheVariants as write
 use Rattle.circuit.specs.Gate.{max_gates, Control}
 use Rattle.circuit.specs.Outcome.{Outcome, served, refused, demand, and_then, written}
-use Rattle.circuit.specs.Refusal.{wrong_form, bad_line_count, line_outside, target_controlled, not_rising, too_many_gates, no_room}
+use Rattle.circuit.specs.Refusal.{refusal_number, refusal_place, wrong_form, bad_line_count, line_outside, target_controlled, not_rising, too_many_gates, no_room}
 use Rattle.circuit.specs.Words.{gates_of, words_of, line_count_good, check_outcome}
 use Rattle.circuit.specs.Text.{tab, line_feed, plus_sign, minus_sign, lines_word, gate_word, end_word, text_of}
 
@@ -207,8 +207,8 @@ write_buffer n ws out = written (write_outcome n ws (length out)) (text_of n (ga
 -- the answers in document 01's numbers and values
 abbrev pub of_read : ReadAnswer → Outcome ReadCounts
 of_read (read.Cascade header gates taken) = served (record { lines = header.lines; gates = gates; taken = taken })
-of_read (read.Refused r) = refused r.number r.place
+of_read (read.Refused r) = refused (refusal_number r) (refusal_place r)
 
 abbrev pub of_write : WriteAnswer → Outcome ℕ
 of_write (write.Bytes k) = served k
-of_write (write.Refused r) = refused r.number r.place
+of_write (write.Refused r) = refused (refusal_number r) (refusal_place r)

@@ -13,7 +13,6 @@ ghost use Rattle.circuit.specs.File.{read_outcome, read_buffer, of_read, write_o
 use crate::file::scan::{GateAnswer, HeaderAnswer};
 use crate::gate::Gate;
 use crate::refusal::Refusal;
-use crate::words::CountAnswer;
 
 pub mod fill;
 pub mod put;
@@ -82,7 +81,7 @@ pub fn read(text: &[u8], out: &mut [u64]) -> ReadAnswer
                 taken,
             } => {
                 if out.len() / Gate::WORDS < gates {
-                    return ReadAnswer::Refused(Refusal::no_room());
+                    return ReadAnswer::Refused(Refusal::NoRoom);
                 }
                 crate::file::fill::fill(text, next, gates, out);
                 ReadAnswer::Cascade {
@@ -143,11 +142,11 @@ pub fn write(n: u64, words: &[u64], out: &mut [u8]) -> WriteAnswer
     ensures { Yields (of_write result) out.new (write_outcome n words.now (length out.old)) (write_buffer n words.now out.old) }
 {
     match crate::words::check_cascade(n, words, Gate::MAX_GATES) {
-        CountAnswer::Refused(why) => WriteAnswer::Refused(why),
-        CountAnswer::Gates(_) => {
+        Err(why) => WriteAnswer::Refused(why),
+        Ok(_) => {
             let size = text_size(n, words);
             if out.len() < size {
-                return WriteAnswer::Refused(Refusal::no_room());
+                return WriteAnswer::Refused(Refusal::NoRoom);
             }
             WriteAnswer::Bytes(put_text(n, words, out, &crate::file::put::DIGITS))
         }

@@ -10,6 +10,7 @@ use Rattle.circuit.specs.declared.file.scan.GateAnswer.TheVariants as gate
 use Rattle.circuit.specs.declared.file.scan.HeaderAnswer.{HeaderAnswer}
 use Rattle.circuit.specs.declared.file.scan.HeaderAnswer.TheVariants as header
 use Rattle.circuit.specs.Gate.{Control}
+use Rattle.circuit.specs.Refusal.{refusal_number, refusal_place}
 use Rattle.circuit.specs.Outcome.{Outcome, served, refused, and_then}
 use Rattle.circuit.specs.Text.{tab, line_feed}
 use Rattle.circuit.specs.File.{Line, first_line, lines_of, line_size, fields_of, controls_from, closed_gate, gate_on, header_on, read_from, ReadCounts, counts_of}
@@ -71,7 +72,7 @@ controls_next n i t at r =
 
 abbrev pub of_line : LineAnswer → Outcome ℕ
 of_line (line.Line k next) = served k
-of_line (line.Refused r) = refused r.number r.place
+of_line (line.Refused r) = refused (refusal_number r) (refusal_place r)
 
 -- where the field of a line ends that starts at a position
 abbrev pub LineEnds : ℕ → LineAnswer → Type 0
@@ -80,7 +81,7 @@ LineEnds at (line.Refused r) = Unit
 
 abbrev pub of_control : ControlAnswer → Outcome Control
 of_control (control.Control k p next) = served (record { line = k; positive = p })
-of_control (control.Refused r) = refused r.number r.place
+of_control (control.Refused r) = refused (refusal_number r) (refusal_place r)
 
 -- and that of a control, whose sign is before its line
 abbrev pub ControlEnds : ℕ → ControlAnswer → Type 0
@@ -89,11 +90,11 @@ ControlEnds at (control.Refused r) = Unit
 
 abbrev pub of_gate : GateAnswer → Outcome ℕ
 of_gate (gate.Next next) = served next
-of_gate (gate.Refused r) = refused r.number r.place
+of_gate (gate.Refused r) = refused (refusal_number r) (refusal_place r)
 
 abbrev pub of_header : HeaderAnswer → Outcome HeaderNext
 of_header (header.Lines n next) = served (record { lines = n; next = next })
-of_header (header.Refused r) = refused r.number r.place
+of_header (header.Refused r) = refused (refusal_number r) (refusal_place r)
 
 -- the counts of the cascade on n lines whose gate lines start at line `first` and at a position
 abbrev pub counts_from : ℕ → ℕ → ℕ → List ℕ → Outcome ReadCounts

@@ -190,10 +190,10 @@ fn line(text: &[u8], at: usize, n: u64, place: u64) -> LineAnswer
     let line = k.value;
     let next = k.next;
     if line == NO_NUMBER {
-        return LineAnswer::Refused(Refusal::wrong_form(place));
+        return LineAnswer::Refused(Refusal::WrongForm(place));
     }
     if n <= line {
-        return LineAnswer::Refused(Refusal::line_outside(place));
+        return LineAnswer::Refused(Refusal::LineOutside(place));
     }
     LineAnswer::Line { line, next }
 }
@@ -205,7 +205,7 @@ fn control(text: &[u8], at: usize, n: u64, place: u64) -> ControlAnswer
 {
     let s = byte(text, at);
     if !sign(s) {
-        return ControlAnswer::Refused(Refusal::wrong_form(place));
+        return ControlAnswer::Refused(Refusal::WrongForm(place));
     }
     match line(text, at + 1, n, place) {
         LineAnswer::Refused(why) => ControlAnswer::Refused(why),
@@ -285,13 +285,13 @@ fn controls(text: &[u8], first: usize, n: u64, place: u64, target: u64) -> GateA
         }
     }
     if text.len() <= at {
-        return GateAnswer::Refused(Refusal::wrong_form(place));
+        return GateAnswer::Refused(Refusal::WrongForm(place));
     }
     if !seen.apart {
-        return GateAnswer::Refused(Refusal::target_controlled(place));
+        return GateAnswer::Refused(Refusal::TargetControlled(place));
     }
     if !seen.rising {
-        return GateAnswer::Refused(Refusal::not_rising(place));
+        return GateAnswer::Refused(Refusal::NotRising(place));
     }
     GateAnswer::Next(at + 1)
 }
@@ -302,10 +302,10 @@ pub(crate) fn gate_line(text: &[u8], start: usize, n: u64, place: u64, gates: us
     ensures { of_gate result ≡ gate_next n place gates start (drop start text.now) }
 {
     if !starts(text, start, b"g\t") {
-        return GateAnswer::Refused(Refusal::wrong_form(place));
+        return GateAnswer::Refused(Refusal::WrongForm(place));
     }
     if Gate::MAX_GATES <= gates {
-        return GateAnswer::Refused(Refusal::too_many_gates(place));
+        return GateAnswer::Refused(Refusal::TooManyGates(place));
     }
     match line(text, start + 2, n, place) {
         LineAnswer::Refused(why) => GateAnswer::Refused(why),
@@ -326,22 +326,22 @@ pub(crate) fn header(text: &[u8]) -> HeaderAnswer
     ensures { of_header result ≡ header_next text.now }
 {
     if !starts(text, 0, b"lines\t") {
-        return HeaderAnswer::Refused(Refusal::wrong_form(0));
+        return HeaderAnswer::Refused(Refusal::WrongForm(0));
     }
     let k = number(text, 6);
     let n = k.value;
     let at = k.next;
     if n == NO_NUMBER {
-        return HeaderAnswer::Refused(Refusal::wrong_form(0));
+        return HeaderAnswer::Refused(Refusal::WrongForm(0));
     }
     if !crate::words::line_count_good(n) {
-        return HeaderAnswer::Refused(Refusal::bad_line_count());
+        return HeaderAnswer::Refused(Refusal::BadLineCount);
     }
     if text.len() <= at {
-        return HeaderAnswer::Refused(Refusal::wrong_form(0));
+        return HeaderAnswer::Refused(Refusal::WrongForm(0));
     }
     if text[at] != HEADER_END {
-        return HeaderAnswer::Refused(Refusal::wrong_form(0));
+        return HeaderAnswer::Refused(Refusal::WrongForm(0));
     }
     HeaderAnswer::Lines {
         lines: n,
