@@ -1,7 +1,7 @@
 -- What circuit promises to the proofs above it. Its other lemmas stand in the private module `lemmas`, which no other crate can name; and no proof above opens a definition of its `specs/` (.ci/lint), so these are the laws by which such a definition is used.
 
 -- outcomes: a test that is met or fails, a call after a call, a buffer
-pub use Rattle.circuit.proofs.lemmas.Outcome.{never, unserved, why, demand_met, demand_failed, demanded, then_served, then_refused, then_both, then_either, then_fails, last_failed, same_refusal, told, written_served, written_refused, wrong_refused, fails_refused, same_refused, at_least, above, unequal}
+pub use Rattle.circuit.proofs.lemmas.Outcome.{never, unserved, demand_met, demand_failed, demanded, then_served, then_refused, then_both, then_either, then_fails, last_failed, same_refusal, told, written_served, written_refused, wrong_refused, fails_refused, same_refused, at_least, above, unequal}
 -- a gate, by its masks, its lines and its list of controls
 pub use Rattle.circuit.proofs.lemmas.gate.Valid.{valid_facts, valid_by_lines, lines_valid, valid_more, count_lines}
 pub use Rattle.circuit.proofs.lemmas.gate.Effect.{fires_lines, lines_fires, inverted_fired, inverted_idle, apply_gate, apply_bit, apply_none, apply_not, apply_twice, apply_below, missed_line, missed_none, toggled_apply}

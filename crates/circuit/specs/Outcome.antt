@@ -2,7 +2,7 @@
 use Rattle.std.specs.Prelude.{◌≡◌, ℕ, Bool, cond, List, Result, Ok, Err}
 use Rattle.bits.specs.Lists.{over}
 use Rattle.circuit.specs.declared.refusal.Refusal.{Refusal}
-use Rattle.circuit.specs.Refusal.{number_of, place_of}
+use Rattle.circuit.specs.Refusal.{refusal_number, refusal_place}
 
 -- served with a value, or refused with a number and a place
 pub data Outcome (A : Type 0) : Type 0 where
@@ -12,7 +12,7 @@ pub data Outcome (A : Type 0) : Type 0 where
 -- a result in document 01's numbers and values
 abbrev pub outcome_of : {A : Type 0} → Result A Refusal → Outcome A
 outcome_of (Ok a) = served a
-outcome_of (Err why) = refused (number_of why) (place_of why)
+outcome_of (Err why) = refused (refusal_number why) (refusal_place why)
 
 -- the call goes on where the test holds, and is else refused
 abbrev pub demand : {A : Type 0} → Bool → ℕ → ℕ → Outcome A → Outcome A

@@ -56,33 +56,33 @@ abbrev pub too_wide : ℕ
 too_wide = 13
 
 -- a refusal's number
-abbrev pub number_of : Refusal → ℕ
-number_of (WrongForm place) = wrong_form
-number_of BadLineCount = bad_line_count
-number_of (LineOutside place) = line_outside
-number_of (TargetControlled place) = target_controlled
-number_of (NotRising place) = not_rising
-number_of (TooManyGates place) = too_many_gates
-number_of (NoGate place) = no_gate
-number_of LineCountsDiffer = line_counts_differ
-number_of (BadState place) = bad_state
-number_of NoRoom = no_room
-number_of BadWordCount = bad_word_count
-number_of (AgreeingState place) = agreeing_state
-number_of TooWide = too_wide
+abbrev pub refusal_number : Refusal → ℕ
+refusal_number (WrongForm place) = wrong_form
+refusal_number BadLineCount = bad_line_count
+refusal_number (LineOutside place) = line_outside
+refusal_number (TargetControlled place) = target_controlled
+refusal_number (NotRising place) = not_rising
+refusal_number (TooManyGates place) = too_many_gates
+refusal_number (NoGate place) = no_gate
+refusal_number LineCountsDiffer = line_counts_differ
+refusal_number (BadState place) = bad_state
+refusal_number NoRoom = no_room
+refusal_number BadWordCount = bad_word_count
+refusal_number (AgreeingState place) = agreeing_state
+refusal_number TooWide = too_wide
 
 -- its place: the line of a file, the gate or the list index; else 0
-abbrev pub place_of : Refusal → ℕ
-place_of (WrongForm place) = place
-place_of BadLineCount = 0
-place_of (LineOutside place) = place
-place_of (TargetControlled place) = place
-place_of (NotRising place) = place
-place_of (TooManyGates place) = place
-place_of (NoGate place) = place
-place_of LineCountsDiffer = 0
-place_of (BadState place) = place
-place_of NoRoom = 0
-place_of BadWordCount = 0
-place_of (AgreeingState place) = place
-place_of TooWide = 0
+abbrev pub refusal_place : Refusal → ℕ
+refusal_place (WrongForm place) = place
+refusal_place BadLineCount = 0
+refusal_place (LineOutside place) = place
+refusal_place (TargetControlled place) = place
+refusal_place (NotRising place) = place
+refusal_place (TooManyGates place) = place
+refusal_place (NoGate place) = place
+refusal_place LineCountsDiffer = 0
+refusal_place (BadState place) = place
+refusal_place NoRoom = 0
+refusal_place BadWordCount = 0
+refusal_place (AgreeingState place) = place
+refusal_place TooWide = 0

@@ -6,7 +6,7 @@ ghost use Rattle.bits.specs.Digits.{bit};
 ghost use Rattle.circuit.specs.Gate.{max_lines, not_gate, fires, apply, missed, toggled, valid, control_count};
 
 #[repr(C)]
-#[derive(Clone, Copy)]
+#[derive(Clone, Copy, Debug, PartialEq, Eq)]
 pub struct Gate {
     pub positive: u64,
     pub negative: u64,
@@ -18,7 +18,7 @@ fn above(n: u64) -> u64
     ensures { result ≡ 2 ^ max_lines - 2 ^ n }
 {
     if n < Gate::MAX_LINES {
-        return std::num::wrapping_sub_u64(0, line(n));
+        return 0u64.wrapping_sub(line(n));
     }
     0
 }
@@ -58,14 +58,14 @@ fn clear(mask: u64, k: u64) -> bool
 pub fn count(mask: u64) -> u64
     ensures { (result ≡ count_ones mask) × (result ≤ max_lines) }
 {
-    u64::count_ones(mask) as u64
+    mask.count_ones() as u64
 }
 
 // The lowest line of the mask; 64 where it has none.
 pub fn lowest(mask: u64) -> u64
     ensures { result ≡ count_trailing_zeros max_lines mask }
 {
-    u64::trailing_zeros(mask) as u64
+    mask.trailing_zeros() as u64
 }
 
 impl Gate {
@@ -98,48 +98,41 @@ impl Gate {
     pub fn valid(self, n: u64) -> bool
         ensures { result ≡ valid n self }
     {
-        let positive = self.positive;
-        let negative = self.negative;
-        let target = self.target;
-        if n <= target {
+        let controls = self.positive | self.negative;
+        if n <= self.target {
             return false;
         }
-        if !below(positive | negative, n) {
+        if !below(controls, n) {
             return false;
         }
-        if (positive & negative) != 0 {
+        if (self.positive & self.negative) != 0 {
             return false;
         }
         if Gate::MAX_LINES < n {
-            return clear(positive | negative, target);
+            return clear(controls, self.target);
         }
-        ((positive | negative) & line(target)) == 0
+        (controls & line(self.target)) == 0
     }
 
     // Whether every positive control is 1 and every negative one 0.
     pub fn fires(self, state: u64) -> bool
         ensures { result ≡ fires self state }
     {
-        let positive = self.positive;
-        let negative = self.negative;
-        (((state & positive) ^ positive) | (state & negative)) == 0
+        (((state & self.positive) ^ self.positive) | (state & self.negative)) == 0
     }
 
     // The lines on which the state misses a control, of a gate that was tested.
     pub fn missed(self, state: u64) -> u64
         ensures { result ≡ missed self state }
     {
-        let positive = self.positive;
-        let negative = self.negative;
-        (state ^ positive) & (positive | negative)
+        (state ^ self.positive) & (self.positive | self.negative)
     }
 
     // The state after a gate that was tested: the target is inverted where no control is missed.
     pub fn toggle(self, state: u64) -> u64
         ensures { result ≡ toggled self state }
     {
-        let target = self.target;
-        state ^ (((self.missed(state) == 0) as u64) << (target % Gate::MAX_LINES))
+        state ^ (((self.missed(state) == 0) as u64) << (self.target % Gate::MAX_LINES))
     }
 
     // The state after the gate; the same one if the record is no gate on 64 lines.
@@ -156,8 +149,6 @@ impl Gate {
     pub fn control_count(self) -> u64
         ensures { result ≡ control_count self }
     {
-        let positive = self.positive;
-        let negative = self.negative;
-        count(positive) + count(negative)
+        count(self.positive) + count(self.negative)
     }
 }

@@ -22,6 +22,7 @@ pub fn put_inverse(words: &[u64], out: &mut [u64])
 }
 
 // The number of gates of the inverse, which stands at the buffer's start; else 2, 11, 6, 7 or 10.
+#[tactic(auto, unfolding(crate::specs::Inverse::inverse_outcome, crate::specs::Inverse::inverse_buffer))]
 pub fn inverse(n: u64, words: &[u64], out: &mut [u64]) -> Result<usize, Refusal>
     ensures { Yields (outcome_of result) out.new (inverse_outcome n words.now (length out.old)) (inverse_buffer n words.now out.old) }
 {

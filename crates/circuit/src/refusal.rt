@@ -1,7 +1,7 @@
 // Why a call is refused: by document 01 a number and a place.
 
 ghost use Rattle.std.specs.Prelude.{◌≡◌};
-ghost use Rattle.circuit.specs.Refusal.{number_of, place_of};
+ghost use Rattle.circuit.specs.Refusal.{refusal_number, refusal_place};
 
 #[derive(Clone, Copy, Debug, PartialEq, Eq)]
 pub enum Refusal {
@@ -35,7 +35,7 @@ pub enum Refusal {
 
 impl Refusal {
     pub fn number(self) -> u64
-        ensures { result ≡ number_of self }
+        ensures { result ≡ refusal_number self }
     {
         match self {
             Refusal::WrongForm(_) => 1,
@@ -56,7 +56,7 @@ impl Refusal {
 
     // The line of a file, the gate or the list index; else 0.
     pub fn place(self) -> u64
-        ensures { result ≡ place_of self }
+        ensures { result ≡ refusal_place self }
     {
         match self {
             Refusal::WrongForm(place)

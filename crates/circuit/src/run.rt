@@ -44,7 +44,20 @@ fn run_gates(n: u64, words: &[u64], state: u64) -> Result<u64, Refusal>
     Ok(s)
 }
 
+// The state after all gates of a list, which are tested on the way; else 7.
+fn run_list(n: u64, gates: &[Gate], state: u64) -> Result<u64, Refusal>
+    requires { n ≤ max_lines }
+    ensures { outcome_of result ≡ and_then (valid_from n 0 gates.now) (λ k. served (run gates.now state)) }
+{
+    let mut s = state;
+    for (i, gate) in gates.iter().enumerate() {
+        s = run_gate(n, i, *gate, s)?;
+    }
+    Ok(s)
+}
+
 // The output state of a cascade; else 2, 11, 6, 7 or 9.
+#[tactic(auto, unfolding(crate::specs::Run::run_outcome, crate::specs::Words::check_outcome, crate::specs::Words::gates_outcome))]
 pub fn run(n: u64, words: &[u64], state: u64) -> Result<u64, Refusal>
     ensures { outcome_of result ≡ run_outcome n words.now state }
 {
@@ -60,6 +73,7 @@ pub fn run(n: u64, words: &[u64], state: u64) -> Result<u64, Refusal>
 }
 
 // The output state of a cascade that is a list of gate records; else 2, 6, 7 or 9.
+#[tactic(auto, unfolding(crate::specs::Run::records_outcome))]
 pub fn run_records(n: u64, gates: &[Gate], state: u64) -> Result<u64, Refusal>
     ensures { outcome_of result ≡ records_outcome n gates.now state }
 {
@@ -69,12 +83,9 @@ pub fn run_records(n: u64, gates: &[Gate], state: u64) -> Result<u64, Refusal>
     if Gate::MAX_GATES < gates.len() {
         return Err(Refusal::TooManyGates(0));
     }
-    let mut s = state;
-    for (i, gate) in gates.iter().enumerate() {
-        s = run_gate(n, i, *gate, s)?;
-    }
+    let output = run_list(n, gates, state)?;
     if !crate::gate::below(state, n) {
         return Err(Refusal::BadState(0));
     }
-    Ok(s)
+    Ok(output)
 }

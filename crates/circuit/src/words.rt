@@ -53,10 +53,7 @@ pub fn put_gate(out: &mut [u64], g: Gate)
 pub fn line_count_good(n: u64) -> bool
     ensures { result ≡ line_count_good n }
 {
-    if n < 1 {
-        return false;
-    }
-    n <= Gate::MAX_LINES
+    1 <= n && n <= Gate::MAX_LINES
 }
 
 // The number of gates, at most `limit`, by the number of words; else 11 or 6.

@@ -3,8 +3,6 @@ use Rattle.std.proofs.Common.{◌≡◌, ℕ, ◌<◌, ◌≤◌, Bool, true, fa
 use borrow.Author.Tests.{eqb-false, lt-leb}
 use Rattle.bits.specs.Lists.{over}
 use Rattle.bits.proofs.Bools.{either, cond-true, cond-false}
-use Rattle.circuit.specs.declared.refusal.Refusal.{Refusal}
-use Rattle.circuit.specs.Refusal.{refusal}
 use Rattle.circuit.specs.Outcome.{Outcome, served, refused, demand, and_then, Wrong, before, then, Fails, fails, written, Untouched, Yields}
 
 -- an outcome is served or refused, and not both
@@ -13,10 +11,6 @@ never p q = let z : ◌≡◌ {A = ℕ} 0 1 = cc in omega arith
 
 pub unserved : {A : Type 0} {a b : A} → ◌≡◌ {A = Outcome A} (served a) (served b) → a ≡ b
 unserved e = cc
-
--- a refusal in document 01's numbers
-pub why : {A : Type 0} {r : Refusal} {number place : ℕ} → r ≡ refusal number place → ◌≡◌ {A = Outcome A} (refused r.number r.place) (refused number place)
-why e = ap (λ (r : Refusal). refused r.number r.place) e
 
 module _ {A : Type 0} (test : Bool) (number place : ℕ) (more : Outcome A) where
   pub demand_met : test ≡ true → demand test number place more ≡ more

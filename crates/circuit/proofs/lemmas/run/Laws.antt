@@ -1,20 +1,20 @@
 -- The laws of a run: one gate at a time over words, of two cascades in a row, of the inverse, and its bound. Assumes nothing.
-use Rattle.std.proofs.Common.{◌≡◌, ℕ, ◌+◌, ◌*◌, ◌/◌, ◌^◌, ◌<◌, ◌≤◌, true, false, eqb, ltb, ◌↔◌, List, [], ◌∷◌, ◌++◌, length, drop, sym, refl, ap, ◌∙◌, ltb-true, lt-ltb, eqb-true}
+use Rattle.std.proofs.Common.{◌≡◌, ℕ, ◌+◌, ◌*◌, ◌/◌, ◌^◌, ◌<◌, ◌≤◌, true, false, eqb, ltb, ◌↔◌, List, [], ◌∷◌, ◌++◌, length, drop, sym, refl, ap, ◌∙◌, add-one, ltb-true, lt-ltb, eqb-true, drop_of_length-le, drop-cons}
 use borrow.Author.Tests.{eqb-false}
 use Rattle.bits.specs.Lists.{fold}
 use Rattle.bits.proofs.Lists.{fold_append}
 use Rattle.bits.proofs.Bools.{and_parts, either}
 use Rattle.circuit.specs.declared.gate.Gate.{Gate}
-use Rattle.circuit.specs.Gate.{max_lines, max_gates, apply, valid}
-use Rattle.circuit.specs.Outcome.{Outcome, served, refused, and_then}
-use Rattle.circuit.specs.Refusal.{bad_state, bad_line_count}
-use Rattle.circuit.specs.Words.{gate_at, gates_of, all_valid, line_count_good, valid_from, size_outcome, check_outcome, Cascade}
+use Rattle.circuit.specs.Gate.{max_lines, max_gates, not_gate, apply, valid}
+use Rattle.circuit.specs.Outcome.{Outcome, served, refused, demand, and_then}
+use Rattle.circuit.specs.Refusal.{no_gate, bad_state, bad_line_count}
+use Rattle.circuit.specs.Words.{gate_at, gate_in, gates_of, all_valid, line_count_good, valid_from, size_outcome, check_outcome, Cascade}
 use Rattle.circuit.specs.Run.{run, run_tested, Equal, Differs, run_outcome}
 use Rattle.circuit.specs.Laws.{RunRefused}
 use Rattle.circuit.proofs.lemmas.Outcome.{demand_met, demand_failed, then_served, then_refused, then_both, then_fails, demanded, at_least}
 use Rattle.circuit.proofs.lemmas.gate.Effect.{apply_below, toggled_apply}
 use Rattle.circuit.proofs.lemmas.words.Gates.{gates_next, gates_end}
-use Rattle.circuit.proofs.lemmas.words.Tests.{words_wrong, check_lines, check_gates, gates_refused, gates_sized, check_served, served_check}
+use Rattle.circuit.proofs.lemmas.words.Tests.{from_good, from_bad, words_wrong, check_lines, check_gates, gates_refused, gates_sized, check_served, served_check}
 
 -- a turn over the words: gate i acts, by the rule f, and the others after it
 module _ (f : Gate → ℕ → ℕ) where
@@ -65,6 +65,42 @@ equal_differs n a b = (
   (λ f x h. either (eqb (run a x) (run b x)) (λ t. eqb-true _ _ t) (λ t. absurd (f x (record { state = h; outputs = eqb-false _ _ t })))),
 )
 
+-- ---- gate by gate, each of which is tested
+
+-- the outcome of the gates from index i on, on a state
+abbrev pub run_from : ℕ → ℕ → List Gate → ℕ → Outcome ℕ
+run_from n i gs s = and_then (valid_from n i gs) (λ k. served (run gs s))
+
+module _ (n : ℕ) (gs : List Gate) (i s : ℕ) where
+  -- gate i, and then the others
+  gate_ran : i < length gs
+      → run_from n i (drop i gs) s
+      ≡ and_then (demand (valid n (gate_in gs i)) no_gate i (served (apply (gate_in gs i) s))) (run_from n (i + 1) (drop (i + 1) gs))
+  unfolding fold
+  gate_ran h =
+      let g = gate_in gs i in
+      let rest = drop (i + 1) gs in
+      ap (λ (l : List Gate). run_from n i l s) (rw (add-one i) (drop-cons gs i (not_gate 0) h))
+      ∙ either (valid n g)
+      (λ v.
+      ap (λ (o : Outcome ℕ). and_then o (λ k. served (run (g ∷ rest) s))) (from_good n i g rest v)
+      ∙ sym (then_served _ _ _ (demand_met _ _ _ _ v)))
+      (λ v. then_refused _ _ _ _ (from_bad n i g rest v) ∙ sym (then_refused _ _ _ _ (demand_failed _ _ _ _ v)))
+
+  module _ (inside : i < length gs) (g : Gate) (is : g ≡ gate_in gs i) where
+    -- it was a gate, and made t of the state
+    pub gate_passed : (t : ℕ) → served t ≡ demand (valid n g) no_gate i (served (apply g s)) → run_from n i (drop i gs) s ≡ run_from n (i + 1) (drop (i + 1) gs) t
+    gate_passed t e = gate_ran inside ∙ then_served _ _ t (sym (rw is at e))
+
+    -- it was none
+    pub gate_stopped : (number place : ℕ) → refused number place ≡ demand (valid n g) no_gate i (served (apply g s)) → run_from n i (drop i gs) s ≡ refused number place
+    gate_stopped number place e = gate_ran inside ∙ then_refused _ _ number place (sym (rw is at e))
+
+  -- where no gate is left, the state stands
+  pub none_ran : length gs ≤ i → run_from n i (drop i gs) s ≡ served s
+  unfolding valid_from fold
+  none_ran h = ap (λ (l : List Gate). run_from n i l s) (drop_of_length-le gs h)
+
 -- ---- what the call answers
 
 module _ (n : ℕ) (ws : List ℕ) (s : ℕ) where
@@ -76,29 +112,6 @@ module _ (n : ℕ) (ws : List ℕ) (s : ℕ) where
     pub run_size : (number place : ℕ) → size_outcome ws max_gates ≡ refused number place → run_outcome n ws s ≡ refused number place
     unfolding run_outcome
     run_size number place e = then_refused _ _ number place (check_gates n ws max_gates lines ∙ gates_refused n ws max_gates number place e)
-
-    module _ (k : ℕ) (size : size_outcome ws max_gates ≡ served k) where
-      found : (o : Outcome ℕ) → valid_from n 0 (gates_of ws) ≡ o → check_outcome n ws max_gates ≡ o
-      found o e = check_gates n ws max_gates lines ∙ gates_sized n ws max_gates k size ∙ e
-
-      -- what the walk over the gates answers
-      abbrev pub walked : Outcome ℕ
-      walked = and_then (valid_from n 0 (gates_of ws)) (λ k. served (run (gates_of ws) s))
-
-      pub run_gate : (number place : ℕ) → refused number place ≡ walked → run_outcome n ws s ≡ refused number place
-      unfolding run_outcome
-      run_gate number place e =
-          then_refused _ _ number place (found _ (then_fails (valid_from n 0 (gates_of ws)) (λ m. run (gates_of ws) s) number place (sym e)))
-
-      pub run_outside : (t : ℕ) → served t ≡ walked → ltb s (2 ^ n) ≡ false → run_outcome n ws s ≡ refused bad_state 0
-      unfolding run_outcome
-      run_outside t f e = let (m, v, w) = then_both (valid_from n 0 (gates_of ws)) _ t (sym f) in then_served _ _ m (found _ v) ∙ demand_failed _ _ _ _ e
-
-      pub run_made : (t : ℕ) → served t ≡ walked → ltb s (2 ^ n) ≡ true → run_outcome n ws s ≡ served t
-      unfolding run_outcome
-      run_made t f e =
-          let (m, v, w) = then_both (valid_from n 0 (gates_of ws)) _ t (sym f) in
-          then_served _ _ m (found _ v) ∙ demand_met _ _ _ _ e ∙ w
 
 -- ---- refused exactly by what is wrong
 

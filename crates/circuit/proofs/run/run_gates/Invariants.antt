@@ -1,14 +1,8 @@
--- `circuit::run::run_gates` meets its contract. The loop's invariant: the gates that were passed are valid, and running what is left on the state gives the output. Assumes nothing.
-use Rattle.std.proofs.Common.{◌≡◌, ◌-◌, ◌*◌, ◌≤◌, drop}
-use Rattle.circuit.specs.Words.{gates_of, valid_from}
-use Rattle.circuit.specs.Run.{run}
+-- `circuit::run::run_gates` meets its contract. The loop's invariant: what is left decides. Assumes nothing.
+use Rattle.std.proofs.Common.{◌≡◌, drop}
+use Rattle.circuit.specs.Words.{gates_of}
+use Rattle.circuit.proofs.lemmas.run.Laws.{run_from}
 use Rattle.circuit.proofs.run.run_gates.Given as goal
 
 abbrev pub invariant-loop-i : goal.invariant-loop-i
-invariant-loop-i l =
-    (l.i ≤ l.gates)
-    × (valid_from l.n 0 (gates_of l.words) ≡ valid_from l.n l.i (gates_of (drop (3 * l.i) l.words)))
-    × (run (gates_of l.words) l.state ≡ run (gates_of (drop (3 * l.i) l.words)) l.s)
-
-abbrev pub decreases-loop-i : goal.decreases-loop-i
-decreases-loop-i l = l.gates - l.i
+invariant-loop-i l = run_from l.n 0 (gates_of l.words) l.state ≡ run_from l.n l.i (drop l.i (gates_of l.words)) l.s

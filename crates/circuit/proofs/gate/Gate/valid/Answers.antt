@@ -7,16 +7,16 @@ use Rattle.circuit.specs.Gate.{max_lines, valid}
 use Rattle.circuit.proofs.lemmas.gate.Valid.{not_valid, valid_last, both_below}
 use Rattle.circuit.proofs.gate.Gate.valid.Goals as goal
 
-pub returns-then-n-target : goal.returns-then-n-target
-returns-then-n-target c = sym (not_valid _ _ (λ v. omega (arith, v.target_below)))
+pub returns-then-n-self : goal.returns-then-n-self
+returns-then-n-self c = sym (not_valid _ _ (λ v. omega (arith, v.target_below)))
 
 pub returns-then-not-below : goal.returns-then-not-below
 returns-then-not-below c =
     sym (not_valid _ _ (λ v.
     refuted (sym c.below.ensures ∙ c.if-not-below.true) (lt-ltb _ _ (or_lt _ _ _ v.positive_below v.negative_below))))
 
-pub returns-then-positive-negative-ne0 : goal.returns-then-positive-negative-ne0
-returns-then-positive-negative-ne0 c = sym (not_valid _ _ (λ v. c.if-positive-negative-ne0.true v.apart))
+pub returns-then-self-ne0 : goal.returns-then-self-ne0
+returns-then-self-ne0 c = sym (not_valid _ _ (λ v. c.if-self-ne0.true v.apart))
 
 -- the last test decides, where the others hold
 last : (n : ℕ) (g : Gate) → g.target < n → ltb (bit_or g.positive g.negative) (2 ^ n) ≡ true → bit_and g.positive g.negative ≡ 0
@@ -27,10 +27,10 @@ last n g h b a =
 
 pub returns-then-n-gt-MAX_LINES : goal.returns-then-n-gt-MAX_LINES
 returns-then-n-gt-MAX_LINES c =
-    c.clear.ensures ∙ last c.args.n c.args.self (omega arith) (sym c.below.ensures ∙ c.if-not-below.false) c.if-positive-negative-ne0.false
+    c.clear.ensures ∙ last c.args.n c.args.self (omega arith) (sym c.below.ensures ∙ c.if-not-below.false) c.if-self-ne0.false
 
 pub returns : goal.returns
 returns c =
     let k : c.args.self.target % max_lines ≡ c.args.self.target = omega arith in
     ap (λ (x : ℕ). eqb (bit_and (bit_or c.args.self.positive c.args.self.negative) x) 0) (c.line.ensures ∙ ap (◌^◌ 2) k)
-    ∙ last c.args.n c.args.self (omega arith) (sym c.below.ensures ∙ c.if-not-below.false) c.if-positive-negative-ne0.false
+    ∙ last c.args.n c.args.self (omega arith) (sym c.below.ensures ∙ c.if-not-below.false) c.if-self-ne0.false

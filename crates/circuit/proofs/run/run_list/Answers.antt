@@ -1,0 +1,18 @@
+-- `circuit::run::run_list` meets its contract.
+use Rattle.std.proofs.Common.{sym, refl, ◌∙◌, arith}
+use Rattle.std.proofs.lemmas.Result.{err_from_is_err_and}
+use Rattle.circuit.proofs.lemmas.run.Laws.{gate_passed, gate_stopped, none_ran}
+use Rattle.circuit.proofs.run.run_list.Goals as goal
+
+pub loop-i-preserved : goal.loop-i-preserved
+loop-i-preserved c =
+    c.loop-i.invariant ∙ gate_passed c.args.n c.args.gates.now c.loop-i.i c.loop-i.s (omega arith) _ refl _ c.in_ok-s.ensures
+
+pub returns-in_err-s : goal.returns-in_err-s
+returns-in_err-s c =
+    let p = err_from_is_err_and c.from_residual.result c.from_residual.ensures.1 in
+    rw (p.1, p.2) (sym (c.loop-i.invariant
+    ∙ gate_stopped c.args.n c.args.gates.now c.loop-i.i c.loop-i.s (omega arith) _ refl _ _ c.in_err-s.ensures))
+
+pub returns : goal.returns
+returns c = sym (c.loop-i.invariant ∙ none_ran c.args.n c.args.gates.now c.loop-i.i c.loop-i.s (omega arith))
