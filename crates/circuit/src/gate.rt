@@ -38,6 +38,7 @@ pub fn line(k: u64) -> u64
 }
 
 // Whether line k stands in the mask; for 64 and above, the line of the rest of k by 64.
+#[tactic(auto, unfolding(bits::specs::Digits::bit))]
 pub fn has(mask: u64, k: u64) -> bool
     ensures { result ≡ bit mask (k % max_lines) }
 {
@@ -122,6 +123,7 @@ impl Gate {
     }
 
     // The lines on which the state misses a control, of a gate that was tested.
+    #[tactic(auto, unfolding(crate::specs::Gate::missed))]
     pub fn missed(self, state: u64) -> u64
         ensures { result ≡ missed self state }
     {
@@ -129,6 +131,7 @@ impl Gate {
     }
 
     // The state after a gate that was tested: the target is inverted where no control is missed.
+    #[tactic(auto, unfolding(crate::specs::Gate::toggled, crate::specs::Gate::missed))]
     pub fn toggle(self, state: u64) -> u64
         ensures { result ≡ toggled self state }
     {
@@ -136,6 +139,7 @@ impl Gate {
     }
 
     // The state after the gate; the same one if the record is no gate on 64 lines.
+    #[tactic(auto, using(crate::proofs::lemmas::gate::Effect::toggled_apply, crate::proofs::lemmas::gate::Effect::apply_none))]
     pub fn apply(self, state: u64) -> u64
         ensures { result ≡ apply self state }
     {
@@ -146,6 +150,7 @@ impl Gate {
     }
 
     // How many controls the gate has.
+    #[tactic(auto, unfolding(crate::specs::Gate::control_count))]
     pub fn control_count(self) -> u64
         ensures { result ≡ control_count self }
     {
