@@ -84,7 +84,7 @@ fn put_text(n: u64, words: &[u64], out: &mut [u8]) -> usize
     requires { (n < 100) × (all_valid max_lines (gates_of words.now) ≡ true) × (length (text_of n (gates_of words.now)) ≤ length out.old) }
     ensures { Put result out.new (text_of n (gates_of words.now)) out.old }
 {
-    let at = crate::file::put::put_header(&mut out[0..], n);
+    let at = crate::file::put::put_header(out, n);
     at + put_lines(words, &mut out[at..])
 }
 

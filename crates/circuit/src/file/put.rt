@@ -39,20 +39,13 @@ fn put_number(out: &mut [u8], k: u64) -> usize
     1
 }
 
-// A control's sign.
-fn sign(positive: bool) -> u8
-    ensures { result ≡ (if positive then plus_sign else minus_sign) }
-{
-    if positive { b'+' } else { b'-' }
-}
-
 // Writes a tab and a control.
 fn put_control(out: &mut [u8], k: u64, positive: bool) -> usize
     requires { (k < 100) × (length (control_text (record { line = k; positive = positive })) < length out.old) }
     ensures { Put result out.new (tab ∷ control_text (record { line = k; positive = positive })) out.old }
 {
     out[0] = b'\t';
-    out[1] = sign(positive);
+    out[1] = if positive { b'+' } else { b'-' };
     2 + put_number(&mut out[2..], k)
 }
 
@@ -76,7 +69,7 @@ fn put_numbered(out: &mut [u8], word: &[u8], k: u64) -> usize
     requires { (k < 100) × (length word.now + length (number_text k) ≤ length out.old) }
     ensures { Put result out.new (word.now ++ number_text k) out.old }
 {
-    let at = bits::put(&mut out[0..], word);
+    let at = bits::put(out, word);
     at + put_number(&mut out[at..], k)
 }
 
@@ -85,7 +78,7 @@ fn put_gate_text(out: &mut [u8], g: Gate) -> usize
     requires { (g.target < 100) × (length (gate_text g) ≤ length out.old) }
     ensures { Put result out.new (gate_text g) out.old }
 {
-    let at = put_numbered(&mut out[0..], b"g\t", g.target);
+    let at = put_numbered(out, b"g\t", g.target);
     at + put_controls(&mut out[at..], g.positive, g.negative)
 }
 
@@ -94,8 +87,9 @@ pub(crate) fn put_gate_line(out: &mut [u8], g: Gate) -> usize
     requires { (g.target < 100) × (length (gate_line g) ≤ length out.old) }
     ensures { Put result out.new (gate_line g) out.old }
 {
-    let at = put_gate_text(&mut out[0..], g);
-    at + bits::put(&mut out[at..], b"\n")
+    let at = put_gate_text(out, g);
+    out[at] = b'\n';
+    at + 1
 }
 
 // Writes the header of a cascade on n lines.
@@ -103,8 +97,9 @@ pub(crate) fn put_header(out: &mut [u8], n: u64) -> usize
     requires { (n < 100) × (length (header_line n) ≤ length out.old) }
     ensures { Put result out.new (header_line n) out.old }
 {
-    let at = put_numbered(&mut out[0..], b"lines\t", n);
-    at + bits::put(&mut out[at..], b"\n")
+    let at = put_numbered(out, b"lines\t", n);
+    out[at] = b'\n';
+    at + 1
 }
 
 // How many bytes the controls of two masks have, each after a tab: three each, and a second digit from line 10 on.
