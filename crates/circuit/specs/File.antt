@@ -2,13 +2,11 @@
 use Rattle.std.specs.Prelude.{ℕ, ◌+◌, ◌-◌, ◌*◌, ◌^◌, Bool, true, false, cond, not, ◌&&◌, ◌||◌, List, [], ◌∷◌, ◌++◌, length, ◌==◌, bit_or, nat_le, nat_lt}
 use Rattle.std.specs.Bool.{beq}
 use Rattle.circuit.specs.declared.gate.Gate.{Gate}
-use Rattle.circuit.specs.declared.file.ReadAnswer.{ReadAnswer}
-use Rattle.circuit.specs.declared.file.ReadAnswer.TheVariants as read
-use Rattle.circuit.specs.declared.file.WriteAnswer.{WriteAnswer}
-use Rattle.circuit.specs.declared.file.WriteAnswer.TheVariants as write
+-- what a served reading tells: the line count, the number of gates, the bytes taken
+pub use Rattle.circuit.specs.declared.file.ReadCounts.{ReadCounts}
 use Rattle.circuit.specs.Gate.{max_gates, Control}
 use Rattle.circuit.specs.Outcome.{Outcome, served, refused, demand, and_then, written}
-use Rattle.circuit.specs.Refusal.{refusal_number, refusal_place, wrong_form, bad_line_count, line_outside, target_controlled, not_rising, too_many_gates, no_room}
+use Rattle.circuit.specs.Refusal.{wrong_form, bad_line_count, line_outside, target_controlled, not_rising, too_many_gates, no_room}
 use Rattle.circuit.specs.Words.{gates_of, words_of, line_count_good, check_outcome}
 use Rattle.circuit.specs.Text.{tab, line_feed, plus_sign, minus_sign, lines_word, gate_word, end_word, text_of}
 
@@ -171,12 +169,6 @@ reading text =
 
 -- ---- the two calls
 
--- what a served reading tells: the line count, the number of gates, the bytes taken
-pub record ReadCounts : Type 0 where
-  pub lines : ℕ
-  pub gates : ℕ
-  pub taken : ℕ
-
 abbrev pub counts_of : Reading → ReadCounts
 counts_of c = record { lines = c.lines; gates = length c.gates; taken = c.taken }
 
@@ -203,12 +195,3 @@ write_outcome n ws room =
 -- the cascade's text at the buffer's start
 unfoldable pub write_buffer : ℕ → List ℕ → List ℕ → List ℕ
 write_buffer n ws out = written (write_outcome n ws (length out)) (text_of n (gates_of ws)) out
-
--- the answers in document 01's numbers and values
-abbrev pub of_read : ReadAnswer → Outcome ReadCounts
-of_read (read.Cascade header gates taken) = served (record { lines = header.lines; gates = gates; taken = taken })
-of_read (read.Refused r) = refused (refusal_number r) (refusal_place r)
-
-abbrev pub of_write : WriteAnswer → Outcome ℕ
-of_write (write.Bytes k) = served k
-of_write (write.Refused r) = refused (refusal_number r) (refusal_place r)

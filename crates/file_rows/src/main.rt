@@ -3,20 +3,16 @@
 
 ghost use Rattle.std.specs.Prelude.{◌≤◌, length};
 
-use circuit::file::{ReadAnswer, WriteAnswer};
-
 // Lines, gates and bytes taken.
 fn print_read(rt: &impl Print, text: &[u8]) {
     let mut out = [0u64; 3072];
     match circuit::file::read(text, &mut out) {
-        ReadAnswer::Cascade {
-            header,
-            gates,
-            taken,
-        } => {
-            rows::print_row(rt, b"read ", &[header.lines, gates as u64, taken as u64]);
-        }
-        ReadAnswer::Refused(why) => rows::print_row(rt, b"refused ", &[why.number, why.place]),
+        Ok(counts) => rows::print_row(
+            rt,
+            b"read ",
+            &[counts.lines, counts.gates as u64, counts.taken as u64],
+        ),
+        Err(why) => rows::print_row(rt, b"refused ", &[why.number(), why.place()]),
     }
 }
 
@@ -27,12 +23,7 @@ fn put(out: &mut [u8], word: &[u8]) -> usize
     if out.len() < word.len() {
         return 0;
     }
-    let mut i = 0;
-    while i < word.len() {
-        out[i] = word[i];
-        i += 1;
-    }
-    i
+    bits::put(out, word)
 }
 
 // Puts so many gate lines, and tells how many bytes they are.
@@ -40,10 +31,8 @@ fn put_gates(out: &mut [u8], gates: usize) -> usize
     ensures { result ≤ length out.old }
 {
     let mut at = 0;
-    let mut i = 0;
-    while i < gates {
+    for _ in 0..gates {
         at += put(&mut out[at..], b"g\t0\n");
-        i += 1;
     }
     at
 }
@@ -77,14 +66,12 @@ fn print_long(rt: &impl Print, gates: usize, last: &[u8]) {
 fn print_write(rt: &impl Print, lines: u64, words: &[u64]) {
     let mut out = [0u8; 32];
     match circuit::file::write(lines, words, &mut out) {
-        WriteAnswer::Bytes(written) => {
+        Ok(written) => {
             if written <= 32 {
                 let _ = rt.write_all(&out[0..written]);
             }
         }
-        WriteAnswer::Refused(why) => {
-            rows::print_row(rt, b"refused ", &[why.number, why.place]);
-        }
+        Err(why) => rows::print_row(rt, b"refused ", &[why.number(), why.place()]),
     }
 }
 

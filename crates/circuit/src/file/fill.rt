@@ -24,16 +24,16 @@ fn number(text: &[u8], at: usize) -> Numeral
     requires { (k : ℕ) × NumberAt text.now at k }
     ensures { (k : ℕ) → NumberAt text.now at k → result ≡ record { value = k; next = at + length (number_text k) } }
 {
-    let a = crate::file::scan::wide(text[at]);
-    let b = crate::file::scan::wide(text[at + 1]);
-    if b < 48 {
+    let a = text[at];
+    let b = text[at + 1];
+    if b < b'0' {
         return Numeral {
-            value: a - 48,
+            value: (a - b'0') as u64,
             next: at + 1,
         };
     }
     Numeral {
-        value: 10 * (a - 48) + (b - 48),
+        value: (10 * (a - b'0') + (b - b'0')) as u64,
         next: at + 2,
     }
 }
@@ -57,8 +57,8 @@ fn controls(text: &[u8], first: usize, target: u64) -> GateRead
     let mut at = first;
     let mut positive = 0;
     let mut negative = 0;
-    while text[at] == 9 {
-        let plus = text[at + 1] == 43;
+    while text[at] == b'\t' {
+        let plus = text[at + 1] == b'+';
         let k = number(text, at + 2);
         let line = k.value;
         positive = joined(positive, line, plus);
@@ -90,12 +90,10 @@ pub(crate) fn fill(text: &[u8], start: usize, gates: usize, out: &mut [u64])
     ensures { (gs : List Gate) → GatesAt text.now start gs → length gs ≡ gates → out.new ≡ over (words_of gs) out.old }
 {
     let mut at = start;
-    let mut i = 0;
-    while i < gates {
+    for i in 0..gates {
         let read = gate_line(text, at);
         let to = Gate::WORDS * i;
         crate::words::put_gate(&mut out[to..], read.gate);
         at = read.next;
-        i += 1;
     }
 }

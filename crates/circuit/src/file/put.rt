@@ -3,135 +3,103 @@
 ghost use Rattle.std.specs.Prelude.{◌≡◌, ◌+◌, ◌/◌, ◌%◌, ◌<◌, ◌≤◌, ◌∷◌, ◌++◌, length, if◌then◌else◌};
 ghost use Rattle.bits.specs.Lists.{Put};
 ghost use Rattle.circuit.specs.Gate.{controls_of};
-ghost use Rattle.circuit.specs.Text.{tab, digit, number_text, control_text, controls_text, header_line, gate_text, gate_line, end_line, plus_sign, minus_sign};
-ghost use Rattle.circuit.specs.private.Put.{TwoDigits, mask_gate};
+ghost use Rattle.circuit.specs.Text.{tab, digit, number_text, control_text, controls_text, header_line, gate_text, gate_line, plus_sign, minus_sign};
+ghost use Rattle.circuit.specs.private.Put.{mask_gate};
 
 use crate::gate::Gate;
 
 // The texts 00 to 99.
-pub(crate) const DIGITS: [u8; 200] = *b"0001020304050607080910111213141516171819\
+const DIGITS: [u8; 200] = *b"0001020304050607080910111213141516171819\
 2021222324252627282930313233343536373839\
 4041424344454647484950515253545556575859\
 6061626364656667686970717273747576777879\
 8081828384858687888990919293949596979899";
 
-// The first digit of a number below 100.
-fn tens(table: &[u8], k: u64) -> u8
-    requires { (TwoDigits table.now) × (k < 100) }
-    ensures { result ≡ digit (k / 10) }
+// The two digits of a number below 100, by the table.
+fn two_digits(k: u64) -> (u8, u8)
+    requires { k < 100 }
+    ensures { (result.0 ≡ digit (k / 10)) × (result.1 ≡ digit (k % 10)) }
 {
-    table[2 * (k as usize)]
-}
-
-// Its last digit.
-fn ones(table: &[u8], k: u64) -> u8
-    requires { (TwoDigits table.now) × (k < 100) }
-    ensures { result ≡ digit (k % 10) }
-{
-    table[2 * (k as usize) + 1]
-}
-
-// Writes a word.
-fn put_word(out: &mut [u8], word: &[u8]) -> usize
-    requires { length word.now ≤ length out.old }
-    ensures { Put result out.new word.now out.old }
-{
-    let size = word.len();
-    out[..size].copy_from_slice(word);
-    size
+    let at = 2 * k as usize;
+    (DIGITS[at], DIGITS[at + 1])
 }
 
 // Writes a number below 100.
-fn put_number(out: &mut [u8], k: u64, table: &[u8]) -> usize
-    requires { (TwoDigits table.now) × (k < 100) × (length (number_text k) ≤ length out.old) }
+fn put_number(out: &mut [u8], k: u64) -> usize
+    requires { (k < 100) × (length (number_text k) ≤ length out.old) }
     ensures { Put result out.new (number_text k) out.old }
 {
+    let (tens, ones) = two_digits(k);
     if 10 <= k {
-        out[0] = tens(table, k);
-        out[1] = ones(table, k);
+        out[0] = tens;
+        out[1] = ones;
         return 2;
     }
-    out[0] = ones(table, k);
+    out[0] = ones;
     1
 }
 
-// A control's sign.
-fn sign(positive: bool) -> u8
-    ensures { result ≡ (if positive then plus_sign else minus_sign) }
-{
-    if positive {
-        return 43;
-    }
-    45
-}
-
 // Writes a tab and a control.
-fn put_control(out: &mut [u8], k: u64, positive: bool, table: &[u8]) -> usize
-    requires { (TwoDigits table.now) × (k < 100) × (length (control_text (record { line = k; positive = positive })) < length out.old) }
+fn put_control(out: &mut [u8], k: u64, positive: bool) -> usize
+    requires { (k < 100) × (length (control_text (record { line = k; positive = positive })) < length out.old) }
     ensures { Put result out.new (tab ∷ control_text (record { line = k; positive = positive })) out.old }
 {
-    out[0] = 9;
-    out[1] = sign(positive);
-    2 + put_number(&mut out[2..], k, table)
+    out[0] = b'\t';
+    out[1] = if positive { b'+' } else { b'-' };
+    2 + put_number(&mut out[2..], k)
 }
 
 // Writes the controls of two masks, each after a tab, by rising line.
-fn put_controls(out: &mut [u8], positive: u64, negative: u64, table: &[u8]) -> usize
-    requires { (TwoDigits table.now) × (length (controls_text (controls_of (mask_gate positive negative))) ≤ length out.old) }
+fn put_controls(out: &mut [u8], positive: u64, negative: u64) -> usize
+    requires { length (controls_text (controls_of (mask_gate positive negative))) ≤ length out.old }
     ensures { Put result out.new (controls_text (controls_of (mask_gate positive negative))) out.old }
 {
     let mut left = positive | negative;
     let mut at = 0;
     while left != 0 {
         let k = crate::gate::lowest(left);
-        at += put_control(&mut out[at..], k, crate::gate::has(positive, k), table);
+        at += put_control(&mut out[at..], k, crate::gate::has(positive, k));
         left &= left - 1;
     }
     at
 }
 
 // Writes a word and a number below 100.
-fn put_numbered(out: &mut [u8], word: &[u8], k: u64, table: &[u8]) -> usize
-    requires { (TwoDigits table.now) × (k < 100) × (length word.now + length (number_text k) ≤ length out.old) }
+fn put_numbered(out: &mut [u8], word: &[u8], k: u64) -> usize
+    requires { (k < 100) × (length word.now + length (number_text k) ≤ length out.old) }
     ensures { Put result out.new (word.now ++ number_text k) out.old }
 {
-    let at = put_word(&mut out[0..], word);
-    at + put_number(&mut out[at..], k, table)
+    let at = bits::put(out, word);
+    at + put_number(&mut out[at..], k)
 }
 
 // Writes a gate's line without its LF.
-fn put_gate_text(out: &mut [u8], g: Gate, table: &[u8]) -> usize
-    requires { (TwoDigits table.now) × (g.target < 100) × (length (gate_text g) ≤ length out.old) }
+fn put_gate_text(out: &mut [u8], g: Gate) -> usize
+    requires { (g.target < 100) × (length (gate_text g) ≤ length out.old) }
     ensures { Put result out.new (gate_text g) out.old }
 {
-    let at = put_numbered(&mut out[0..], b"g\t", g.target, table);
-    at + put_controls(&mut out[at..], g.positive, g.negative, table)
+    let at = put_numbered(out, b"g\t", g.target);
+    at + put_controls(&mut out[at..], g.positive, g.negative)
 }
 
 // Writes a gate's line.
-pub(crate) fn put_gate_line(out: &mut [u8], g: Gate, table: &[u8]) -> usize
-    requires { (TwoDigits table.now) × (g.target < 100) × (length (gate_line g) ≤ length out.old) }
+pub(crate) fn put_gate_line(out: &mut [u8], g: Gate) -> usize
+    requires { (g.target < 100) × (length (gate_line g) ≤ length out.old) }
     ensures { Put result out.new (gate_line g) out.old }
 {
-    let at = put_gate_text(&mut out[0..], g, table);
-    at + put_word(&mut out[at..], b"\n")
+    let at = put_gate_text(out, g);
+    out[at] = b'\n';
+    at + 1
 }
 
 // Writes the header of a cascade on n lines.
-pub(crate) fn put_header(out: &mut [u8], n: u64, table: &[u8]) -> usize
-    requires { (TwoDigits table.now) × (n < 100) × (length (header_line n) ≤ length out.old) }
+pub(crate) fn put_header(out: &mut [u8], n: u64) -> usize
+    requires { (n < 100) × (length (header_line n) ≤ length out.old) }
     ensures { Put result out.new (header_line n) out.old }
 {
-    let at = put_numbered(&mut out[0..], b"lines\t", n, table);
-    at + put_word(&mut out[at..], b"\n")
-}
-
-// Writes `end` and its LF.
-pub(crate) fn put_end(out: &mut [u8]) -> usize
-    requires { 4 ≤ length out.old }
-    ensures { Put result out.new end_line out.old }
-{
-    put_word(out, b"end\n")
+    let at = put_numbered(out, b"lines\t", n);
+    out[at] = b'\n';
+    at + 1
 }
 
 // How many bytes the controls of two masks have, each after a tab: three each, and a second digit from line 10 on.

@@ -1,61 +1,38 @@
 // Reading at a position of a text: a byte, a field, a line.
 
-ghost use Rattle.std.specs.Prelude.{◌≡◌, ◌+◌, ◌<◌, ◌≤◌, true, false, not, ◌&&◌, ◌||◌, [], length, drop, ◌==◌, ◌≢◌, nat_le, slice_index_or};
+ghost use Rattle.std.specs.Prelude.{◌≡◌, ◌+◌, ◌<◌, ◌≤◌, true, false, ◌||◌, [], length, drop, ◌==◌, slice_index_or};
 ghost use Rattle.circuit.specs.Gate.{max_lines};
+ghost use Rattle.circuit.specs.Outcome.{outcome_of};
 ghost use Rattle.circuit.specs.Text.{plus_sign, minus_sign};
-ghost use Rattle.circuit.specs.File.{is_digit, number_of, line_of, control_of, is_end};
-ghost use Rattle.circuit.specs.private.Scan.{is_stop, field_at, line_at, starts_with, or_hundred, width, added, header_next, gate_next, controls_next, of_line, of_control, of_gate, of_header, LineEnds, ControlEnds};
+ghost use Rattle.circuit.specs.File.{number_of, is_end};
+ghost use Rattle.circuit.specs.private.Scan.{is_stop, field_at, line_at, width, numeral_at, added, line_next, control_next, controls_next, gate_next, header_next};
 
 use crate::gate::Gate;
 use crate::refusal::Refusal;
 
-const TAB: u64 = 9;
-
-const LINE_FEED: u64 = 10;
-
 // The byte that ends the header's line.
-const HEADER_END: u8 = 10;
+const HEADER_END: u8 = b'\n';
 
-// What no number field has.
-const NO_NUMBER: u64 = 100;
-
-// The number in a field, or 100, and the position after the field.
+// The number in a field, and the position after the field.
 #[derive(Clone, Copy)]
 pub struct Numeral {
     pub value: u64,
     pub next: usize,
 }
 
-// A line of the cascade and the position after its field, or a refusal.
+// A control, and the position after its field.
 #[derive(Clone, Copy)]
-pub enum LineAnswer {
-    Line { line: u64, next: usize },
-    Refused(Refusal),
+pub struct ControlRead {
+    pub line: u64,
+    pub positive: bool,
+    pub next: usize,
 }
 
-// A control and the position after its field, or a refusal.
+// The line count, and the position after its line.
 #[derive(Clone, Copy)]
-pub enum ControlAnswer {
-    Control {
-        line: u64,
-        positive: bool,
-        next: usize,
-    },
-    Refused(Refusal),
-}
-
-// The position after a gate line, or a refusal.
-#[derive(Clone, Copy)]
-pub enum GateAnswer {
-    Next(usize),
-    Refused(Refusal),
-}
-
-// A line count and the position after its line, or a refusal.
-#[derive(Clone, Copy)]
-pub enum HeaderAnswer {
-    Lines { lines: u64, next: usize },
-    Refused(Refusal),
+pub struct HeaderNext {
+    pub lines: u64,
+    pub next: usize,
 }
 
 // What the controls of a gate line come to: the lowest line that may follow, whether they rise, and whether the target is apart.
@@ -66,175 +43,95 @@ pub struct Seen {
     pub apart: bool,
 }
 
-pub(crate) fn wide(b: u8) -> u64
-    ensures { result ≡ b }
-{
-    b as u64
-}
-
 // The byte at a position; LF past the end.
-pub(crate) fn byte(text: &[u8], at: usize) -> u64
+fn byte(text: &[u8], at: usize) -> u8
     ensures { result ≡ slice_index_or text.now at 10 }
 {
-    if at < text.len() {
-        return wide(text[at]);
+    match text.get(at) {
+        Some(b) => *b,
+        None => b'\n',
     }
-    LINE_FEED
-}
-
-// Whether the byte is a digit.
-fn digit(b: u64) -> bool
-    ensures { result ≡ is_digit b }
-{
-    if b < 48 {
-        return false;
-    }
-    b <= 57
 }
 
 // Whether the byte ends a field.
-fn stop(b: u64) -> bool
+fn stop(b: u8) -> bool
     ensures { result ≡ is_stop b }
 {
-    if b == TAB {
-        return true;
-    }
-    b == LINE_FEED
+    b == b'\t' || b == b'\n'
 }
 
 // Whether the byte is a control's sign.
-fn sign(b: u64) -> bool
+fn sign(b: u8) -> bool
     ensures { result ≡ (b == plus_sign || b == minus_sign) }
 {
-    match b {
-        43 | 45 => true,
-        _ => false,
-    }
+    b == b'+' || b == b'-'
 }
 
 // How many digits a number below 100 has.
 pub(crate) fn digits(k: u64) -> usize
     ensures { result ≡ width k }
 {
-    if 10 <= k {
-        return 2;
-    }
-    1
+    if 10 <= k { 2 } else { 1 }
 }
 
-// A field at a position that is no number.
-fn no_number(at: usize) -> Numeral
-    ensures { result ≡ record { value = 100; next = at } }
-{
-    Numeral {
-        value: NO_NUMBER,
-        next: at,
-    }
-}
-
-// The number in the field at a position, and the position after the field; 100 where it is none.
-fn number(text: &[u8], at: usize) -> Numeral
+// The number in the field at a position, if it has one.
+fn number(text: &[u8], at: usize) -> Option<Numeral>
     requires { at ≤ length text.now }
-    ensures { (result.value ≡ or_hundred (number_of 0 (field_at (drop at text.now)))) × ((result.value ≢ 100) → result.next ≡ at + width result.value) }
+    ensures { result ≡ numeral_at at (number_of 0 (field_at (drop at text.now))) }
 {
     let a = byte(text, at);
-    if !digit(a) {
-        return no_number(at);
+    if !a.is_ascii_digit() {
+        return None;
     }
     let b = byte(text, at + 1);
     if stop(b) {
-        return Numeral {
-            value: a - 48,
+        return Some(Numeral {
+            value: (a - b'0') as u64,
             next: at + 1,
-        };
+        });
     }
-    if a == 48 {
-        return no_number(at);
+    if a == b'0' {
+        return None;
     }
-    if !digit(b) {
-        return no_number(at);
+    if !b.is_ascii_digit() {
+        return None;
     }
     if !stop(byte(text, at + 2)) {
-        return no_number(at);
+        return None;
     }
-    Numeral {
-        value: 10 * (a - 48) + (b - 48),
+    Some(Numeral {
+        value: (10 * (a - b'0') + (b - b'0')) as u64,
         next: at + 2,
-    }
-}
-
-// Whether the text at a position starts with the word.
-fn starts(text: &[u8], at: usize, word: &[u8]) -> bool
-    requires { at ≤ length text.now }
-    ensures { result ≡ starts_with word.now (drop at text.now) }
-{
-    if text.len() - at < word.len() {
-        return false;
-    }
-    let mut i = 0;
-    while i < word.len() {
-        if text[at + i] != word[i] {
-            return false;
-        }
-        i += 1;
-    }
-    true
+    })
 }
 
 // The target or control line in the field at a position; else 1 or 3.
-fn line(text: &[u8], at: usize, n: u64, place: u64) -> LineAnswer
+fn line(text: &[u8], at: usize, n: u64, place: u64) -> Result<Numeral, Refusal>
     requires { at ≤ length text.now }
-    ensures { (of_line result ≡ line_of n place (field_at (drop at text.now))) × LineEnds at result }
+    ensures { outcome_of result ≡ line_next n place at (field_at (drop at text.now)) }
 {
-    let k = number(text, at);
-    let line = k.value;
-    let next = k.next;
-    if line == NO_NUMBER {
-        return LineAnswer::Refused(Refusal::WrongForm(place));
+    let k = number(text, at).ok_or(Refusal::WrongForm(place))?;
+    if n <= k.value {
+        return Err(Refusal::LineOutside(place));
     }
-    if n <= line {
-        return LineAnswer::Refused(Refusal::LineOutside(place));
-    }
-    LineAnswer::Line { line, next }
+    Ok(k)
 }
 
 // The control in the field at a position; else 1 or 3.
-fn control(text: &[u8], at: usize, n: u64, place: u64) -> ControlAnswer
+fn control(text: &[u8], at: usize, n: u64, place: u64) -> Result<ControlRead, Refusal>
     requires { at ≤ length text.now }
-    ensures { (of_control result ≡ control_of n place (field_at (drop at text.now))) × ControlEnds at result }
+    ensures { outcome_of result ≡ control_next n place at (field_at (drop at text.now)) }
 {
     let s = byte(text, at);
     if !sign(s) {
-        return ControlAnswer::Refused(Refusal::WrongForm(place));
+        return Err(Refusal::WrongForm(place));
     }
-    match line(text, at + 1, n, place) {
-        LineAnswer::Refused(why) => ControlAnswer::Refused(why),
-        LineAnswer::Line { line, next } => ControlAnswer::Control {
-            line,
-            positive: s == 43,
-            next,
-        },
-    }
-}
-
-// Whether lines that rose still rise with line k.
-fn rises(rising: bool, low: u64, k: u64) -> bool
-    ensures { result ≡ (rising && nat_le low k) }
-{
-    if rising {
-        return low <= k;
-    }
-    false
-}
-
-// Whether the target, apart so far, is apart from line k.
-fn avoids(apart: bool, target: u64, k: u64) -> bool
-    ensures { result ≡ (apart && not (k == target)) }
-{
-    if apart {
-        return k != target;
-    }
-    false
+    let k = line(text, at + 1, n, place)?;
+    Ok(ControlRead {
+        line: k.value,
+        positive: s == b'+',
+        next: k.next,
+    })
 }
 
 impl Seen {
@@ -256,61 +153,49 @@ impl Seen {
     {
         Seen {
             low: k + 1,
-            rising: rises(self.rising, self.low, k),
-            apart: avoids(self.apart, target, k),
+            rising: self.rising && self.low <= k,
+            apart: self.apart && k != target,
         }
     }
 }
 
 // The position after a gate line with this target, whose controls start at a position; else 1, 3, 4 or 5.
-fn controls(text: &[u8], first: usize, n: u64, place: u64, target: u64) -> GateAnswer
+fn controls(text: &[u8], first: usize, n: u64, place: u64, target: u64) -> Result<usize, Refusal>
     requires { (first ≤ length text.now) × (n ≤ max_lines) × (field_at (drop first text.now) ≡ []) }
-    ensures { of_gate result ≡ controls_next n place target first (drop first text.now) }
+    ensures { outcome_of result ≡ controls_next n place target first (drop first text.now) }
 {
     let mut at = first;
     let mut seen = Seen::none();
-    while byte(text, at) == TAB {
-        match control(text, at + 1, n, place) {
-            ControlAnswer::Refused(why) => {
-                return GateAnswer::Refused(why);
-            }
-            ControlAnswer::Control {
-                line,
-                positive: _,
-                next,
-            } => {
-                seen = seen.add(target, line);
-                at = next;
-            }
-        }
+    while byte(text, at) == b'\t' {
+        let k = control(text, at + 1, n, place)?;
+        seen = seen.add(target, k.line);
+        at = k.next;
     }
     if text.len() <= at {
-        return GateAnswer::Refused(Refusal::WrongForm(place));
+        return Err(Refusal::WrongForm(place));
     }
     if !seen.apart {
-        return GateAnswer::Refused(Refusal::TargetControlled(place));
+        return Err(Refusal::TargetControlled(place));
     }
     if !seen.rising {
-        return GateAnswer::Refused(Refusal::NotRising(place));
+        return Err(Refusal::NotRising(place));
     }
-    GateAnswer::Next(at + 1)
+    Ok(at + 1)
 }
 
 // The position after the gate line at a position, after so many gate lines; else 6, 1, 3, 4 or 5.
-pub(crate) fn gate_line(text: &[u8], start: usize, n: u64, place: u64, gates: usize) -> GateAnswer
+pub(crate) fn gate_line(text: &[u8], start: usize, n: u64, place: u64, gates: usize) -> Result<usize, Refusal>
     requires { (start ≤ length text.now) × (n ≤ max_lines) }
-    ensures { of_gate result ≡ gate_next n place gates start (drop start text.now) }
+    ensures { outcome_of result ≡ gate_next n place gates start (drop start text.now) }
 {
-    if !starts(text, start, b"g\t") {
-        return GateAnswer::Refused(Refusal::WrongForm(place));
+    if !text[start..].starts_with(b"g\t") {
+        return Err(Refusal::WrongForm(place));
     }
     if Gate::MAX_GATES <= gates {
-        return GateAnswer::Refused(Refusal::TooManyGates(place));
+        return Err(Refusal::TooManyGates(place));
     }
-    match line(text, start + 2, n, place) {
-        LineAnswer::Refused(why) => GateAnswer::Refused(why),
-        LineAnswer::Line { line, next } => controls(text, next, n, place, line),
-    }
+    let k = line(text, start + 2, n, place)?;
+    controls(text, k.next, n, place, k.value)
 }
 
 // Whether the line at a position is `end` with its LF.
@@ -318,33 +203,28 @@ pub(crate) fn ends(text: &[u8], at: usize) -> bool
     requires { at ≤ length text.now }
     ensures { result ≡ is_end (line_at (drop at text.now)) }
 {
-    starts(text, at, b"end\n")
+    text[at..].starts_with(b"end\n")
 }
 
 // The line count of a text and the position after its first line; else 1 or 2.
-pub(crate) fn header(text: &[u8]) -> HeaderAnswer
-    ensures { of_header result ≡ header_next text.now }
+pub(crate) fn header(text: &[u8]) -> Result<HeaderNext, Refusal>
+    ensures { outcome_of result ≡ header_next text.now }
 {
-    if !starts(text, 0, b"lines\t") {
-        return HeaderAnswer::Refused(Refusal::WrongForm(0));
+    if !text.starts_with(b"lines\t") {
+        return Err(Refusal::WrongForm(0));
     }
-    let k = number(text, 6);
-    let n = k.value;
-    let at = k.next;
-    if n == NO_NUMBER {
-        return HeaderAnswer::Refused(Refusal::WrongForm(0));
+    let k = number(text, 6).ok_or(Refusal::WrongForm(0))?;
+    if !crate::words::line_count_good(k.value) {
+        return Err(Refusal::BadLineCount);
     }
-    if !crate::words::line_count_good(n) {
-        return HeaderAnswer::Refused(Refusal::BadLineCount);
+    if text.len() <= k.next {
+        return Err(Refusal::WrongForm(0));
     }
-    if text.len() <= at {
-        return HeaderAnswer::Refused(Refusal::WrongForm(0));
+    if text[k.next] != HEADER_END {
+        return Err(Refusal::WrongForm(0));
     }
-    if text[at] != HEADER_END {
-        return HeaderAnswer::Refused(Refusal::WrongForm(0));
-    }
-    HeaderAnswer::Lines {
-        lines: n,
-        next: at + 1,
-    }
+    Ok(HeaderNext {
+        lines: k.value,
+        next: k.next + 1,
+    })
 }

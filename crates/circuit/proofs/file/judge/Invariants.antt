@@ -3,8 +3,8 @@ use Rattle.std.proofs.Common.{◌-◌, length}
 use Rattle.circuit.proofs.lemmas.file.Steps.{Judging}
 use Rattle.circuit.proofs.file.judge.Given as goal
 
-abbrev pub invariant-loop-why : goal.invariant-loop-why
-invariant-loop-why l = Judging l.n l.first l.text l.start l.at l.gates
+abbrev pub invariant-loop-at : goal.invariant-loop-at
+invariant-loop-at l = Judging l.n l.first l.text l.start l.at l.gates
 
-abbrev pub decreases-loop-why : goal.decreases-loop-why
-decreases-loop-why l = length l.text - l.at
+abbrev pub decreases-loop-at : goal.decreases-loop-at
+decreases-loop-at l = length l.text - l.at

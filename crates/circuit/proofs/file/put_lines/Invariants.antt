@@ -5,6 +5,3 @@ use Rattle.circuit.proofs.file.put_lines.Given as goal
 
 abbrev pub invariant-loop-i : goal.invariant-loop-i
 invariant-loop-i l = Typing l.words l.initial.out l.out l.at l.i
-
-abbrev pub decreases-loop-i : goal.decreases-loop-i
-decreases-loop-i l = l.gates - l.i

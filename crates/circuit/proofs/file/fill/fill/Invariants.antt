@@ -8,6 +8,3 @@ use Rattle.circuit.proofs.file.fill.fill.Given as goal
 abbrev pub invariant-loop-i : goal.invariant-loop-i
 invariant-loop-i l =
     (l.i ≤ l.gates) × (length l.out ≡ length l.initial.out) × ((gs : List Gate) → GatesAt l.text l.start gs → length gs ≡ l.gates → Filling l.text gs l.initial.out l.at l.i l.out)
-
-abbrev pub decreases-loop-i : goal.decreases-loop-i
-decreases-loop-i l = l.gates - l.i

@@ -15,7 +15,7 @@ some c = ⊎_elim (λ z. absurd (c.loop-left-test.true z)) (λ p. p) (eq-zero-or
 
 pub loop-left-init : goal.loop-left-init
 loop-left-init c =
-    putting_start c.args.positive c.args.negative _ (or_lt 64 _ _ c.ranges.positive.fits c.ranges.negative.fits) c.requires.1
+    putting_start c.args.positive c.args.negative _ (or_lt 64 _ _ c.ranges.positive.fits c.ranges.negative.fits) c.requires
 
 -- it is below 64, and its control has room
 below : (c : After-lowest-k) → c.lowest-k.result < max_lines
@@ -34,7 +34,7 @@ slice_bounds-put_control-count c = omega (arith, room (goal.at.slice_bounds-put_
 
 pub put_control-at-requires : goal.put_control-at-requires
 put_control-at-requires c =
-    (c.requires.0, omega (arith, below (goal.at.put_control-at-requires c).After-lowest-k), omega (arith, room (goal.at.put_control-at-requires c).After-lowest-k, rest_length c.loop-left.out c.loop-left.at (omega (arith, room (goal.at.put_control-at-requires c).After-lowest-k)), control_length (record { line = c.lowest-k.result; positive = c.has.result }), control_length (control_on c.args.positive c.lowest-k.result)))
+    (omega (arith, below (goal.at.put_control-at-requires c).After-lowest-k), omega (arith, room (goal.at.put_control-at-requires c).After-lowest-k, rest_length c.loop-left.out c.loop-left.at (omega (arith, room (goal.at.put_control-at-requires c).After-lowest-k)), control_length (record { line = c.lowest-k.result; positive = c.has.result }), control_length (control_on c.args.positive c.lowest-k.result)))
 
 pub overflow_add-at : goal.overflow_add-at
 overflow_add-at c = omega (arith, room (goal.at.overflow_add-at c).After-lowest-k, c.put_control-at.ensures.count)

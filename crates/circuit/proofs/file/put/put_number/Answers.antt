@@ -21,8 +21,8 @@ returns-then-k-ge10 c =
     record {
       count = sym (ap length e);
       buffer =
-          sets-eq (c.tens.result ∷ c.ones.result ∷ []) c.args.out.now 0 (omega (arith, ap length e))
-          ∙ ap₂ (λ (x y : ℕ). over (x ∷ y ∷ []) c.args.out.now) c.tens.ensures c.ones.ensures
+          sets-eq (c.two_digits-tens.result.0 ∷ c.two_digits-tens.result.1 ∷ []) c.args.out.now 0 (omega (arith, ap length e))
+          ∙ ap₂ (λ (x y : ℕ). over (x ∷ y ∷ []) c.args.out.now) c.two_digits-tens.ensures.0 c.two_digits-tens.ensures.1
           ∙ ap (λ (l : List ℕ). over l c.args.out.now) (sym e);
     }
 
@@ -35,7 +35,7 @@ returns c =
     record {
       count = sym (ap length e);
       buffer =
-          sets-eq (c.ones-2.result ∷ []) c.args.out.now 0 (omega (arith, ap length e))
-          ∙ ap (λ (x : ℕ). over (x ∷ []) c.args.out.now) (c.ones-2.ensures ∙ low c.args.k c.if-k-ge10.false)
+          sets-eq (c.two_digits-tens.result.1 ∷ []) c.args.out.now 0 (omega (arith, ap length e))
+          ∙ ap (λ (x : ℕ). over (x ∷ []) c.args.out.now) (c.two_digits-tens.ensures.1 ∙ low c.args.k c.if-k-ge10.false)
           ∙ ap (λ (l : List ℕ). over l c.args.out.now) (sym e);
     }

@@ -1,9 +1,9 @@
 -- The laws of the writer: bytes put at the start of a buffer and after those, the lines of a mask, and the controls that it writes. Assumes nothing.
-use Rattle.std.proofs.Common.{◌≡◌, ℕ, zero, suc, ◌+◌, ◌-◌, ◌*◌, ◌/◌, ◌^◌, ◌<◌, ◌≤◌, Bool, true, false, cond, leb, List, [], ◌∷◌, ◌++◌, map, length, take, drop, set, sym, refl, ap, ◌∙◌, subst, ap₂, append_assoc, append-nil, div-lt_iff_lt-mul, arith, length-append, length-drop, length-set, length-take, take_all, pow_pos, le-leb}
+use Rattle.std.proofs.Common.{◌≡◌, ℕ, zero, suc, ◌+◌, ◌-◌, ◌*◌, ◌/◌, ◌^◌, ◌<◌, ◌≤◌, Bool, true, false, cond, leb, List, [], ◌∷◌, ◌++◌, map, length, take, drop, set, sym, refl, ap, ◌∙◌, subst, ap₂, append_assoc, append-nil, div-lt_iff_lt-mul, arith, drop-drop, length-append, length-drop, length-set, length-take, take_all, pow_pos, le-leb}
 use mathlib.Core.List.{map-append}
 use lib.Bits.{bit_and, bit_or, or_lt, and_le_l}
 use lib.Count.{ones, count_trailing_zeros}
-use lib.Seq.{sets-eq}
+use lib.Seq.{sets-eq, take-append_seam, drop-append-add}
 use borrow.Author.Tests.{lt-leb}
 use borrow.Rule.Slice.PartMut.{put_mid, same_len_mid}
 use Rattle.bits.specs.Digits.{bit, lines_in}
@@ -59,6 +59,30 @@ written_first out r last new p l =
 
 pub written_put : (first out : List ℕ) (at : ℕ) (front : List ℕ) → Written first out at front → Put at out front first
 written_put first out at front w = record { count = w.long; buffer = w.is }
+
+-- after the first bytes, others that were put at the start of the rest
+pub put_then : (first out : List ℕ) (at : ℕ) (front : List ℕ) → Put at out front first → length out ≡ length first → (r : ℕ) (last new : List ℕ) → at ≤ length out
+    → Put r last new (take (length out - at) (drop at out)) → length last ≡ length (take (length out - at) (drop at out))
+    → Put (at + r) (put_mid at (length out - at) out last) (front ++ new) first
+put_then first out at front p s r last new h q l =
+    written_put _ _ _ _ (written_more first out at front (record { is = p.buffer; long = p.count; same = s }) r last new h q l)
+
+-- after the first bytes, one more
+pub put_byte : (first out : List ℕ) (at : ℕ) (front : List ℕ) (b : ℕ) → Put at out front first → at < length out → Put (at + 1) (set out at b) (front ++ (b ∷ [])) first
+put_byte first out at front b p h =
+    let k : ℕ = length front in
+    let c : at ≡ k = p.count in
+    let n : length (front ++ (b ∷ [])) ≡ k + 1 = omega (arith, length-append front (b ∷ [])) in
+    let e : k + length {A = ℕ} (b ∷ []) ≡ k + 1 = omega arith in
+    record {
+      count = omega arith;
+      buffer =
+          ap (λ (i : ℕ). set out i b) c
+          ∙ sets-eq (b ∷ []) out k (omega arith)
+          ∙ ap (λ (i : ℕ). (take k out ++ (b ∷ [])) ++ drop i out) e
+          ∙ ap₂ (λ (x y : List ℕ). (x ++ (b ∷ [])) ++ y) (ap (take k) p.buffer ∙ take-append_seam front (drop k first)) (ap (drop (k + 1)) p.buffer ∙ drop-append-add front (drop k first) 1 ∙ drop-drop 1 k first)
+          ∙ ap (λ (i : ℕ). (front ++ (b ∷ [])) ++ drop i first) (sym n);
+    }
 
 pub rest_length : (out : List ℕ) (at : ℕ) → at ≤ length out → length (take (length out - at) (drop at out)) ≡ length out - at
 rest_length out at h = omega (arith, length-take (length out - at) (drop at out), length-drop at out)

@@ -2,7 +2,6 @@
 use Rattle.std.proofs.Common.{◌≡◌, ℕ, zero, suc, ◌+◌, ◌*◌, ◌/◌, ◌%◌, ◌<◌, Bool, true, ◌&&◌, eqb, List, [], ◌∷◌, length, get_or, ap, ◌∙◌, arith, eqb-true}
 use Rattle.bits.proofs.Bools.{and_parts}
 use Rattle.circuit.specs.Text.{digit}
-use Rattle.circuit.specs.private.Put.{TwoDigits}
 
 -- the texts 00 to 99
 unfoldable pub digits : List ℕ
@@ -36,14 +35,11 @@ from (a ∷ b ∷ l) j (suc k) e h =
     let v : 2 * suc k + 1 ≡ suc (suc (2 * k + 1)) = omega arith in
     (ap (λ (m : ℕ). get_or (a ∷ b ∷ l) m 0) u ∙ p ∙ ap (λ (m : ℕ). digit (m / 10)) z, ap (λ (m : ℕ). get_or (a ∷ b ∷ l) m 0) v ∙ q ∙ ap (λ (m : ℕ). digit (m % 10)) z)
 
-pub two_digits : TwoDigits digits
-two_digits = record { long = omega (arith, size); tens = λ k h. (entry k h).0; ones = λ k h. (entry k h).1 }
+pub two_digits_of : (k : ℕ) → k < 100 → (get_or digits (2 * k) 0 ≡ digit (k / 10)) × (get_or digits (2 * k + 1) 0 ≡ digit (k % 10))
+two_digits_of k h =
+    let (p, q) = from digits 0 k right (omega (arith, size)) in
+    let z : 0 + k ≡ k = omega arith in
+    (p ∙ ap (λ (m : ℕ). digit (m / 10)) z, q ∙ ap (λ (m : ℕ). digit (m % 10)) z)
   where
     size : length digits ≡ 200
     size = unfold digits in mathlib.Core.Path.refl
-
-    entry : (k : ℕ) → k < 100 → (get_or digits (2 * k) 0 ≡ digit (k / 10)) × (get_or digits (2 * k + 1) 0 ≡ digit (k % 10))
-    entry k h =
-        let (p, q) = from digits 0 k right (omega (arith, size)) in
-        let z : 0 + k ≡ k = omega arith in
-        (p ∙ ap (λ (m : ℕ). digit (m / 10)) z, q ∙ ap (λ (m : ℕ). digit (m % 10)) z)

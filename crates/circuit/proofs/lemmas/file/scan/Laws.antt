@@ -1,14 +1,18 @@
 -- The laws of what stands at a position of a text: the field there, the fields and the line from there on. Assumes nothing.
-use Rattle.std.proofs.Common.{◌≡◌, ℕ, zero, suc, ◌+◌, ◌-◌, ◌*◌, ◌<◌, ◌≤◌, Bool, true, false, not, ◌&&◌, ◌||◌, eqb, ltb, leb, List, [], ◌∷◌, ◌++◌, length, get_or, drop, sym, refl, ap, ◌∙◌, ap₂, true≢false, arith, drop_of_length-le, get_or-drop, drop-cons, ltb-false, ltb-true, le-ltb, lt-ltb, eq-eqb, ne_eqb, eqb-true, le-leb, leb-true}
+use Rattle.std.proofs.Common.{◌≡◌, ℕ, zero, suc, ◌+◌, ◌-◌, ◌*◌, ◌<◌, ◌≤◌, Bool, true, false, not, ◌&&◌, ◌||◌, eqb, ltb, leb, List, [], ◌∷◌, ◌++◌, Option, None, Some, length, get_or, take, drop, sym, refl, ap, ◌∙◌, ap₂, true≢false, arith, drop_of_length-le, get_or-drop, drop-cons, ltb-false, ltb-true, le-ltb, lt-ltb, eq-eqb, ne_eqb, eqb-true, le-leb, leb-true, length-drop, drop-drop, take_all}
 use mathlib.Core.Bool.{false≢true}
 use borrow.Author.Tests.{lt-leb}
+use Rattle.std.specs.List.{starts_with}
+use Rattle.std.proofs.lemmas.Bool.Decides.{Decides-eqb}
+use Rattle.std.proofs.lemmas.Slice.Eq.{starts_is}
 use Rattle.bits.proofs.Bools.{either, and_parts, both, cond-true, cond-false, and_second, table₂}
 use Rattle.circuit.specs.Outcome.{Outcome, served, refused, demand, and_then}
 use Rattle.circuit.specs.Refusal.{wrong_form, line_outside}
 use Rattle.circuit.specs.Text.{tab, line_feed, plus_sign, minus_sign}
 use Rattle.circuit.specs.File.{is_digit, number_of, line_of, control_of}
-use Rattle.circuit.specs.private.Scan.{is_stop, field_at, starts_with, or_hundred, width}
-use Rattle.circuit.proofs.lemmas.Outcome.{demand_met, demand_failed, then_served, then_refused}
+use Rattle.circuit.specs.declared.file.scan.Numeral.{Numeral}
+use Rattle.circuit.specs.private.Scan.{is_stop, field_at, width, numeral_at, line_next, control_next}
+use Rattle.circuit.proofs.lemmas.Outcome.{unserved, demand_met, demand_failed, then_served, then_refused, then_both, then_fails}
 use Rattle.circuit.proofs.lemmas.file.Numbers.{text_number, number_else, number_wrong}
 
 -- ---- a byte
@@ -69,30 +73,36 @@ digit_high b e = let (x, y) = and_parts (leb 48 b) (leb b 57) e in leb-true b 57
 
 -- ---- the number there, by its first three bytes
 
-abbrev number_at : List ℕ → ℕ
-number_at r = or_hundred (number_of 0 (field_at r))
+abbrev number_at : ℕ → List ℕ → Option Numeral
+number_at at r = numeral_at at (number_of 0 (field_at r))
 
 -- a field whose first byte is no digit
-no_digit : (a : ℕ) (f : List ℕ) → is_digit a ≡ false → or_hundred (number_of 0 (a ∷ f)) ≡ 100
+no_digit : (at a : ℕ) (f : List ℕ) → is_digit a ≡ false → numeral_at at (number_of 0 (a ∷ f)) ≡ None
 unfolding number_of
-no_digit a [] e = ap or_hundred (demand_failed _ _ _ _ e)
-no_digit a (b ∷ []) e = ap or_hundred (demand_failed _ _ _ _ (ap (λ (x : Bool). x && (is_digit b && not (eqb a 48))) e))
-no_digit a (b ∷ d ∷ f) e = refl
+no_digit at a [] e = ap (numeral_at at) (demand_failed _ _ _ _ e)
+no_digit at a (b ∷ []) e = ap (numeral_at at) (demand_failed _ _ _ _ (ap (λ (x : Bool). x && (is_digit b && not (eqb a 48))) e))
+no_digit at a (b ∷ d ∷ f) e = refl
 
-pub number_first : (r : List ℕ) → is_digit (get_or r 0 10) ≡ false → 100 ≡ number_at r
+first_none : (at : ℕ) (r : List ℕ) → is_digit (get_or r 0 10) ≡ false → None ≡ number_at at r
 unfolding number_of
-number_first [] e = sym (ap (λ (f : List ℕ). or_hundred (number_of 0 f)) field_none)
-number_first (a ∷ r) e =
+first_none at [] e = sym (ap (λ (f : List ℕ). numeral_at at (number_of 0 f)) field_none)
+first_none at (a ∷ r) e =
     sym (either (is_stop a)
-    (λ s. ap (λ (f : List ℕ). or_hundred (number_of 0 f)) (field_stop a r s))
-    (λ s. ap (λ (f : List ℕ). or_hundred (number_of 0 f)) (field_more a r s) ∙ no_digit a (field_at r) e))
+    (λ s. ap (λ (f : List ℕ). numeral_at at (number_of 0 f)) (field_stop a r s))
+    (λ s. ap (λ (f : List ℕ). numeral_at at (number_of 0 f)) (field_more a r s) ∙ no_digit at a (field_at r) e))
 
-pub number_one : (r : List ℕ) → is_digit (get_or r 0 10) ≡ true → is_stop (get_or r 1 10) ≡ true → get_or r 0 10 - 48 ≡ number_at r
+-- the number k, in a field of so many bytes
+numeral : (at k w : ℕ) → width k ≡ w → Some (record { value = k; next = at + w }) ≡ numeral_at at (served k)
+numeral at k w e = ap (λ (x : ℕ). Some (record { value = k; next = at + x })) (sym e)
+
+one_digit : (at : ℕ) (r : List ℕ) → is_digit (get_or r 0 10) ≡ true → is_stop (get_or r 1 10) ≡ true
+    → Some (record { value = get_or r 0 10 - 48; next = at + 1 }) ≡ number_at at r
 unfolding number_of
-number_one [] e s = absurd (false≢true e)
-number_one (a ∷ r) e s =
-    sym (ap (λ (f : List ℕ). or_hundred (number_of 0 f)) (field_more a r (digit_more a e) ∙ ap (λ (f : List ℕ). a ∷ f) (field_empty r s))
-    ∙ ap or_hundred (demand_met _ _ _ _ e))
+one_digit at [] e s = absurd (false≢true e)
+one_digit at (a ∷ r) e s =
+    numeral at (a - 48) 1 (width_short (a - 48) (omega (arith, digit_low a e, digit_high a e)))
+    ∙ sym (ap (λ (f : List ℕ). numeral_at at (number_of 0 f)) (field_more a r (digit_more a e) ∙ ap (λ (f : List ℕ). a ∷ f) (field_empty r s))
+    ∙ ap (numeral_at at) (demand_met _ _ _ _ e))
 
 -- two bytes at least
 two_bytes : (a : ℕ) (r : List ℕ) → is_digit a ≡ true → is_stop (get_or r 0 10) ≡ false → field_at (a ∷ r) ≡ a ∷ get_or r 0 10 ∷ field_at (drop 1 r)
@@ -100,10 +110,10 @@ two_bytes a [] e s = absurd (true≢false s)
 two_bytes a (b ∷ r) e s = field_more a (b ∷ r) (digit_more a e) ∙ ap (λ (f : List ℕ). a ∷ f) (field_more b r s)
 
 -- a field of two bytes at least that is no number
-two_wrong : (a b : ℕ) (f : List ℕ) → (is_digit a && (is_digit b && not (eqb a 48))) ≡ false → or_hundred (number_of 0 (a ∷ b ∷ f)) ≡ 100
+two_wrong : (at a b : ℕ) (f : List ℕ) → (is_digit a && (is_digit b && not (eqb a 48))) ≡ false → numeral_at at (number_of 0 (a ∷ b ∷ f)) ≡ None
 unfolding number_of
-two_wrong a b [] e = ap or_hundred (demand_failed _ _ _ _ e)
-two_wrong a b (d ∷ f) e = refl
+two_wrong at a b [] e = ap (numeral_at at) (demand_failed _ _ _ _ e)
+two_wrong at a b (d ∷ f) e = refl
 
 and_last : (a b : Bool) → (a && (b && false)) ≡ false
 and_last = table₂ _ _ refl
@@ -111,72 +121,125 @@ and_last = table₂ _ _ refl
 and_middle : (a c : Bool) → (a && (false && c)) ≡ false
 and_middle = table₂ _ _ refl
 
-pub number_zero : (r : List ℕ) → is_digit (get_or r 0 10) ≡ true → is_stop (get_or r 1 10) ≡ false → get_or r 0 10 ≡ 48 → 100 ≡ number_at r
-number_zero [] e s z = absurd (false≢true e)
-number_zero (a ∷ r) e s z =
-    sym (ap (λ (f : List ℕ). or_hundred (number_of 0 f)) (two_bytes a r e s)
-    ∙ two_wrong a (get_or r 0 10) (field_at (drop 1 r))
+zero_none : (at : ℕ) (r : List ℕ) → is_digit (get_or r 0 10) ≡ true → is_stop (get_or r 1 10) ≡ false → get_or r 0 10 ≡ 48 → None ≡ number_at at r
+zero_none at [] e s z = absurd (false≢true e)
+zero_none at (a ∷ r) e s z =
+    sym (ap (λ (f : List ℕ). numeral_at at (number_of 0 f)) (two_bytes a r e s)
+    ∙ two_wrong at a (get_or r 0 10) (field_at (drop 1 r))
     (ap (λ (x : Bool). is_digit a && (is_digit (get_or r 0 10) && not x)) (eq-eqb a 48 z) ∙ and_last (is_digit a) (is_digit (get_or r 0 10))))
 
-pub number_second : (r : List ℕ) → is_digit (get_or r 0 10) ≡ true → is_stop (get_or r 1 10) ≡ false → is_digit (get_or r 1 10) ≡ false → 100 ≡ number_at r
-number_second [] e s z = absurd (false≢true e)
-number_second (a ∷ r) e s z =
-    sym (ap (λ (f : List ℕ). or_hundred (number_of 0 f)) (two_bytes a r e s)
-    ∙ two_wrong a (get_or r 0 10) (field_at (drop 1 r))
+second_none : (at : ℕ) (r : List ℕ) → is_digit (get_or r 0 10) ≡ true → is_stop (get_or r 1 10) ≡ false → is_digit (get_or r 1 10) ≡ false → None ≡ number_at at r
+second_none at [] e s z = absurd (false≢true e)
+second_none at (a ∷ r) e s z =
+    sym (ap (λ (f : List ℕ). numeral_at at (number_of 0 f)) (two_bytes a r e s)
+    ∙ two_wrong at a (get_or r 0 10) (field_at (drop 1 r))
     (ap (λ (x : Bool). is_digit a && (x && not (eqb a 48))) z ∙ and_middle (is_digit a) (not (eqb a 48))))
 
 -- a third byte in the field
-three_wrong : (a b : ℕ) (f : List ℕ) → (f ≡ [] → ⊥) → or_hundred (number_of 0 (a ∷ b ∷ f)) ≡ 100
+three_wrong : (at a b : ℕ) (f : List ℕ) → (f ≡ [] → ⊥) → numeral_at at (number_of 0 (a ∷ b ∷ f)) ≡ None
 unfolding number_of
-three_wrong a b [] h = absurd (h refl)
-three_wrong a b (d ∷ f) h = refl
+three_wrong at a b [] h = absurd (h refl)
+three_wrong at a b (d ∷ f) h = refl
 
 goes_on_lem : (r : List ℕ) → is_stop (get_or r 0 10) ≡ false → field_at r ≡ [] → ⊥
 goes_on_lem [] s e = true≢false s
 goes_on_lem (b ∷ r) s e = mathlib.Core.List.cons≢nil (sym (field_more b r s) ∙ e)
 
-pub number_third : (r : List ℕ) → is_digit (get_or r 0 10) ≡ true → is_stop (get_or r 1 10) ≡ false → is_stop (get_or r 2 10) ≡ false → 100 ≡ number_at r
-number_third [] e s z = absurd (false≢true e)
-number_third (a ∷ []) e s z = absurd (true≢false s)
-number_third (a ∷ b ∷ r) e s z =
-    sym (ap (λ (f : List ℕ). or_hundred (number_of 0 f)) (two_bytes a (b ∷ r) e s) ∙ three_wrong a b (field_at r) (goes_on_lem r z))
+third_none : (at : ℕ) (r : List ℕ) → is_digit (get_or r 0 10) ≡ true → is_stop (get_or r 1 10) ≡ false → is_stop (get_or r 2 10) ≡ false → None ≡ number_at at r
+third_none at [] e s z = absurd (false≢true e)
+third_none at (a ∷ []) e s z = absurd (true≢false s)
+third_none at (a ∷ b ∷ r) e s z =
+    sym (ap (λ (f : List ℕ). numeral_at at (number_of 0 f)) (two_bytes a (b ∷ r) e s) ∙ three_wrong at a b (field_at r) (goes_on_lem r z))
 
-pub number_two : (r : List ℕ) → is_digit (get_or r 0 10) ≡ true → is_stop (get_or r 1 10) ≡ false → is_digit (get_or r 1 10) ≡ true → (get_or r 0 10 ≡ 48 → ⊥) → is_stop (get_or r 2 10) ≡ true
-    → 10 * (get_or r 0 10 - 48) + (get_or r 1 10 - 48) ≡ number_at r
+both_digits : (at : ℕ) (r : List ℕ) → is_digit (get_or r 0 10) ≡ true → is_stop (get_or r 1 10) ≡ false → is_digit (get_or r 1 10) ≡ true → (get_or r 0 10 ≡ 48 → ⊥) → is_stop (get_or r 2 10) ≡ true
+    → Some (record { value = 10 * (get_or r 0 10 - 48) + (get_or r 1 10 - 48); next = at + 2 }) ≡ number_at at r
 unfolding number_of
-number_two [] e s d h z = absurd (false≢true e)
-number_two (a ∷ []) e s d h z = absurd (true≢false s)
-number_two (a ∷ b ∷ r) e s d h z =
-    sym (ap (λ (f : List ℕ). or_hundred (number_of 0 f)) (two_bytes a (b ∷ r) e s ∙ ap (λ (f : List ℕ). a ∷ b ∷ f) (field_empty r z))
-    ∙ ap or_hundred (demand_met _ _ _ _ (both e (both d (ap not (ne_eqb a 48 h))))))
+both_digits at [] e s d h z = absurd (false≢true e)
+both_digits at (a ∷ []) e s d h z = absurd (true≢false s)
+both_digits at (a ∷ b ∷ r) e s d h z =
+    numeral at (10 * (a - 48) + (b - 48)) 2 (width_long (10 * (a - 48) + (b - 48)) (omega (arith, digit_low a e, h)))
+    ∙ sym (ap (λ (f : List ℕ). numeral_at at (number_of 0 f)) (two_bytes a (b ∷ r) e s ∙ ap (λ (f : List ℕ). a ∷ b ∷ f) (field_empty r z))
+    ∙ ap (numeral_at at) (demand_met _ _ _ _ (both e (both d (ap not (ne_eqb a 48 h))))))
+
+-- by the bytes a, b and d at a position and after it
+module _ (text : List ℕ) (at a : ℕ) (is_a : a ≡ get_or text at 10) where
+  byte_a : a ≡ get_or (drop at text) 0 10
+  byte_a = is_a ∙ byte_at text at
+
+  pub number_first : is_digit a ≡ false → None ≡ numeral_at at (number_of 0 (field_at (drop at text)))
+  number_first e = first_none at (drop at text) (sym (ap is_digit byte_a) ∙ e)
+
+  module _ (digit_a : is_digit a ≡ true) (b : ℕ) (is_b : b ≡ get_or text (at + 1) 10) where
+    low : is_digit (get_or (drop at text) 0 10) ≡ true
+    low = sym (ap is_digit byte_a) ∙ digit_a
+
+    byte_b : b ≡ get_or (drop at text) 1 10
+    byte_b = is_b ∙ byte_after text at 1
+
+    pub number_one : is_stop b ≡ true → Some (record { value = a - 48; next = at + 1 }) ≡ numeral_at at (number_of 0 (field_at (drop at text)))
+    number_one e =
+        ap (λ (x : ℕ). Some (record { value = x - 48; next = at + 1 })) byte_a ∙ one_digit at (drop at text) low (sym (ap is_stop byte_b) ∙ e)
+
+    module _ (more : is_stop b ≡ false) where
+      goes : is_stop (get_or (drop at text) 1 10) ≡ false
+      goes = sym (ap is_stop byte_b) ∙ more
+
+      pub number_zero : a ≡ 48 → None ≡ numeral_at at (number_of 0 (field_at (drop at text)))
+      number_zero e = zero_none at (drop at text) low goes (sym byte_a ∙ e)
+
+      pub number_second : is_digit b ≡ false → None ≡ numeral_at at (number_of 0 (field_at (drop at text)))
+      number_second e = second_none at (drop at text) low goes (sym (ap is_digit byte_b) ∙ e)
+
+      module _ (d : ℕ) (is_d : d ≡ get_or text (at + 2) 10) where
+        byte_d : d ≡ get_or (drop at text) 2 10
+        byte_d = is_d ∙ byte_after text at 2
+
+        pub number_third : is_stop d ≡ false → None ≡ numeral_at at (number_of 0 (field_at (drop at text)))
+        number_third e = third_none at (drop at text) low goes (sym (ap is_stop byte_d) ∙ e)
+
+        pub number_two : (a ≡ 48 → ⊥) → is_digit b ≡ true → is_stop d ≡ true
+            → Some (record { value = 10 * (a - 48) + (b - 48); next = at + 2 }) ≡ numeral_at at (number_of 0 (field_at (drop at text)))
+        number_two z e s =
+            ap₂ (λ (x y : ℕ). Some (record { value = 10 * (x - 48) + (y - 48); next = at + 2 })) byte_a byte_b
+            ∙ both_digits at (drop at text) low goes (sym (ap is_digit byte_b) ∙ e) (λ y. z (byte_a ∙ y)) (sym (ap is_stop byte_d) ∙ s)
 
 -- ---- the target or control line there
 
-pub line_wrong : (n i : ℕ) (f : List ℕ) → or_hundred (number_of 0 f) ≡ 100 → line_of n i f ≡ refused wrong_form i
-unfolding line_of
-line_wrong n i f e = go (number_of i f) refl
+-- a field that is no number, in line i
+pub number_none : (i at : ℕ) (f : List ℕ) → None ≡ numeral_at at (number_of 0 f) → number_of i f ≡ refused wrong_form i
+number_none i at f e = go (number_of i f) refl
   where
-    go : (o : Outcome ℕ) → number_of i f ≡ o → and_then (number_of i f) (λ k. demand (ltb k n) line_outside i (served k)) ≡ refused wrong_form i
+    go : (o : Outcome ℕ) → number_of i f ≡ o → number_of i f ≡ refused wrong_form i
+    go (served k) q = let z : None ≡ numeral_at at (served k) = e ∙ ap (numeral_at at) (number_else i 0 f k q) in absurd (cc)
+    go (refused number place) q = number_wrong i f number place q
+
+-- a field that is one
+pub number_told : (i at : ℕ) (f : List ℕ) (m : Numeral) → Some m ≡ numeral_at at (number_of 0 f) → (number_of i f ≡ served m.value) × (m.next ≡ at + width m.value)
+number_told i at f m e = go (number_of 0 f) refl
+  where
+    go : (o : Outcome ℕ) → number_of 0 f ≡ o → (number_of i f ≡ served m.value) × (m.next ≡ at + width m.value)
     go (served k) q =
-        let h : k < 100 = (text_number i f k q).0 in
-        let z : k ≡ 100 = sym (ap or_hundred (number_else i 0 f k q)) ∙ e in
-        absurd (omega arith)
-    go (refused number place) q = then_refused _ _ wrong_form i (number_wrong i f number place q)
+        let z : Some m ≡ numeral_at at (served k) = e ∙ ap (numeral_at at) q in
+        let x : m ≡ record { value = k; next = at + width k } = cc in
+        let v : m.value ≡ k = ap (λ (n : Numeral). n.value) x in
+        (number_else 0 i f k q ∙ ap served (sym v), ap (λ (n : Numeral). n.next) x ∙ ap (λ (j : ℕ). at + width j) (sym v))
+    go (refused number place) q = let z : Some m ≡ numeral_at at (refused number place) = e ∙ ap (numeral_at at) q in absurd (cc)
 
-pub number_told : (i : ℕ) (f : List ℕ) (k : ℕ) → or_hundred (number_of 0 f) ≡ k → (k ≡ 100 → ⊥) → number_of i f ≡ served k
-number_told i f k e h = go (number_of 0 f) refl
-  where
-    go : (o : Outcome ℕ) → number_of 0 f ≡ o → number_of i f ≡ served k
-    go (served m) q = number_else 0 i f m q ∙ ap served (sym (ap or_hundred q) ∙ e)
-    go (refused number place) q = absurd (h (sym e ∙ ap or_hundred q))
-
-pub line_outside_lem : (n i : ℕ) (f : List ℕ) (k : ℕ) → or_hundred (number_of 0 f) ≡ k → (k ≡ 100 → ⊥) → n ≤ k → line_of n i f ≡ refused line_outside i
+pub line_wrong : (n i at : ℕ) (f : List ℕ) → None ≡ numeral_at at (number_of 0 f) → line_next n i at f ≡ refused wrong_form i
 unfolding line_of
-line_outside_lem n i f k e h l = then_served _ _ k (number_told i f k e h) ∙ demand_failed _ _ _ _ (le-ltb k n l)
+line_wrong n i at f e = then_refused _ _ wrong_form i (then_refused _ _ wrong_form i (number_none i at f e))
 
-pub line_good : (n i : ℕ) (f : List ℕ) (k : ℕ) → or_hundred (number_of 0 f) ≡ k → (k ≡ 100 → ⊥) → k < n → line_of n i f ≡ served k
+pub line_outside_lem : (n i at : ℕ) (f : List ℕ) (m : Numeral) → Some m ≡ numeral_at at (number_of 0 f) → n ≤ m.value → line_next n i at f ≡ refused line_outside i
 unfolding line_of
-line_good n i f k e h l = then_served _ _ k (number_told i f k e h) ∙ demand_met _ _ _ _ (lt-ltb k n l)
+line_outside_lem n i at f m e l =
+    then_refused _ _ line_outside i (then_served _ _ m.value (number_told i at f m e).0 ∙ demand_failed _ _ _ _ (le-ltb m.value n l))
+
+pub line_good : (n i at : ℕ) (f : List ℕ) (m : Numeral) → Some m ≡ numeral_at at (number_of 0 f) → m.value < n → line_next n i at f ≡ served m
+unfolding line_of
+line_good n i at f m e l =
+    let t = number_told i at f m e in
+    then_served _ _ m.value (then_served _ _ m.value t.0 ∙ demand_met _ _ _ _ (lt-ltb m.value n l))
+    ∙ ap (λ (k : ℕ). served (record { value = m.value; next = k })) (sym t.1)
 
 -- ---- the control there
 
@@ -187,71 +250,67 @@ sign_more s e =
     (λ t. ap is_stop (eqb-true s minus_sign (sym (ap (λ (b : Bool). b || eqb s minus_sign) t) ∙ e)))
 
 -- LF is no sign, so a sign stands inside the text
-pub sign_inside : (r : List ℕ) → (eqb (get_or r 0 10) plus_sign || eqb (get_or r 0 10) minus_sign) ≡ true → 0 < length r
-sign_inside [] e = absurd (false≢true e)
-sign_inside (b ∷ r) e = omega arith
+signed_inside : (r : List ℕ) → (eqb (get_or r 0 10) plus_sign || eqb (get_or r 0 10) minus_sign) ≡ true → 0 < length r
+signed_inside [] e = absurd (false≢true e)
+signed_inside (b ∷ r) e = omega arith
 
-pub control_unsigned : (n i : ℕ) (r : List ℕ) → (eqb (get_or r 0 10) plus_sign || eqb (get_or r 0 10) minus_sign) ≡ false → control_of n i (field_at r) ≡ refused wrong_form i
+unsigned : (n i : ℕ) (r : List ℕ) → (eqb (get_or r 0 10) plus_sign || eqb (get_or r 0 10) minus_sign) ≡ false → control_of n i (field_at r) ≡ refused wrong_form i
 unfolding control_of
-control_unsigned n i [] e = ap (control_of n i) field_none
-control_unsigned n i (s ∷ r) e =
+unsigned n i [] e = ap (control_of n i) field_none
+unsigned n i (s ∷ r) e =
     either (is_stop s)
     (λ t. ap (control_of n i) (field_stop s r t))
     (λ t. ap (control_of n i) (field_more s r t) ∙ demand_failed _ _ _ _ e)
 
-control_signed : (n i : ℕ) (r : List ℕ) → (eqb (get_or r 0 10) plus_sign || eqb (get_or r 0 10) minus_sign) ≡ true
+signed : (n i : ℕ) (r : List ℕ) → (eqb (get_or r 0 10) plus_sign || eqb (get_or r 0 10) minus_sign) ≡ true
     → control_of n i (field_at r) ≡ and_then (line_of n i (field_at (drop 1 r))) (λ k. served (record { line = k; positive = eqb (get_or r 0 10) plus_sign }))
 unfolding control_of
-control_signed n i [] e = absurd (false≢true e)
-control_signed n i (s ∷ r) e = ap (control_of n i) (field_more s r (sign_more s e)) ∙ demand_met _ _ _ _ e
+signed n i [] e = absurd (false≢true e)
+signed n i (s ∷ r) e = ap (control_of n i) (field_more s r (sign_more s e)) ∙ demand_met _ _ _ _ e
 
-pub control_refused : (n i : ℕ) (r : List ℕ) (number place : ℕ) → (eqb (get_or r 0 10) plus_sign || eqb (get_or r 0 10) minus_sign) ≡ true
-    → line_of n i (field_at (drop 1 r)) ≡ refused number place → control_of n i (field_at r) ≡ refused number place
-control_refused n i r number place e q = control_signed n i r e ∙ then_refused _ _ number place q
+-- by the byte s at a position
+module _ (n i : ℕ) (text : List ℕ) (at s : ℕ) (is : s ≡ get_or text at 10) where
+  first : s ≡ get_or (drop at text) 0 10
+  first = is ∙ byte_at text at
 
-pub control_good : (n i : ℕ) (r : List ℕ) (k : ℕ) → (eqb (get_or r 0 10) plus_sign || eqb (get_or r 0 10) minus_sign) ≡ true
-    → line_of n i (field_at (drop 1 r)) ≡ served k → control_of n i (field_at r) ≡ served (record { line = k; positive = eqb (get_or r 0 10) plus_sign })
-control_good n i r k e q = control_signed n i r e ∙ then_served _ _ k q
+  pub control_unsigned : (eqb s plus_sign || eqb s minus_sign) ≡ false → control_next n i at (field_at (drop at text)) ≡ refused wrong_form i
+  control_unsigned e =
+      then_refused _ _ wrong_form i (unsigned n i (drop at text) (sym (ap (λ (b : ℕ). eqb b plus_sign || eqb b minus_sign) first) ∙ e))
+
+  module _ (e : (eqb s plus_sign || eqb s minus_sign) ≡ true) where
+    there : (eqb (get_or (drop at text) 0 10) plus_sign || eqb (get_or (drop at text) 0 10) minus_sign) ≡ true
+    there = sym (ap (λ (b : ℕ). eqb b plus_sign || eqb b minus_sign) first) ∙ e
+
+    pub sign_inside : at + 1 ≤ length text
+    sign_inside = omega (arith, signed_inside (drop at text) there, length-drop at text)
+
+    control_signed : control_of n i (field_at (drop at text)) ≡ and_then (line_of n i (field_at (drop (at + 1) text))) (λ k. served (record { line = k; positive = eqb s plus_sign }))
+    control_signed =
+        signed n i (drop at text) there
+        ∙ ap₂ (λ (r : List ℕ) (b : ℕ). and_then (line_of n i (field_at r)) (λ k. served (record { line = k; positive = eqb b plus_sign }))) (drop-drop 1 at text) (sym first)
+
+    pub control_refused : (number place : ℕ) → line_next n i (at + 1) (field_at (drop (at + 1) text)) ≡ refused number place
+        → control_next n i at (field_at (drop at text)) ≡ refused number place
+    control_refused number place q =
+        then_refused _ _ number place (control_signed ∙ then_refused _ _ number place (then_fails _ _ number place q))
+
+    pub control_good : (m : Numeral) → line_next n i (at + 1) (field_at (drop (at + 1) text)) ≡ served m
+        → control_next n i at (field_at (drop at text)) ≡ served (record { line = m.value; positive = eqb s plus_sign; next = m.next })
+    control_good m q =
+        let (k, a, b) = then_both (line_of n i (field_at (drop (at + 1) text))) _ m q in
+        let x : record { value = k; next = at + 1 + width k } ≡ m = unserved b in
+        then_served _ _ (record { line = k; positive = eqb s plus_sign }) (control_signed ∙ then_served _ _ k a)
+        ∙ ap (λ (y : Numeral). served (record { line = y.value; positive = eqb s plus_sign; next = y.next })) x
 
 -- ---- a text that starts with a word
 
-pub starts_true : (w r : List ℕ) → starts_with w r ≡ true → r ≡ w ++ drop (length w) r
-unfolding starts_with
-starts_true [] r e = refl
-starts_true (a ∷ w) [] e = absurd (false≢true e)
-starts_true (a ∷ w) (b ∷ r) e =
-    let (x, y) = and_parts (eqb b a) (starts_with w r) e in
-    ap₂ (λ (p : ℕ) (l : List ℕ). p ∷ l) (eqb-true b a x) (starts_true w r y)
+pub starts_true : (w r : List ℕ) → starts_with eqb r w ≡ true → r ≡ w ++ drop (length w) r
+starts_true w r e = (starts_is Decides-eqb r w (starts_with eqb r w) refl).0 e
 
-pub true_starts : (w r : List ℕ) → starts_with w (w ++ r) ≡ true
-unfolding starts_with
-true_starts [] r = refl
-true_starts (a ∷ w) r = both (eq-eqb a a refl) (true_starts w r)
+pub true_starts : (w r : List ℕ) → starts_with eqb (w ++ r) w ≡ true
+true_starts w r = (starts_is Decides-eqb (w ++ r) w (starts_with eqb (w ++ r) w) refl).1 r refl
 
-pub starts_short : (w r : List ℕ) → length r < length w → starts_with w r ≡ false
-unfolding starts_with
-starts_short [] r h = absurd (omega arith)
-starts_short (a ∷ w) [] h = refl
-starts_short (a ∷ w) (b ∷ r) h = and_second (eqb b a) (starts_short w r (omega arith))
-
--- one byte more of both
-pub starts_more : (word text : List ℕ) (i at : ℕ) → i < length word → at + i < length text → get_or text (at + i) 0 ≡ get_or word i 0
-    → starts_with (drop i word) (drop (at + i) text) ≡ starts_with (drop (i + 1) word) (drop (at + (i + 1)) text)
-unfolding starts_with
-starts_more word text i at h k e =
-    let p : suc i ≡ i + 1 = omega arith in
-    let q : suc (at + i) ≡ at + (i + 1) = omega arith in
-    ap₂ starts_with (drop-cons word i 0 h) (drop-cons text (at + i) 0 k)
-    ∙ ap (λ (b : Bool). b && starts_with (drop (suc i) word) (drop (suc (at + i)) text)) (eq-eqb _ _ e)
-    ∙ ap₂ (λ (x y : ℕ). starts_with (drop x word) (drop y text)) p q
-
-pub starts_other : (word text : List ℕ) (i at : ℕ) → i < length word → at + i < length text → (get_or text (at + i) 0 ≡ get_or word i 0 → ⊥)
-    → starts_with (drop i word) (drop (at + i) text) ≡ false
-unfolding starts_with
-starts_other word text i at h k e =
-    ap₂ starts_with (drop-cons word i 0 h) (drop-cons text (at + i) 0 k)
-    ∙ ap (λ (b : Bool). b && starts_with (drop (suc i) word) (drop (suc (at + i)) text)) (ne_eqb _ _ e)
-
-pub starts_all : (word r : List ℕ) (i : ℕ) → length word ≤ i → starts_with (drop i word) r ≡ true
-unfolding starts_with
-starts_all word r i h = ap (λ (l : List ℕ). starts_with l r) (drop_of_length-le word h)
+-- the same of the text from a position on
+pub starts_there : (text : List ℕ) (at : ℕ) (w : List ℕ) (r : Bool) → r ≡ starts_with eqb (take (length text - at) (drop at text)) w → r ≡ starts_with eqb (drop at text) w
+starts_there text at w r e =
+    e ∙ ap (λ (x : List ℕ). starts_with eqb x w) (take_all (length text - at) (drop at text) (omega (arith, length-drop at text)))

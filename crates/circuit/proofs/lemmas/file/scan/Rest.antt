@@ -1,9 +1,12 @@
 -- The laws of the line from a position on: its next field, its end, and the gate or the header that it gives. Assumes nothing.
-use Rattle.std.proofs.Common.{◌≡◌, ℕ, suc, ◌+◌, ◌-◌, ◌<◌, ◌≤◌, Bool, true, false, not, ◌||◌, eqb, ltb, List, [], ◌∷◌, ◌++◌, length, get_or, drop, sym, refl, ap, ◌∙◌, subst, ap₂, append_assoc, arith, length-drop, drop-drop, ltb-false, ltb-true, le-ltb, lt-ltb, eq-eqb, ne_eqb, eqb-true}
+use Rattle.std.proofs.Common.{◌≡◌, ℕ, suc, ◌+◌, ◌-◌, ◌<◌, ◌≤◌, Bool, true, false, not, ◌||◌, eqb, ltb, List, [], ◌∷◌, ◌++◌, None, Some, length, get_or, drop, sym, refl, ap, ◌∙◌, subst, ap₂, append_assoc, arith, length-drop, drop-drop, ltb-false, ltb-true, le-ltb, lt-ltb, eq-eqb, ne_eqb, eqb-true}
+use Rattle.std.specs.List.{starts_with}
 use mathlib.Core.List.{cons≢nil}
 use lib.Seq.{drop-append_seam, append_snoc}
 use Rattle.bits.proofs.Bools.{either, and_parts, not_held, refuted, same_test, or_none, not_or}
 use Rattle.circuit.specs.declared.gate.Gate.{Gate}
+use Rattle.circuit.specs.declared.file.scan.ControlRead.{ControlRead}
+use Rattle.circuit.specs.declared.file.scan.Numeral.{Numeral}
 use Rattle.circuit.specs.declared.file.scan.Seen.{Seen}
 use Rattle.circuit.specs.Gate.{max_gates, Control}
 use Rattle.circuit.specs.Outcome.{Outcome, served, refused, demand, and_then}
@@ -11,14 +14,14 @@ use Rattle.circuit.specs.Refusal.{wrong_form, bad_line_count, line_outside, targ
 use Rattle.circuit.specs.Words.{line_count_good}
 use Rattle.circuit.specs.Text.{tab, line_feed, lines_word, gate_word, end_word, number_text}
 use Rattle.circuit.specs.File.{Line, no_line, first_line, lines_of, line_size, longer, fields_of, same, number_of, line_of, control_of, controls_from, among, rising_from, gate_of, closed_gate, gate_fields, gate_on, header_fields, header_on, is_end}
-use Rattle.circuit.specs.private.Scan.{is_stop, field_at, line_at, starts_with, or_hundred, width, added, later_fields, header_next, gate_next, controls_next}
-use Rattle.circuit.proofs.lemmas.Outcome.{never, demand_met, demand_failed, demanded, then_served, then_refused, then_both}
+use Rattle.circuit.specs.private.Scan.{is_stop, field_at, line_at, width, numeral_at, added, later_fields, header_next, gate_next, line_next, control_next, controls_next}
+use Rattle.circuit.proofs.lemmas.Outcome.{never, unserved, demand_met, demand_failed, demanded, then_served, then_refused, then_both, then_fails}
 use Rattle.circuit.proofs.lemmas.file.Lines.{line_more, line_over, lines_none, part_over, parts_none, parts_some, same_self, same_true, cut_first, separated, whole, parts_back}
 use Rattle.circuit.proofs.lemmas.file.Lines as lines
-use Rattle.circuit.proofs.lemmas.file.Numbers.{text_short, text_long, text_number, number_wrong}
+use Rattle.circuit.proofs.lemmas.file.Numbers.{text_short, text_long, text_number}
 use Rattle.circuit.proofs.lemmas.file.Controls.{next_line, among_push, rising_push, next_push}
 use Rattle.circuit.proofs.lemmas.file.Offences.{ControlFound, control_found}
-use Rattle.circuit.proofs.lemmas.file.scan.Laws.{byte_at, field_more, field_stop, field_none, width_short, width_long, number_told, starts_true, true_starts}
+use Rattle.circuit.proofs.lemmas.file.scan.Laws.{default_any, byte_at, field_more, field_stop, field_none, width_short, width_long, number_none, number_told, starts_true, true_starts}
 
 -- ---- one byte
 
@@ -194,26 +197,26 @@ module _ (n i t : ℕ) (text : List ℕ) (first at : ℕ) (seen : Seen) (g : Goi
     pub going_room : at + 1 ≤ length text
     going_room = omega (arith, (tabbed_line (drop at text) here).inside, length-drop at text)
 
-    pub going_refused : (number place : ℕ) → control_of n i (field_at (drop (at + 1) text)) ≡ refused number place
+    pub going_refused : (number place : ℕ) → control_next n i (at + 1) (field_at (drop (at + 1) text)) ≡ refused number place
         → controls_next n i t first (drop first text) ≡ refused number place
     unfolding controls_from
     going_refused number place e =
         then_refused _ _ number place
-        (then_refused _ _ number place (g.left ∙ ap (controls_from n i g.passed) next_field ∙ then_refused _ _ number place e))
+        (then_refused _ _ number place (g.left ∙ ap (controls_from n i g.passed) next_field ∙ then_refused _ _ number place (then_fails _ _ number place e)))
 
     module _ (c : Control) (read : control_of n i (field_at (drop (at + 1) text)) ≡ served c) where
       field_length : length (field_at (drop (at + 1) text)) ≡ 1 + width c.line
       field_length = (control_field n i (field_at (drop (at + 1) text)) c read).0
 
-      pub going_below : c.line < n
-      going_below = (control_field n i (field_at (drop (at + 1) text)) c read).1
+      going_control : c.line < n
+      going_control = (control_field n i (field_at (drop (at + 1) text)) c read).1
 
-      pub going_inside : at + (2 + width c.line) ≤ length text
-      going_inside = omega (arith, field_length, (parted (drop (at + 1) text)).inside, length-drop (at + 1) text, going_room)
+      going_room_after : at + (2 + width c.line) ≤ length text
+      going_room_after = omega (arith, field_length, (parted (drop (at + 1) text)).inside, length-drop (at + 1) text, going_room)
 
-      pub going_on : (last : Seen) → last ≡ added t seen c.line → Going n i t text first (at + (2 + width c.line)) last
+      going_more : (last : Seen) → last ≡ added t seen c.line → Going n i t text first (at + (2 + width c.line)) last
       unfolding controls_from
-      going_on last e =
+      going_more last e =
           let f : List ℕ = field_at (drop (at + 1) text) in
           let p = parted (drop (at + 1) text) in
           let q : at + 1 + length f ≡ at + (2 + width c.line) = omega (arith, field_length) in
@@ -226,7 +229,7 @@ module _ (n i t : ℕ) (text : List ℕ) (first at : ℕ) (seen : Seen) (g : Goi
           let w = g.sizes in
           record {
             passed = g.passed ++ (c ∷ []);
-            inside = going_inside;
+            inside = going_room_after;
             stop = ap field_at (sym d) ∙ p.stop;
             is = e ∙ ap (λ (x : Seen). added t x c.line) g.is ∙ sym (seen_push t g.passed c);
             left =
@@ -242,6 +245,26 @@ module _ (n i t : ℕ) (text : List ℕ) (first at : ℕ) (seen : Seen) (g : Goi
                 ∙ ap (λ (r : List ℕ). (line_at r).ended) d;
             sizes = omega (arith, field_length);
           }
+
+    -- the control that was read there
+    module _ (k : ControlRead) (read : control_next n i (at + 1) (field_at (drop (at + 1) text)) ≡ served k) where
+      read_parts : (c : Control) × (control_of n i (field_at (drop (at + 1) text)) ≡ served c) × (k.line ≡ c.line) × (k.next ≡ at + (2 + width c.line))
+      read_parts =
+          let (c, a, b) = then_both (control_of n i (field_at (drop (at + 1) text))) _ k read in
+          let x : record { line = c.line; positive = c.positive; next = at + 1 + 1 + width c.line } ≡ k = unserved b in
+          let p : at + 1 + 1 + width c.line ≡ k.next = ap (λ (y : ControlRead). y.next) x in
+          (c, a, sym (ap (λ (y : ControlRead). y.line) x), omega arith)
+
+      pub going_below : k.line < n
+      going_below = let (c, a, l, p) = read_parts in omega (arith, going_control c a)
+
+      pub going_inside : (at < k.next) × (k.next ≤ length text)
+      going_inside = let (c, a, l, p) = read_parts in (omega arith, omega (arith, going_room_after c a))
+
+      pub going_on : (last : Seen) → last ≡ added t seen k.line → Going n i t text first k.next last
+      going_on last e =
+          let (c, a, l, p) = read_parts in
+          subst (λ (j : ℕ). Going n i t text first j last) (sym p) (going_more c a last (e ∙ ap (added t seen) l))
 
   module _ (none : get_or (drop at text) 0 10 ≡ tab → ⊥) where
     -- all controls were passed
@@ -323,7 +346,7 @@ line_prefix (b ∷ r) =
     (λ t. ap (λ (x : List ℕ). b ∷ x) (line_prefix r) ∙ sym (ap (λ (l : Line). l.bytes ++ drop (length l.bytes) (b ∷ r)) (line_step b r t)))
 
 -- a line whose first field is the word, and which has a second one
-word_starts : (w : List ℕ) (r t : List ℕ) (fs : List (List ℕ)) → fields_of (line_at r).bytes ≡ w ∷ t ∷ fs → starts_with (w ++ (tab ∷ [])) r ≡ true
+word_starts : (w : List ℕ) (r t : List ℕ) (fs : List (List ℕ)) → fields_of (line_at r).bytes ≡ w ∷ t ∷ fs → starts_with eqb r (w ++ (tab ∷ [])) ≡ true
 unfolding separated
 word_starts w r t fs e =
     let x : List ℕ = drop (length (line_at r).bytes) r in
@@ -331,11 +354,11 @@ word_starts w r t fs e =
     line_prefix r
     ∙ ap (λ (y : List ℕ). y ++ x) (sym (parts_back tab (line_at r).bytes) ∙ ap (whole tab) e ∙ sym (append_snoc w tab (t ++ separated tab fs)))
     ∙ append_assoc (w ++ (tab ∷ [])) (t ++ separated tab fs) x in
-    ap (starts_with (w ++ (tab ∷ []))) p ∙ true_starts (w ++ (tab ∷ [])) ((t ++ separated tab fs) ++ x)
+    ap (λ (x : List ℕ). starts_with eqb x (w ++ (tab ∷ []))) p ∙ true_starts (w ++ (tab ∷ [])) ((t ++ separated tab fs) ++ x)
 
 -- ---- a gate line from its start
 
-pub gate_other : (n i count at : ℕ) (r : List ℕ) → starts_with (103 ∷ 9 ∷ []) r ≡ false → gate_next n i count at r ≡ refused wrong_form i
+pub gate_other : (n i count at : ℕ) (r : List ℕ) → starts_with eqb r (103 ∷ 9 ∷ []) ≡ false → gate_next n i count at r ≡ refused wrong_form i
 unfolding gate_fields
 gate_other n i count at r e = then_refused _ _ wrong_form i (go (fields_of (line_at r).bytes) refl)
   where
@@ -347,12 +370,12 @@ gate_other n i count at r e = then_refused _ _ wrong_form i (go (fields_of (line
         (not_held (same f gate_word) (λ s.
         refuted e (word_starts gate_word r t fs (q ∙ ap (λ (x : List ℕ). x ∷ t ∷ fs) (same_true f gate_word s)))))
 
-module _ (r : List ℕ) (starts : starts_with (103 ∷ 9 ∷ []) r ≡ true) where
+module _ (r : List ℕ) (starts : starts_with eqb r (103 ∷ 9 ∷ []) ≡ true) where
   pub gate_word_lem : Worded r gate_word (drop 2 r)
   unfolding field_at
   gate_word_lem = subst (λ (x : List ℕ). Worded x gate_word (drop 2 r)) (sym (starts_true (103 ∷ 9 ∷ []) r starts)) (worded gate_word (drop 2 r) refl)
 
-  pub gate_room : 2 ≤ length r
+  gate_room : 2 ≤ length r
   gate_room = omega (arith, ap length (starts_true (103 ∷ 9 ∷ []) r starts))
 
   -- its fields
@@ -375,10 +398,10 @@ module _ (r : List ℕ) (starts : starts_with (103 ∷ 9 ∷ []) r ≡ true) whe
         ∙ demand_met {A = Gate} _ _ _ _ (same_self gate_word)
         ∙ demand_met {A = Gate} _ _ _ _ (lt-ltb count max_gates few)
 
-    pub gate_refused : (number place : ℕ) → line_of n i (field_at (drop 2 r)) ≡ refused number place → gate_next n i count at r ≡ refused number place
+    gate_refused : (number place : ℕ) → line_of n i (field_at (drop 2 r)) ≡ refused number place → gate_next n i count at r ≡ refused number place
     gate_refused number place e = then_refused _ _ number place (gate_few ∙ then_refused _ _ number place e)
 
-    pub gate_target : (k : ℕ) → line_of n i (field_at (drop 2 r)) ≡ served k → (rest : List ℕ) → rest ≡ drop (length (field_at (drop 2 r))) (drop 2 r) → (next : ℕ)
+    gate_target : (k : ℕ) → line_of n i (field_at (drop 2 r)) ≡ served k → (rest : List ℕ) → rest ≡ drop (length (field_at (drop 2 r))) (drop 2 r) → (next : ℕ)
         → next ≡ at + 2 + length (field_at (drop 2 r)) → gate_next n i count at r ≡ controls_next n i k next rest
     gate_target k e rest q next m =
         let p = parted (drop 2 r) in
@@ -392,7 +415,7 @@ module _ (r : List ℕ) (starts : starts_with (103 ∷ 9 ∷ []) r ≡ true) whe
         ∙ ap₂ (λ (x : List ℕ) (b : Bool). and_then (controls_from n i [] (later_fields (fields_of (line_at x).bytes))) (closed_gate i b k)) (sym q) d) t
 
 -- the length of a target field that was read
-pub line_field_length : (n i : ℕ) (f : List ℕ) (k : ℕ) → line_of n i f ≡ served k → length f ≡ width k
+line_field_length : (n i : ℕ) (f : List ℕ) (k : ℕ) → line_of n i f ≡ served k → length f ≡ width k
 unfolding line_of
 line_field_length n i f k e =
     let (m, a, b) = then_both (number_of i f) _ k e in
@@ -400,21 +423,60 @@ line_field_length n i f k e =
     let x : m ≡ k = cc in
     ap length (text_number i f m a).1 ∙ number_width m ∙ ap width x
 
+-- at a position of a text
+module _ (text : List ℕ) (start : ℕ) (starts : starts_with eqb (drop start text) (103 ∷ 9 ∷ []) ≡ true) where
+  pub gate_inside : start + 2 ≤ length text
+  gate_inside = omega (arith, gate_room (drop start text) starts, length-drop start text)
+
+  module _ (n i count : ℕ) (few : count < max_gates) where
+    target_field : line_of n i (field_at (drop 2 (drop start text))) ≡ line_of n i (field_at (drop (start + 2) text))
+    target_field = ap (λ (x : List ℕ). line_of n i (field_at x)) (drop-drop 2 start text)
+
+    pub gate_bad : (number place : ℕ) → line_next n i (start + 2) (field_at (drop (start + 2) text)) ≡ refused number place
+        → gate_next n i count start (drop start text) ≡ refused number place
+    gate_bad number place e =
+        gate_refused (drop start text) starts n i count start few number place (target_field ∙ then_fails _ _ number place e)
+
+    module _ (m : Numeral) (read : line_next n i (start + 2) (field_at (drop (start + 2) text)) ≡ served m) where
+      target_read : (line_of n i (field_at (drop (start + 2) text)) ≡ served m.value) × (m.next ≡ start + 2 + length (field_at (drop (start + 2) text)))
+      target_read =
+          let (k, a, b) = then_both (line_of n i (field_at (drop (start + 2) text))) _ m read in
+          let x : record { value = k; next = start + 2 + width k } ≡ m = unserved b in
+          let v : k ≡ m.value = ap (λ (y : Numeral). y.value) x in
+          let p : start + 2 + width k ≡ m.next = ap (λ (y : Numeral). y.next) x in
+          (a ∙ ap served v, omega (arith, line_field_length n i (field_at (drop (start + 2) text)) k a))
+
+      after_target : drop m.next text ≡ drop (length (field_at (drop (start + 2) text))) (drop (start + 2) text)
+      after_target =
+          ap (λ (k : ℕ). drop k text) target_read.1 ∙ sym (drop-drop (length (field_at (drop (start + 2) text))) (start + 2) text)
+
+      pub target_inside : m.next ≤ length text
+      target_inside = omega (arith, target_read.1, (parted (drop (start + 2) text)).inside, length-drop (start + 2) text, gate_inside)
+
+      pub target_stop : field_at (drop m.next text) ≡ []
+      target_stop = ap field_at after_target ∙ (parted (drop (start + 2) text)).stop
+
+      pub gate_goes : gate_next n i count start (drop start text) ≡ controls_next n i m.value m.next (drop m.next text)
+      gate_goes =
+          let d : drop (start + 2) text ≡ drop 2 (drop start text) = sym (drop-drop 2 start text) in
+          gate_target (drop start text) starts n i count start few m.value (target_field ∙ target_read.0) (drop m.next text)
+          (after_target ∙ ap (λ (r : List ℕ). drop (length (field_at r)) r) d) m.next (target_read.1 ∙ ap (λ (r : List ℕ). start + 2 + length (field_at r)) d)
+
 -- ---- `end`
 
-pub end_line_lem : (r : List ℕ) → starts_with (101 ∷ 110 ∷ 100 ∷ 10 ∷ []) r ≡ is_end (line_at r)
-unfolding lines_of same starts_with
+pub end_line_lem : (r : List ℕ) → starts_with eqb r (101 ∷ 110 ∷ 100 ∷ 10 ∷ []) ≡ is_end (line_at r)
+unfolding lines_of same
 end_line_lem r =
     same_test _ _
     (λ e. ap (λ (x : List ℕ). is_end (line_at x)) (starts_true (101 ∷ 110 ∷ 100 ∷ 10 ∷ []) r e))
     (λ e.
     let (d, b) = and_parts (line_at r).ended (same (line_at r).bytes end_word) e in
-    ap (starts_with (101 ∷ 110 ∷ 100 ∷ 10 ∷ []))
+    ap (λ (x : List ℕ). starts_with eqb x (101 ∷ 110 ∷ 100 ∷ 10 ∷ []))
     ((cut_first r d).text ∙ ap (λ (x : List ℕ). x ++ (line_feed ∷ drop (line_size (line_at r)) r)) (same_true (line_at r).bytes end_word b)))
 
 -- ---- the header
 
-pub header_other : (r : List ℕ) → starts_with (108 ∷ 105 ∷ 110 ∷ 101 ∷ 115 ∷ 9 ∷ []) r ≡ false → header_next r ≡ refused wrong_form 0
+pub header_other : (r : List ℕ) → starts_with eqb r (108 ∷ 105 ∷ 110 ∷ 101 ∷ 115 ∷ 9 ∷ []) ≡ false → header_next r ≡ refused wrong_form 0
 unfolding header_fields
 header_other r e = then_refused _ _ wrong_form 0 (go (fields_of (line_at r).bytes) refl)
   where
@@ -440,7 +502,7 @@ unfolding header_fields
 header_started ended k [] = demand_met {A = ℕ} _ _ _ _ (same_self lines_word)
 header_started ended k (x ∷ fs) = demand_met {A = ℕ} _ _ _ _ (same_self lines_word)
 
-module _ (r : List ℕ) (starts : starts_with (108 ∷ 105 ∷ 110 ∷ 101 ∷ 115 ∷ 9 ∷ []) r ≡ true) where
+module _ (r : List ℕ) (starts : starts_with eqb r (108 ∷ 105 ∷ 110 ∷ 101 ∷ 115 ∷ 9 ∷ []) ≡ true) where
   header_word : Worded r lines_word (drop 6 r)
   unfolding field_at
   header_word =
@@ -461,31 +523,27 @@ module _ (r : List ℕ) (starts : starts_with (108 ∷ 105 ∷ 110 ∷ 101 ∷ 1
       ap (header_fields (line_at r).ended) (header_word.fields ∙ ap (λ (fs : List (List ℕ)). lines_word ∷ fs) (parted (drop 6 r)).fields)
       ∙ header_started (line_at r).ended (field_at (drop 6 r)) (later_fields (fields_of (line_at after).bytes))
 
-  pub header_wrong : or_hundred (number_of 0 (field_at (drop 6 r))) ≡ 100 → header_next r ≡ refused wrong_form 0
-  header_wrong e = then_refused _ _ wrong_form 0 (header_parts ∙ then_refused _ _ wrong_form 0 (go (number_of 0 (field_at (drop 6 r))) refl))
-    where
-      go : (o : Outcome ℕ) → number_of 0 (field_at (drop 6 r)) ≡ o → number_of 0 (field_at (drop 6 r)) ≡ refused wrong_form 0
-      go (served k) q =
-          let h : k < 100 = (text_number 0 (field_at (drop 6 r)) k q).0 in
-          let z : k ≡ 100 = sym (ap or_hundred q) ∙ e in
-          absurd (omega arith)
-      go (refused number place) q = number_wrong 0 (field_at (drop 6 r)) number place q
+  pub header_wrong : None ≡ numeral_at 6 (number_of 0 (field_at (drop 6 r))) → header_next r ≡ refused wrong_form 0
+  header_wrong e = then_refused _ _ wrong_form 0 (header_parts ∙ then_refused _ _ wrong_form 0 (number_none 0 6 (field_at (drop 6 r)) e))
 
-  module _ (n : ℕ) (read : or_hundred (number_of 0 (field_at (drop 6 r))) ≡ n) (is : n ≡ 100 → ⊥) where
-    told : number_of 0 (field_at (drop 6 r)) ≡ served n
-    told = number_told 0 (field_at (drop 6 r)) n read is
+  module _ (m : Numeral) (read : Some m ≡ numeral_at 6 (number_of 0 (field_at (drop 6 r)))) where
+    told : number_of 0 (field_at (drop 6 r)) ≡ served m.value
+    told = (number_told 0 6 (field_at (drop 6 r)) m read).0
 
-    number_length : length (field_at (drop 6 r)) ≡ width n
-    number_length = ap length (text_number 0 (field_at (drop 6 r)) n told).1 ∙ number_width n
+    after_number : m.next ≡ 6 + width m.value
+    after_number = (number_told 0 6 (field_at (drop 6 r)) m read).1
 
-    pub header_outside : line_count_good n ≡ false → header_next r ≡ refused bad_line_count 0
-    header_outside e = then_refused _ _ bad_line_count 0 (header_parts ∙ then_served _ _ n told ∙ demand_failed {A = ℕ} _ _ _ _ e)
+    number_length : length (field_at (drop 6 r)) ≡ width m.value
+    number_length = ap length (text_number 0 (field_at (drop 6 r)) m.value told).1 ∙ number_width m.value
 
-    module _ (inside : line_count_good n ≡ true) where
-      header_last : header_on (line_at r) ≡ last_test (line_at r).ended (later_fields (fields_of (line_at after).bytes)) n
-      header_last = header_parts ∙ then_served _ _ n told ∙ demand_met {A = ℕ} _ _ _ _ inside
+    pub header_outside : line_count_good m.value ≡ false → header_next r ≡ refused bad_line_count 0
+    header_outside e = then_refused _ _ bad_line_count 0 (header_parts ∙ then_served _ _ m.value told ∙ demand_failed {A = ℕ} _ _ _ _ e)
 
-      after_is : after ≡ drop (6 + width n) r
+    module _ (inside : line_count_good m.value ≡ true) where
+      header_last : header_on (line_at r) ≡ last_test (line_at r).ended (later_fields (fields_of (line_at after).bytes)) m.value
+      header_last = header_parts ∙ then_served _ _ m.value told ∙ demand_met {A = ℕ} _ _ _ _ inside
+
+      after_is : after ≡ drop (6 + width m.value) r
       unfolding after
       after_is = drop-drop (length (field_at (drop 6 r))) 6 r ∙ ap (λ (k : ℕ). drop (6 + k) r) number_length
 
@@ -497,28 +555,29 @@ module _ (r : List ℕ) (starts : starts_with (108 ∷ 105 ∷ 110 ∷ 101 ∷ 1
       unfolding after
       after_stop = (parted (drop 6 r)).stop
 
-      after_size : line_size (line_at r) ≡ 6 + width n + line_size (line_at after)
+      after_size : line_size (line_at r) ≡ 6 + width m.value + line_size (line_at after)
       unfolding after
       after_size = omega (arith, header_word.sizes, (parted (drop 6 r)).sizes, number_length)
 
-      after_length : length after ≡ length r - (6 + width n)
-      after_length = ap length after_is ∙ length-drop (6 + width n) r
+      after_length : length after ≡ length r - (6 + width m.value)
+      after_length = ap length after_is ∙ length-drop (6 + width m.value) r
 
-      first_after : get_or r (6 + width n) 10 ≡ get_or after 0 10
-      first_after = byte_at r (6 + width n) ∙ ap (λ (x : List ℕ). get_or x 0 10) (sym after_is)
+      first_after : m.next < length r → get_or r m.next 0 ≡ get_or after 0 10
+      first_after h =
+          default_any r m.next 0 10 h ∙ byte_at r m.next ∙ ap (λ (x : List ℕ). get_or x 0 10) (ap (λ (k : ℕ). drop k r) after_number ∙ sym after_is)
 
-      pub header_missing : length r ≤ 6 + width n → header_next r ≡ refused wrong_form 0
+      pub header_missing : length r ≤ m.next → header_next r ≡ refused wrong_form 0
       header_missing h =
-          let z : length after ≡ 0 = omega (arith, after_length) in
+          let z : length after ≡ 0 = omega (arith, after_length, after_number) in
           then_refused _ _ wrong_form 0
           (header_last
-          ∙ ap₂ (λ (b : Bool) (fs : List (List ℕ)). last_test b fs n) (after_ended ∙ end_missing after z) (end_fields after after_stop (no_tab after z)))
+          ∙ ap₂ (λ (b : Bool) (fs : List (List ℕ)). last_test b fs m.value) (after_ended ∙ end_missing after z) (end_fields after after_stop (no_tab after z)))
         where
           no_tab : (x : List ℕ) → length x ≡ 0 → get_or x 0 10 ≡ tab → ⊥
           no_tab [] z e = let y : ◌≡◌ {A = ℕ} 10 9 = e in omega arith
           no_tab (b ∷ x) z e = omega arith
 
-      pub header_further : 6 + width n < length r → (get_or r (6 + width n) 10 ≡ 10 → ⊥) → header_next r ≡ refused wrong_form 0
+      pub header_further : m.next < length r → (get_or r m.next 0 ≡ 10 → ⊥) → header_next r ≡ refused wrong_form 0
       header_further h ne = then_refused _ _ wrong_form 0 (header_last ∙ go (later_fields (fields_of (line_at after).bytes)) refl)
         where
           tabs : (x : List ℕ) → field_at x ≡ [] → (get_or x 0 10 ≡ 10 → ⊥) → get_or x 0 10 ≡ tab
@@ -530,21 +589,21 @@ module _ (r : List ℕ) (starts : starts_with (108 ∷ 105 ∷ 110 ∷ 101 ∷ 1
               (λ s. absurd (q (eqb-true b line_feed (sym (ap (λ (y : Bool). y || eqb b line_feed) t) ∙ s))))
               (λ s. absurd (cons≢nil (sym (field_more b x s) ∙ e))))
 
-          go : (fs : List (List ℕ)) → later_fields (fields_of (line_at after).bytes) ≡ fs → last_test (line_at r).ended fs n ≡ refused wrong_form 0
+          go : (fs : List (List ℕ)) → later_fields (fields_of (line_at after).bytes) ≡ fs → last_test (line_at r).ended fs m.value ≡ refused wrong_form 0
           go (x ∷ fs) q = refl
           go [] q =
               absurd (parts_some tab (line_at (drop 1 after)).bytes
-              (sym (ap later_fields (tabbed_line after (tabs after after_stop (λ e. ne (first_after ∙ e)))).fields) ∙ q))
+              (sym (ap later_fields (tabbed_line after (tabs after after_stop (λ e. ne (first_after h ∙ e)))).fields) ∙ q))
 
-      pub header_good : 6 + width n < length r → get_or r (6 + width n) 10 ≡ 10 → header_next r ≡ served (record { lines = n; next = 6 + width n + 1 })
+      pub header_good : m.next < length r → get_or r m.next 0 ≡ 10 → header_next r ≡ served (record { lines = m.value; next = m.next + 1 })
       header_good h e =
-          let nt : get_or after 0 10 ≡ tab → ⊥ = λ q. ten (sym e ∙ first_after ∙ q) in
-          let (d, s) = end_there after after_stop nt (omega (arith, after_length)) in
-          let z : line_size (line_at r) ≡ 6 + width n + 1 = omega (arith, after_size) in
-          then_served _ _ n
+          let nt : get_or after 0 10 ≡ tab → ⊥ = λ q. ten (sym e ∙ first_after h ∙ q) in
+          let (d, s) = end_there after after_stop nt (omega (arith, after_length, after_number)) in
+          let z : line_size (line_at r) ≡ m.next + 1 = omega (arith, after_size, after_number) in
+          then_served _ _ m.value
           (header_last
-          ∙ ap₂ (λ (b : Bool) (fs : List (List ℕ)). last_test b fs n) (after_ended ∙ d) (end_fields after after_stop nt))
-          ∙ ap (λ (k : ℕ). served (record { lines = n; next = k })) z
+          ∙ ap₂ (λ (b : Bool) (fs : List (List ℕ)). last_test b fs m.value) (after_ended ∙ d) (end_fields after after_stop nt))
+          ∙ ap (λ (k : ℕ). served (record { lines = m.value; next = k })) z
         where
           ten : ◌≡◌ {A = ℕ} 10 tab → ⊥
           ten q = omega arith
