@@ -1,6 +1,6 @@
 // The clause list of a cascade: its sizes, and its emission.
 
-ghost use Rattle.std.specs.Prelude.{◌≡◌, ◌+◌, ◌/◌, ◌^◌, ◌<◌, ◌≤◌, length, bit_or};
+ghost use Rattle.std.specs.Prelude.{◌≡◌, ◌+◌, ◌/◌, ◌≤◌, length};
 ghost use Rattle.circuit.specs.Gate.{max_lines, max_miter_gates};
 ghost use Rattle.circuit.specs.Outcome.{served, and_then, Yields};
 ghost use Rattle.circuit.specs.Words.{gates_of, valid_from};
@@ -53,14 +53,6 @@ fn extra_clauses(k: u64) -> u64
     k
 }
 
-// The lines of the mask, and line k.
-fn with_line(mask: u64, k: u64) -> u64
-    requires { k < max_lines }
-    ensures { result ≡ bit_or mask (2 ^ k) }
-{
-    mask | (1 << k)
-}
-
 // The totals of the clause list of the gates, which are tested on the way; else 7.
 pub(crate) fn list_sizes(n: u64, words: &[u64]) -> EmitAnswer
     requires few_lines { n ≤ max_lines }
@@ -72,8 +64,7 @@ pub(crate) fn list_sizes(n: u64, words: &[u64]) -> EmitAnswer
     let mut clauses = 0;
     let mut controls = 0;
     let mut hit = 0;
-    let mut i = 0;
-    while i < gates {
+    for i in 0..gates {
         let g = circuit::words::gate_at(words, i);
         if !g.valid(n) {
             return EmitAnswer::Refused(Refusal::no_gate(i as u64));
@@ -83,8 +74,7 @@ pub(crate) fn list_sizes(n: u64, words: &[u64]) -> EmitAnswer
         variables += extra_variables(k);
         clauses += extra_clauses(k);
         controls += k;
-        hit = with_line(hit, target);
-        i += 1;
+        hit |= circuit::gate::line(target);
     }
     let gate_variables = gates as u64 + variables;
     let gate_clauses = gate_variables + clauses;

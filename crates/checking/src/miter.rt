@@ -1,25 +1,12 @@
 // The identity miter: one cascade, then the other's gates in reverse order.
 
-ghost use Rattle.std.specs.Prelude.{◌≡◌, ◌≤◌, length};
-ghost use Rattle.bits.specs.Lists.{over};
+ghost use Rattle.std.specs.Prelude.{length};
 ghost use Rattle.circuit.specs.Outcome.{Yields};
 ghost use Rattle.circuit.specs.Words.{of_count};
 ghost use Rattle.checking.specs.Miter.{miter_outcome, miter_buffer};
 
 use circuit::refusal::Refusal;
 use circuit::words::{CountAnswer, PairAnswer};
-
-// Writes the words at the buffer's start.
-fn copy(source: &[u64], out: &mut [u64])
-    requires { length source.now ≤ length out.old }
-    ensures { out.new ≡ over source.now out.old }
-{
-    let mut i = 0;
-    while i < source.len() {
-        out[i] = source[i];
-        i += 1;
-    }
-}
 
 // The number of gates of the miter, which stands at the buffer's start; else 2, 11, 6, 7 of either, 8 or 10.
 pub fn miter(na: u64, a: &[u64], nb: u64, b: &[u64], out: &mut [u64]) -> CountAnswer
@@ -31,8 +18,7 @@ pub fn miter(na: u64, a: &[u64], nb: u64, b: &[u64], out: &mut [u64]) -> CountAn
             if out.len() < a.len() + b.len() {
                 return CountAnswer::Refused(Refusal::no_room());
             }
-            copy(a, out);
-            let at = a.len();
+            let at = bits::put(out, a);
             circuit::inverse::put_inverse(b, &mut out[at..]);
             CountAnswer::Gates(first + second)
         }
