@@ -8,7 +8,8 @@ use Rattle.circuit.specs.declared.gate.Gate.{Gate}
 use Rattle.circuit.specs.Gate.{max_gates}
 use Rattle.circuit.specs.Outcome.{Outcome, served, refused, written, Untouched, Yields}
 use Rattle.circuit.specs.Refusal.{no_room}
-use Rattle.circuit.specs.Words.{gates_of, words_of, all_valid, Counts, pair_outcome}
+use Rattle.circuit.specs.Words.{gates_of, words_of, all_valid, pair_outcome}
+use Rattle.circuit.specs.declared.words.Counts.{Counts}
 use Rattle.circuit.specs.Run.{run}
 use Rattle.circuit.specs.Inverse.{inverse, put_inverse}
 use Rattle.circuit.proofs.Promises.{told, demand_met, demand_failed, demanded, then_served, then_refused, then_both, above, written_refused, gates_length, gates_words, words_gates, words_append, words_length, valid_append, pair_served, served_pair, pair_wrong, run_append, run_inverse, inverse_run, inverse_length, inverse_valid, inverse_fits}
