@@ -4,8 +4,7 @@ use Rattle.circuit.specs.Gate.{max_lines, max_miter_gates}
 use Rattle.circuit.specs.Outcome.{served}
 use Rattle.circuit.specs.Words.{of_count, check_outcome}
 use Rattle.circuit.proofs.Promises.{check_served, valid_all_more}
-use Rattle.checking.specs.private.StepCode.{of_search}
-use Rattle.checking.proofs.lemmas.step.Calls.{told_none, step_refused, step_made}
+use Rattle.checking.proofs.lemmas.step.Calls.{found_at, told_none, step_refused, step_made}
 use Rattle.checking.proofs.step.step.Goals as goal
 use Rattle.checking.proofs.step.step.Goals.{In-Gates}
 
@@ -23,17 +22,17 @@ make_step-requires c =
     let k = check_served _ _ _ _ (good (goal.at.make_step-requires c).In-Gates) in
     record {
       whole_gates = omega (arith, k.size);
-      found_at = sym c.search_gates.ensures ∙ ap of_search c.in-At.is;
+      found_at = found_at _ _ (sym c.in-Some.ensures);
     }
 
 pub returns-in-Refused : goal.returns-in-Refused
 returns-in-Refused c =
     step_refused _ _ _ _ (sym c.check_cascade.ensures ∙ ap of_count c.in-Refused.is)
 
-pub returns-in-Nothing : goal.returns-in-Nothing
-returns-in-Nothing c =
-    step_made _ _ _ (good (goal.at.returns-in-Nothing c).In-Gates) _ _ (told_none _ (sym c.search_gates.ensures ∙ ap of_search c.in-Nothing.is))
+pub returns-in-None : goal.returns-in-None
+returns-in-None c =
+    step_made _ _ _ (good (goal.at.returns-in-None c).In-Gates) _ _ (told_none _ (sym c.in-None.ensures))
 
-pub returns-in-At : goal.returns-in-At
-returns-in-At c =
-    step_made _ _ _ (good (goal.at.returns-in-At c).In-Gates) _ _ c.make_step.ensures
+pub returns-in-Some : goal.returns-in-Some
+returns-in-Some c =
+    step_made _ _ _ (good (goal.at.returns-in-Some c).In-Gates) _ _ c.make_step.ensures
