@@ -1,5 +1,7 @@
 -- Two cascades compared on states, and the one with fewer gates, by document 01.
 use Rattle.std.specs.Prelude.{◌≡◌, ℕ, zero, suc, ◌+◌, ◌^◌, ◌<◌, Bool, true, false, cond, not, List, [], ◌==◌, nat_le, nat_lt}
+use Rattle.std.specs.declared.option.Option.{Option}
+use Rattle.std.specs.declared.option.Option.TheVariants.{None, Some}
 use Rattle.circuit.specs.declared.gate.Gate.{Gate}
 use Rattle.circuit.specs.Outcome.{Outcome, served, refused, demand, and_then}
 use Rattle.circuit.specs.Refusal.{bad_state, too_wide}
@@ -74,6 +76,10 @@ pub record Picks {P : Type 0} (o : Outcome Counts) (a b words : List ℕ) (at_a 
   pub place : at ≡ picked o at_a at_b at_a
 
 -- ---- the answers in document 01's values
+
+abbrev pub difference_of : Option ℕ → Difference
+difference_of (Some x) = lowest x
+difference_of None = none
 
 abbrev pub of_difference : DifferenceAnswer → Outcome Difference
 of_difference (difference.State x) = served (lowest x)

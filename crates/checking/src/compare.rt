@@ -3,8 +3,7 @@
 ghost use Rattle.std.specs.Prelude.{◌≡◌, true};
 ghost use Rattle.circuit.specs.Gate.{max_lines};
 ghost use Rattle.circuit.specs.Words.{gates_of, all_valid, pair_outcome};
-ghost use Rattle.circuit.specs.Outcome.{served};
-ghost use Rattle.checking.specs.Compare.{lowest_from, outputs_differ, Sweeps, Picks, differs_outcome, pick_outcome, of_difference, of_differs, of_refusal};
+ghost use Rattle.checking.specs.Compare.{lowest_from, outputs_differ, Sweeps, Picks, differs_outcome, pick_outcome, difference_of, of_difference, of_differs, of_refusal};
 
 use circuit::gate::Gate;
 use circuit::refusal::Refusal;
@@ -43,19 +42,12 @@ pub(crate) fn outputs_differ(a: &[u64], b: &[u64], state: u64) -> bool
 }
 
 // The lowest of the states below `count` on which two cascades differ.
-fn lowest_difference(a: &[u64], b: &[u64], count: u64) -> DifferenceAnswer
+fn lowest_difference(a: &[u64], b: &[u64], count: u64) -> Option<u64>
     requires first_valid { all_valid max_lines (gates_of a.now) ≡ true }
     requires second_valid { all_valid max_lines (gates_of b.now) ≡ true }
-    ensures { of_difference result ≡ served (lowest_from (gates_of a.now) (gates_of b.now) 0 count) }
+    ensures { difference_of result ≡ lowest_from (gates_of a.now) (gates_of b.now) 0 count }
 {
-    let mut x = 0;
-    while x < count {
-        if outputs_differ(a, b, x) {
-            return DifferenceAnswer::State(x);
-        }
-        x += 1;
-    }
-    DifferenceAnswer::Nothing
+    (0..count).find(|x| outputs_differ(a, b, *x))
 }
 
 // The lowest state on which two cascades of at most 16 lines differ, or none; else what is wrong with the pair, or 13.
@@ -71,7 +63,10 @@ pub fn first_difference(na: u64, a: &[u64], nb: u64, b: &[u64]) -> DifferenceAns
             if Gate::MAX_SWEEP_LINES < na {
                 return DifferenceAnswer::Refused(Refusal::too_wide());
             }
-            lowest_difference(a, b, 1 << na)
+            match lowest_difference(a, b, 1 << na) {
+                Some(x) => DifferenceAnswer::State(x),
+                None => DifferenceAnswer::Nothing,
+            }
         }
     }
 }
