@@ -1,7 +1,7 @@
 -- The laws of words that move down, and of a step's words. Assumes nothing.
-use Rattle.std.proofs.Common.{◌≡◌, ℕ, ◌+◌, ◌-◌, ◌*◌, ◌/◌, ◌%◌, ◌<◌, ◌≤◌, List, [], ◌∷◌, ◌++◌, length, get_or, take, drop, set, replicate, sym, refl, ap, ◌∙◌, ap₂, append_assoc, append-nil, add-one, arith, length-append, length-take, length-drop, take-append-drop, length-take-le, get_or-drop, take-suc, take-take, drop-drop, take_at, get_or-append-add, take-add, drop_at}
-use lib.ListN.{length-replicate, replicate-append-replicate}
-use lib.Seq.{take-append-le, drop-length, drop-append-le, drop-append-add}
+use Rattle.std.proofs.Common.{◌≡◌, ℕ, ◌+◌, ◌-◌, ◌*◌, ◌/◌, ◌%◌, ◌<◌, ◌≤◌, List, [], ◌∷◌, ◌++◌, length, take, drop, replicate, sym, refl, ap, ◌∙◌, ap₂, append_assoc, append-nil, arith, length-append, length-take, length-drop, length-take-le, take-take, drop-drop, take_at, take-add, drop_at}
+use lib.ListN.{length-replicate}
+use lib.Seq.{take-append-le, drop-append-le, drop-append-add}
 use lib.Seq.{paste}
 use borrow.Rule.Slice.PartMut.{put_mid}
 use Rattle.bits.specs.Lists.{over}

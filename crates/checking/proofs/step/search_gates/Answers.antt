@@ -1,5 +1,5 @@
 -- `checking::step::search_gates` meets its contract.
-use Rattle.std.proofs.Common.{sym, ap, ◌∙◌, arith}
+use Rattle.std.proofs.Common.{sym, ◌∙◌, arith}
 use Rattle.checking.proofs.lemmas.step.Searching.{words_found, words_next, words_none}
 use Rattle.checking.proofs.step.search_gates.Goals as goal
 
