@@ -26,18 +26,6 @@ gate_line-read-requires c =
 room : (c : In-loop-i) → 3 * c.loop-i.i + 3 ≤ length c.loop-i.out
 room c = omega (arith, c.loop-i-test.true, c.loop-i.invariant.1, c.requires.1)
 
-pub overflow_mul-to : goal.overflow_mul-to
-overflow_mul-to c = omega (arith, room (goal.at.overflow_mul-to c).In-loop-i)
-
-pub offset_bounds-out-to : goal.offset_bounds-out-to
-offset_bounds-out-to c = let h = room (goal.at.offset_bounds-out-to c).In-loop-i in search rules
-
-pub slice_bounds-put_gate-count : goal.slice_bounds-put_gate-count
-slice_bounds-put_gate-count c = omega (arith, room (goal.at.slice_bounds-put_gate-count c).In-loop-i)
-
-pub slice_bounds-put_gate-start : goal.slice_bounds-put_gate-start
-slice_bounds-put_gate-start c = let h = room (goal.at.slice_bounds-put_gate-start c).In-loop-i in search rules
-
 pub loop-i-preserved : goal.loop-i-preserved
 loop-i-preserved c = (
   omega arith,
@@ -47,9 +35,3 @@ loop-i-preserved c = (
       let r = c.gate_line-read.ensures n.gate n.here in
       n.step (room (goal.at.loop-i-preserved c).In-loop-i) _ _ (ap (λ (x : GateRead). x.next) r) (ap (λ (x : GateRead). x.gate) r) _ c.put_gate.ensures),
 )
-
-pub shape_of-out : goal.shape_of-out
-shape_of-out c = c.loop-i.invariant.1
-
-pub returns : goal.returns
-returns c = λ gs s e. filling_done _ gs _ _ _ _ (c.loop-i.invariant.2 gs s e) (omega (arith, c.loop-i.invariant.0, c.loop-i-test.false))

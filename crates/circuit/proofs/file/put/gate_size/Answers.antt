@@ -4,12 +4,6 @@ use Rattle.circuit.proofs.lemmas.file.scan.Laws.{width_two}
 use Rattle.circuit.proofs.lemmas.file.put.Laws.{gate_length, same_controls}
 use Rattle.circuit.proofs.file.put.gate_size.Goals as goal
 
-pub overflow_add-result : goal.overflow_add-result
-overflow_add-result c = omega (arith, c.digits.ensures, width_two c.args.g.target)
-
-pub overflow_add-result-2 : goal.overflow_add-result-2
-overflow_add-result-2 c = omega (arith, c.digits.ensures, width_two c.args.g.target, c.controls_size.ensures.1)
-
 pub returns : goal.returns
 returns c = (
   omega (arith, c.digits.ensures, c.controls_size.ensures.0, gate_length c.args.g, ap length (same_controls c.args.g)),

@@ -7,9 +7,6 @@ use Rattle.circuit.proofs.file.scan.control.Goals as goal
 pub returns-then-not-sign : goal.returns-then-not-sign
 returns-then-not-sign c = sym (control_unsigned _ _ c.args.text.now c.args.at _ c.byte-s.ensures (sym c.sign.ensures ∙ c.if-not-sign.true))
 
-pub line-requires : goal.line-requires
-line-requires c = sign_inside c.args.n c.args.place c.args.text.now c.args.at _ c.byte-s.ensures (sym c.sign.ensures ∙ c.if-not-sign.false)
-
 pub returns-in_err-k : goal.returns-in_err-k
 returns-in_err-k c =
     let e : c.from_residual.result ≡ Err c.in_err-k.field-0.0 = search rules in

@@ -17,9 +17,6 @@ pub returns-then-gates-ge-MAX_GATES : goal.returns-then-gates-ge-MAX_GATES
 returns-then-gates-ge-MAX_GATES c =
     sym (gate_many _ (sym (word (goal.at.returns-then-gates-ge-MAX_GATES c).After-starts_with) ∙ c.if-not-starts_with.false) _ _ _ _ c.if-gates-ge-MAX_GATES.true)
 
-pub line-requires : goal.line-requires
-line-requires c = gate_inside c.args.text.now c.args.start (sym (word (goal.at.line-requires c).After-starts_with) ∙ c.if-not-starts_with.false)
-
 pub returns-in_err-k : goal.returns-in_err-k
 returns-in_err-k c =
     let e : c.from_residual.result ≡ Err c.in_err-k.field-0.0 = search rules in

@@ -8,9 +8,6 @@ use Rattle.circuit.proofs.file.scan.header.Goals as goal
 pub returns-then-not-starts_with : goal.returns-then-not-starts_with
 returns-then-not-starts_with c = sym (header_other _ (sym c.starts_with.ensures.value ∙ c.if-not-starts_with.true))
 
-pub number-requires : goal.number-requires
-number-requires c = header_room _ (sym c.starts_with.ensures.value ∙ c.if-not-starts_with.false)
-
 pub returns-in_err-k : goal.returns-in_err-k
 returns-in_err-k c =
     let e : c.from_residual.result ≡ Err (WrongForm 0) = search rules in
