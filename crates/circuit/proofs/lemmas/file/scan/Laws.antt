@@ -310,7 +310,6 @@ starts_true w r e = (starts_is Decides-eqb r w (starts_with eqb r w) refl).0 e
 pub true_starts : (w r : List ℕ) → starts_with eqb (w ++ r) w ≡ true
 true_starts w r = (starts_is Decides-eqb (w ++ r) w (starts_with eqb (w ++ r) w) refl).1 r refl
 
--- the same of the text from a position on
-pub starts_there : (text : List ℕ) (at : ℕ) (w : List ℕ) (r : Bool) → r ≡ starts_with eqb (take (length text - at) (drop at text)) w → r ≡ starts_with eqb (drop at text) w
-starts_there text at w r e =
-    e ∙ ap (λ (x : List ℕ). starts_with eqb x w) (take_all (length text - at) (drop at text) (omega (arith, length-drop at text)))
+-- the text from a position on, as a slice
+pub starts_there : (text : List ℕ) (at : ℕ) (w : List ℕ) → starts_with eqb (take (length text - at) (drop at text)) w ≡ starts_with eqb (drop at text) w
+starts_there text at w = ap (λ (x : List ℕ). starts_with eqb x w) (take_all (length text - at) (drop at text) (omega (arith, length-drop at text)))
