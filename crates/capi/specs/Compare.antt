@@ -1,7 +1,7 @@
 -- Answers of the calls that compare two cascades in C.
 use Rattle.std.specs.Prelude.{Bool, true, false, cond, nat_lt}
 use Rattle.circuit.specs.Outcome.{Outcome, served, refused}
-use Rattle.circuit.specs.Words.{Counts}
+use Rattle.circuit.specs.declared.words.Counts.{Counts}
 use Rattle.checking.specs.Compare.{Difference, none, lowest}
 use Rattle.capi.specs.declared.compare.CascadeStateAnswer.{CascadeStateAnswer}
 use Rattle.capi.specs.declared.compare.CascadeDiffersAnswer.{CascadeDiffersAnswer}

@@ -1,7 +1,7 @@
 -- A cascade that was read, and the bytes of a text, in C.
 use Rattle.std.specs.Prelude.{ℕ}
 use Rattle.circuit.specs.Outcome.{Outcome, served, refused}
-use Rattle.circuit.specs.File.{ReadCounts}
+use Rattle.circuit.specs.declared.file.ReadCounts.{ReadCounts}
 use Rattle.capi.specs.declared.file.CascadeReadAnswer.{CascadeReadAnswer}
 use Rattle.capi.specs.declared.file.CascadeWriteAnswer.{CascadeWriteAnswer}
 

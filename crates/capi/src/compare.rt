@@ -5,11 +5,10 @@ ghost use Rattle.circuit.specs.Words.{pair_outcome};
 ghost use Rattle.checking.specs.Compare.{difference_outcome, differs_outcome};
 ghost use Rattle.capi.specs.Compare.{state_answer, differs_answer, fewer_answer};
 
-use checking::compare::{DifferenceAnswer, DiffersAnswer, RefusalAnswer};
 use circuit::gate::Gate;
 
 #[repr(C)]
-#[derive(Clone, Copy)]
+#[derive(Clone, Copy, Debug, PartialEq, Eq)]
 pub struct CascadeStateAnswer {
     pub number: u64,
     pub place: u64,
@@ -18,7 +17,7 @@ pub struct CascadeStateAnswer {
 }
 
 #[repr(C)]
-#[derive(Clone, Copy)]
+#[derive(Clone, Copy, Debug, PartialEq, Eq)]
 pub struct CascadeDiffersAnswer {
     pub number: u64,
     pub place: u64,
@@ -26,7 +25,7 @@ pub struct CascadeDiffersAnswer {
 }
 
 #[repr(C)]
-#[derive(Clone, Copy)]
+#[derive(Clone, Copy, Debug, PartialEq, Eq)]
 pub struct CascadeFewerAnswer {
     pub number: u64,
     pub place: u64,
@@ -44,21 +43,21 @@ pub extern "C" fn cascade_first_difference(
     ensures { result ≡ state_answer (difference_outcome na a.now nb b.now) }
 {
     match checking::compare::first_difference(na, a, nb, b) {
-        DifferenceAnswer::State(state) => CascadeStateAnswer {
+        Ok(Some(state)) => CascadeStateAnswer {
             number: 0,
             place: 0,
             found: 1,
             state,
         },
-        DifferenceAnswer::Nothing => CascadeStateAnswer {
+        Ok(None) => CascadeStateAnswer {
             number: 0,
             place: 0,
             found: 0,
             state: 0,
         },
-        DifferenceAnswer::Refused(why) => CascadeStateAnswer {
-            number: why.number,
-            place: why.place,
+        Err(why) => CascadeStateAnswer {
+            number: why.number(),
+            place: why.place(),
             found: 0,
             state: 0,
         },
@@ -76,19 +75,14 @@ pub extern "C" fn cascade_differs(
     ensures { result ≡ differs_answer (differs_outcome na a.now nb b.now state) }
 {
     match checking::compare::differs(na, a, nb, b, state) {
-        DiffersAnswer::Differ => CascadeDiffersAnswer {
+        Ok(differs) => CascadeDiffersAnswer {
             number: 0,
             place: 0,
-            differs: 1,
+            differs: differs as u64,
         },
-        DiffersAnswer::Agree => CascadeDiffersAnswer {
-            number: 0,
-            place: 0,
-            differs: 0,
-        },
-        DiffersAnswer::Refused(why) => CascadeDiffersAnswer {
-            number: why.number,
-            place: why.place,
+        Err(why) => CascadeDiffersAnswer {
+            number: why.number(),
+            place: why.place(),
             differs: 0,
         },
     }
@@ -104,30 +98,19 @@ pub extern "C" fn cascade_fewer_gates<'a>(
 ) -> CascadeFewerAnswer
     ensures { result ≡ fewer_answer (pair_outcome na a.now nb b.now) }
 {
-    match checking::compare::fewer_gates_refusal(na, a, nb, b) {
-        RefusalAnswer::Refused(why) => CascadeFewerAnswer {
-            number: why.number,
-            place: why.place,
+    if let Some(why) = checking::compare::fewer_gates_refusal(na, a, nb, b) {
+        return CascadeFewerAnswer {
+            number: why.number(),
+            place: why.place(),
             second: 0,
             gates: 0,
-        },
-        RefusalAnswer::Nothing => {
-            let words = checking::compare::fewer_gates(na, a, nb, b).len();
-            let gates = (words / Gate::WORDS) as u64;
-            if words < a.len() {
-                return CascadeFewerAnswer {
-                    number: 0,
-                    place: 0,
-                    second: 1,
-                    gates,
-                };
-            }
-            CascadeFewerAnswer {
-                number: 0,
-                place: 0,
-                second: 0,
-                gates,
-            }
-        }
+        };
+    }
+    let words = checking::compare::fewer_gates(na, a, nb, b).len();
+    CascadeFewerAnswer {
+        number: 0,
+        place: 0,
+        second: (words < a.len()) as u64,
+        gates: (words / Gate::WORDS) as u64,
     }
 }

@@ -6,14 +6,10 @@ ghost use Rattle.checking.specs.Emit.{emit_outcome, emit_buffer};
 ghost use Rattle.capi.specs.Sizes.{sizes_answer};
 
 use crate::sizes::CascadeSizesAnswer;
-use checking::clauses::EmitAnswer;
 
 #[unsafe(no_mangle)]
 pub extern "C" fn cascade_emit(lines: u64, words: &[u64], out: &mut [i16]) -> CascadeSizesAnswer
     ensures { Yields result out.new (sizes_answer (emit_outcome lines words.now (length out.old))) (emit_buffer lines words.now out.old) }
 {
-    match checking::clauses::emit(lines, words, out) {
-        EmitAnswer::Totals(t) => crate::sizes::totals_answer(t),
-        EmitAnswer::Refused(why) => crate::sizes::refused_answer(why),
-    }
+    checking::clauses::emit(lines, words, out).into()
 }

@@ -18,7 +18,5 @@ pub extern "C" fn cascade_fault_masks(
 ) -> CascadeCountAnswer
     ensures { Yields result out.new (count_answer (fault_outcome na suspect.now nb reference.now states.now (length out.old))) (fault_buffer na suspect.now nb reference.now states.now out.old) }
 {
-    crate::count::count_answer(checking::faults::fault_masks(
-        na, suspect, nb, reference, states, out,
-    ))
+    checking::faults::fault_masks(na, suspect, nb, reference, states, out).into()
 }

@@ -5,10 +5,9 @@ ghost use Rattle.circuit.specs.Outcome.{Yields};
 ghost use Rattle.circuit.specs.File.{read_outcome, read_buffer, write_outcome, write_buffer};
 ghost use Rattle.capi.specs.File.{read_answer, write_answer};
 
-use circuit::file::{ReadAnswer, WriteAnswer};
 
 #[repr(C)]
-#[derive(Clone, Copy)]
+#[derive(Clone, Copy, Debug, PartialEq, Eq)]
 pub struct CascadeReadAnswer {
     pub number: u64,
     pub place: u64,
@@ -18,7 +17,7 @@ pub struct CascadeReadAnswer {
 }
 
 #[repr(C)]
-#[derive(Clone, Copy)]
+#[derive(Clone, Copy, Debug, PartialEq, Eq)]
 pub struct CascadeWriteAnswer {
     pub number: u64,
     pub place: u64,
@@ -30,20 +29,16 @@ pub extern "C" fn cascade_read(text: &[u8], out: &mut [u64]) -> CascadeReadAnswe
     ensures { Yields result out.new (read_answer (read_outcome text.now (length out.old))) (read_buffer text.now out.old) }
 {
     match circuit::file::read(text, out) {
-        ReadAnswer::Cascade {
-            header,
-            gates,
-            taken,
-        } => CascadeReadAnswer {
+        Ok(counts) => CascadeReadAnswer {
             number: 0,
             place: 0,
-            lines: header.lines,
-            gates: gates as u64,
-            taken: taken as u64,
+            lines: counts.lines,
+            gates: counts.gates as u64,
+            taken: counts.taken as u64,
         },
-        ReadAnswer::Refused(why) => CascadeReadAnswer {
-            number: why.number,
-            place: why.place,
+        Err(why) => CascadeReadAnswer {
+            number: why.number(),
+            place: why.place(),
             lines: 0,
             gates: 0,
             taken: 0,
@@ -56,14 +51,14 @@ pub extern "C" fn cascade_write(lines: u64, words: &[u64], out: &mut [u8]) -> Ca
     ensures { Yields result out.new (write_answer (write_outcome lines words.now (length out.old))) (write_buffer lines words.now out.old) }
 {
     match circuit::file::write(lines, words, out) {
-        WriteAnswer::Bytes(written) => CascadeWriteAnswer {
+        Ok(written) => CascadeWriteAnswer {
             number: 0,
             place: 0,
             written: written as u64,
         },
-        WriteAnswer::Refused(why) => CascadeWriteAnswer {
-            number: why.number,
-            place: why.place,
+        Err(why) => CascadeWriteAnswer {
+            number: why.number(),
+            place: why.place(),
             written: 0,
         },
     }

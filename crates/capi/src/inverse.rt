@@ -11,5 +11,5 @@ use crate::count::CascadeCountAnswer;
 pub extern "C" fn cascade_inverse(lines: u64, words: &[u64], out: &mut [u64]) -> CascadeCountAnswer
     ensures { Yields result out.new (count_answer (inverse_outcome lines words.now (length out.old))) (inverse_buffer lines words.now out.old) }
 {
-    crate::count::count_answer(circuit::inverse::inverse(lines, words, out))
+    circuit::inverse::inverse(lines, words, out).into()
 }

@@ -17,5 +17,5 @@ pub extern "C" fn cascade_miter(
 ) -> CascadeCountAnswer
     ensures { Yields result out.new (count_answer (miter_outcome na a.now nb b.now (length out.old))) (miter_buffer na a.now nb b.now out.old) }
 {
-    crate::count::count_answer(checking::miter::miter(na, a, nb, b, out))
+    checking::miter::miter(na, a, nb, b, out).into()
 }

@@ -5,11 +5,10 @@ ghost use Rattle.circuit.specs.Outcome.{Yields};
 ghost use Rattle.checking.specs.Reduce.{reduce_outcome, reduce_buffer};
 ghost use Rattle.capi.specs.Reduce.{reduce_answer};
 
-use checking::reduce::ReduceAnswer;
 use circuit::gate::Gate;
 
 #[repr(C)]
-#[derive(Clone, Copy)]
+#[derive(Clone, Copy, Debug, PartialEq, Eq)]
 pub struct CascadeReduceAnswer {
     pub number: u64,
     pub place: u64,
@@ -24,16 +23,16 @@ pub extern "C" fn cascade_reduce(lines: u64, words: &mut [u64]) -> CascadeReduce
 {
     let before = (words.len() / Gate::WORDS) as u64;
     match checking::reduce::reduce(lines, words) {
-        ReduceAnswer::Reduced(r) => CascadeReduceAnswer {
+        Ok(r) => CascadeReduceAnswer {
             number: 0,
             place: 0,
             gates: r.gates as u64,
             pairs: r.pairs as u64,
             merges: r.merges as u64,
         },
-        ReduceAnswer::Refused(why) => CascadeReduceAnswer {
-            number: why.number,
-            place: why.place,
+        Err(why) => CascadeReduceAnswer {
+            number: why.number(),
+            place: why.place(),
             gates: before,
             pairs: 0,
             merges: 0,

@@ -1,15 +1,15 @@
 // cascade_sizes.
 
 ghost use Rattle.std.specs.Prelude.{◌≡◌};
-ghost use Rattle.circuit.specs.Outcome.{served, refused};
+ghost use Rattle.circuit.specs.Outcome.{outcome_of};
 ghost use Rattle.checking.specs.Sizes.{sizes_outcome};
 ghost use Rattle.capi.specs.Sizes.{sizes_answer};
 
-use checking::clauses::{SizesAnswer, Totals};
+use checking::clauses::Totals;
 use circuit::refusal::Refusal;
 
 #[repr(C)]
-#[derive(Clone, Copy)]
+#[derive(Clone, Copy, Debug, PartialEq, Eq)]
 pub struct CascadeSizesAnswer {
     pub number: u64,
     pub place: u64,
@@ -18,29 +18,26 @@ pub struct CascadeSizesAnswer {
     pub words: u64,
 }
 
-// The totals of a clause list, in numbers.
-pub(crate) fn totals_answer(t: Totals) -> CascadeSizesAnswer
-    ensures { result ≡ sizes_answer (served t) }
-{
-    CascadeSizesAnswer {
-        number: 0,
-        place: 0,
-        variables: t.variables,
-        clauses: t.clauses,
-        words: t.words,
-    }
-}
+impl From<Result<Totals, Refusal>> for CascadeSizesAnswer {
+    ghost from_gives = { λ answer c. c ≡ sizes_answer (outcome_of answer) };
 
-// A refusal, in numbers.
-pub(crate) fn refused_answer(why: Refusal) -> CascadeSizesAnswer
-    ensures { result ≡ sizes_answer (refused why.number why.place) }
-{
-    CascadeSizesAnswer {
-        number: why.number,
-        place: why.place,
-        variables: 0,
-        clauses: 0,
-        words: 0,
+    fn from(answer: Result<Totals, Refusal>) -> CascadeSizesAnswer {
+        match answer {
+            Ok(t) => CascadeSizesAnswer {
+                number: 0,
+                place: 0,
+                variables: t.variables,
+                clauses: t.clauses,
+                words: t.words,
+            },
+            Err(why) => CascadeSizesAnswer {
+                number: why.number(),
+                place: why.place(),
+                variables: 0,
+                clauses: 0,
+                words: 0,
+            },
+        }
     }
 }
 
@@ -48,8 +45,5 @@ pub(crate) fn refused_answer(why: Refusal) -> CascadeSizesAnswer
 pub extern "C" fn cascade_sizes(lines: u64, words: &[u64]) -> CascadeSizesAnswer
     ensures { result ≡ sizes_answer (sizes_outcome lines words.now) }
 {
-    match checking::clauses::sizes(lines, words) {
-        SizesAnswer::Sizes(t) => totals_answer(t),
-        SizesAnswer::Refused(why) => refused_answer(why),
-    }
+    checking::clauses::sizes(lines, words).into()
 }

@@ -2,16 +2,15 @@
 
 ghost use Rattle.std.specs.Prelude.{◌≡◌, ◌/◌, length};
 ghost use Rattle.circuit.specs.Outcome.{Yields};
-ghost use Rattle.checking.specs.Match.{kind_number};
 ghost use Rattle.checking.specs.Step.{step_outcome, step_buffer};
-ghost use Rattle.checking.specs.Match.{of_kind};
+ghost use Rattle.checking.specs.Match.{of_kind, kind_number};
 ghost use Rattle.capi.specs.Step.{step_answer};
 
-use checking::step::{Kind, StepAnswer};
+use checking::step::Kind;
 use circuit::gate::Gate;
 
 #[repr(C)]
-#[derive(Clone, Copy)]
+#[derive(Clone, Copy, Debug, PartialEq, Eq)]
 pub struct CascadeStepAnswer {
     pub number: u64,
     pub place: u64,
@@ -22,7 +21,7 @@ pub struct CascadeStepAnswer {
     pub gates: u64,
 }
 
-// The number of a match: 0 pair, 1 drop, 2 turn.
+// The number of a match in C: 0 pair, 1 drop, 2 turn. A `From` of `Kind` could stand in checking alone, which knows no C.
 fn kind_number(kind: Kind) -> u64
     ensures { result ≡ kind_number (of_kind kind) }
 {
@@ -39,19 +38,16 @@ pub extern "C" fn cascade_step(lines: u64, words: &mut [u64]) -> CascadeStepAnsw
 {
     let before = (words.len() / Gate::WORDS) as u64;
     match checking::step::step(lines, words) {
-        StepAnswer::Found(s) => {
-            let kind = s.kind;
-            CascadeStepAnswer {
-                number: 0,
-                place: 0,
-                found: 1,
-                i: s.i as u64,
-                j: s.j as u64,
-                kind: kind_number(kind),
-                gates: s.gates as u64,
-            }
-        }
-        StepAnswer::Nothing => CascadeStepAnswer {
+        Ok(Some(s)) => CascadeStepAnswer {
+            number: 0,
+            place: 0,
+            found: 1,
+            i: s.i as u64,
+            j: s.j as u64,
+            kind: kind_number(s.kind),
+            gates: s.gates as u64,
+        },
+        Ok(None) => CascadeStepAnswer {
             number: 0,
             place: 0,
             found: 0,
@@ -60,9 +56,9 @@ pub extern "C" fn cascade_step(lines: u64, words: &mut [u64]) -> CascadeStepAnsw
             kind: 0,
             gates: before,
         },
-        StepAnswer::Refused(why) => CascadeStepAnswer {
-            number: why.number,
-            place: why.place,
+        Err(why) => CascadeStepAnswer {
+            number: why.number(),
+            place: why.place(),
             found: 0,
             i: 0,
             j: 0,

@@ -1,7 +1,8 @@
 // From two cascades to clauses, with lists of calls on their miter: for each the answer and then the miter's buffer.
 #![tactic(auto)]
 
-use checking::clauses::{ClauseWord, EmitAnswer};
+use checking::check::Call;
+use checking::clauses::ClauseWord;
 
 // The variables, clauses and words, or a refusal's number and place; then the buffer of thirteen words that held 9.
 fn print_check(
@@ -10,20 +11,20 @@ fn print_check(
     a: &[u64],
     nb: u64,
     b: &[u64],
-    calls: &[u64],
+    calls: &[Call],
     out: &mut [ClauseWord],
 ) {
     let mut room = [9u64; 13];
     match checking::check::check(na, a, nb, b, calls, &mut room, out) {
-        EmitAnswer::Totals(totals) => {
+        Ok(totals) => {
             rows::print_row(
                 rt,
                 b"clauses ",
                 &[totals.variables, totals.clauses, totals.words],
             );
         }
-        EmitAnswer::Refused(why) => {
-            rows::print_row(rt, b"refused ", &[why.number, why.place]);
+        Err(why) => {
+            rows::print_row(rt, b"refused ", &[why.number(), why.place()]);
         }
     }
     rows::print_row(rt, b"", &room);
@@ -36,11 +37,18 @@ fn main(rt: HostRuntime) {
     let mut out: [ClauseWord; 64] = [0; 64];
     // No call: the clauses of the miter t2+0+1 t1+2 t1+2.
     print_check(&rt, 3, &a, 3, &b, &[], &mut out);
-    // Steps refused with 2 and with 7; a step that takes out t1+2 t1+2; a step that answers none; a reduction refused with 7, and one that finds nothing. A last word alone is no call.
-    let calls = [0u64, 65, 0, 2, 0, 3, 0, 3, 1, 1, 1, 64, 0];
+    // Steps refused with 2 and with 7; a step that takes out t1+2 t1+2; a step that answers none; a reduction refused with 7, and one that finds nothing.
+    let calls = [
+        Call::Step { lines: 65 },
+        Call::Step { lines: 2 },
+        Call::Step { lines: 3 },
+        Call::Step { lines: 3 },
+        Call::Reduce { lines: 1 },
+        Call::Reduce { lines: 64 },
+    ];
     print_check(&rt, 3, &a, 3, &b, &calls, &mut out);
     // A and A: the reduction leaves no gate.
-    print_check(&rt, 3, &a, 3, &a, &[1, 3], &mut out);
+    print_check(&rt, 3, &a, 3, &a, &[Call::Reduce { lines: 3 }], &mut out);
     // 8 and 7 of the miter; 10 of the miter and of the emission.
     print_check(&rt, 3, &a, 4, &b, &calls, &mut out);
     print_check(&rt, 3, &a, 3, &[4, 0, 3], &calls, &mut out);

@@ -10,17 +10,10 @@ use Rattle.checking.specs.Step.{Step, found, none, step_outcome, step_buffer}
 use Rattle.checking.specs.Reduce.{Reduced, reduce_outcome, reduce_buffer}
 use Rattle.checking.specs.Emit.{emit_outcome, emit_buffer}
 use Rattle.checking.specs.Told.{ServedTells}
-use Rattle.checking.specs.Equality.{Call, step_on, reduce_on, Claim}
-
--- two words a call: 0 for a step or anything else for a full reduction, and its n; a last word alone is no call
-abbrev pub call_of : ℕ → ℕ → Call
-call_of zero n = step_on n
-call_of (suc kind) n = reduce_on n
-
-unfoldable pub calls_of : List ℕ → List Call
-calls_of [] = []
-calls_of (kind ∷ []) = []
-calls_of (kind ∷ n ∷ ws) = call_of kind n ∷ calls_of ws
+use Rattle.checking.specs.Equality.{Claim}
+use Rattle.checking.specs.declared.check.Call.TheVariants.{ReduceOn}
+use Rattle.checking.specs.declared.check.Call.TheVariants.{StepOn}
+use Rattle.checking.specs.declared.check.Call.{Call}
 
 -- a buffer and the number of gates that stand at its start
 pub record Held : Type 0 where
@@ -42,9 +35,9 @@ reduce_gates_left (refused number place) before = before
 
 -- a call is given the gates that stand, and leaves the rest of the buffer
 unfoldable pub called : Call → Held → Held
-called (step_on n) h =
+called (StepOn n) h =
     record { gates = step_gates_left (step_outcome n (held_words h)) h.gates; words = over (step_buffer n (held_words h)) h.words }
-called (reduce_on n) h =
+called (ReduceOn n) h =
     record { gates = reduce_gates_left (reduce_outcome n (held_words h)) h.gates; words = over (reduce_buffer n (held_words h)) h.words }
 
 unfoldable pub called_all : List Call → Held → Held

@@ -1,16 +1,12 @@
 -- Two cascades compared on states, and the one with fewer gates, by document 01.
-use Rattle.std.specs.Prelude.{◌≡◌, ℕ, zero, suc, ◌+◌, ◌^◌, ◌<◌, Bool, true, false, cond, not, List, [], ◌==◌, nat_le, nat_lt}
+use Rattle.std.specs.Prelude.{◌≡◌, ℕ, zero, suc, ◌+◌, ◌^◌, ◌<◌, Bool, true, false, cond, not, List, [], Option, Some, None, ◌==◌, nat_le, nat_lt}
 use Rattle.circuit.specs.declared.gate.Gate.{Gate}
 use Rattle.circuit.specs.Outcome.{Outcome, served, refused, demand, and_then}
-use Rattle.circuit.specs.Refusal.{bad_state, too_wide}
-use Rattle.circuit.specs.Words.{gates_of, Counts, pair_outcome}
+use Rattle.circuit.specs.declared.refusal.Refusal.{Refusal}
+use Rattle.circuit.specs.Refusal.{bad_state, too_wide, refusal_number, refusal_place}
+use Rattle.circuit.specs.Words.{gates_of, pair_outcome}
+use Rattle.circuit.specs.declared.words.Counts.{Counts}
 use Rattle.circuit.specs.Run.{run, Equal, Differs}
-use Rattle.checking.specs.declared.compare.DifferenceAnswer.{DifferenceAnswer}
-use Rattle.checking.specs.declared.compare.DifferenceAnswer.TheVariants as difference
-use Rattle.checking.specs.declared.compare.DiffersAnswer.{DiffersAnswer}
-use Rattle.checking.specs.declared.compare.DiffersAnswer.TheVariants as differs
-use Rattle.checking.specs.declared.compare.RefusalAnswer.{RefusalAnswer}
-use Rattle.checking.specs.declared.compare.RefusalAnswer.TheVariants as refusal
 
 -- whether two cascades give different outputs on x
 abbrev pub outputs_differ : List Gate → List Gate → ℕ → Bool
@@ -75,16 +71,10 @@ pub record Picks {P : Type 0} (o : Outcome Counts) (a b words : List ℕ) (at_a 
 
 -- ---- the answers in document 01's values
 
-abbrev pub of_difference : DifferenceAnswer → Outcome Difference
-of_difference (difference.State x) = served (lowest x)
-of_difference difference.Nothing = served none
-of_difference (difference.Refused r) = refused r.number r.place
+abbrev pub of_difference : Option ℕ → Difference
+of_difference (Some x) = lowest x
+of_difference None = none
 
-abbrev pub of_differs : DiffersAnswer → Outcome Bool
-of_differs differs.Differ = served true
-of_differs differs.Agree = served false
-of_differs (differs.Refused r) = refused r.number r.place
-
-abbrev pub of_refusal : RefusalAnswer → Outcome (Unit {0})
-of_refusal refusal.Nothing = served tt
-of_refusal (refusal.Refused r) = refused r.number r.place
+abbrev pub of_refusal : Option Refusal → Outcome (Unit {0})
+of_refusal None = served tt
+of_refusal (Some why) = refused (refusal_number why) (refusal_place why)

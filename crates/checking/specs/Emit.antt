@@ -4,8 +4,6 @@ use Rattle.circuit.specs.Outcome.{Outcome, served, refused, demand, and_then, wr
 use Rattle.circuit.specs.Refusal.{no_room}
 use Rattle.circuit.specs.Words.{gates_of}
 use Rattle.checking.specs.declared.clauses.Totals.{Totals}
-use Rattle.checking.specs.declared.clauses.EmitAnswer.{EmitAnswer}
-use Rattle.checking.specs.declared.clauses.EmitAnswer.TheVariants as answer
 use Rattle.checking.specs.Clauses.{clauses_of}
 use Rattle.checking.specs.Stored.{stored}
 use Rattle.checking.specs.Sizes.{sizes_outcome}
@@ -17,8 +15,3 @@ emit_outcome n ws room = and_then (sizes_outcome n ws) (λ t. demand (nat_le t.w
 -- the stored clauses at the buffer's start
 unfoldable pub emit_buffer : ℕ → List ℕ → List ℤ → List ℤ
 emit_buffer n ws out = written (emit_outcome n ws (length out)) (stored (clauses_of n (gates_of ws))) out
-
--- the answer in document 01's numbers and values
-abbrev pub of_emit : EmitAnswer → Outcome Totals
-of_emit (answer.Totals t) = served t
-of_emit (answer.Refused r) = refused r.number r.place

@@ -3,6 +3,8 @@ use Rattle.std.specs.Prelude.{◌≡◌, ℕ, ◌+◌, ◌*◌, ◌≤◌, List,
 use Rattle.circuit.specs.Gate.{max_gates}
 use Rattle.circuit.specs.Outcome.{Outcome, served, refused}
 use Rattle.circuit.specs.Words.{gates_of, Cascade}
+use Rattle.checking.specs.declared.check.Call.{Call}
+use Rattle.checking.specs.declared.check.Call.TheVariants.{StepOn, ReduceOn}
 use Rattle.checking.specs.declared.clauses.Totals.{Totals}
 use Rattle.checking.specs.Miter.{miter_outcome, miter_buffer}
 use Rattle.checking.specs.Step.{Step, found, none, step_outcome, step_buffer}
@@ -11,10 +13,6 @@ use Rattle.checking.specs.Clauses.{clauses_of}
 use Rattle.checking.specs.Stored.{stored}
 use Rattle.checking.specs.Told.{Told}
 use Rattle.checking.specs.Emit.{emit_outcome, emit_buffer}
-
--- a step or a full reduction, with any number as its n
-pub data Call : Type 0 where
-  step_on reduce_on : ℕ → Call
 
 -- the words that stand after a call, in its buffer: as many as its answer counts; all of them where it is refused or answers none, since the count is then as it was
 abbrev pub step_leaves : Outcome (Step ℕ) → List ℕ → List ℕ
@@ -27,8 +25,8 @@ reduce_leaves (served r) buffer = take (3 * r.left) buffer
 reduce_leaves (refused number place) buffer = buffer
 
 unfoldable pub after : Call → List ℕ → List ℕ
-after (step_on n) ws = step_leaves (step_outcome n ws) (step_buffer n ws)
-after (reduce_on n) ws = reduce_leaves (reduce_outcome n ws) (reduce_buffer n ws)
+after (StepOn n) ws = step_leaves (step_outcome n ws) (step_buffer n ws)
+after (ReduceOn n) ws = reduce_leaves (reduce_outcome n ws) (reduce_buffer n ws)
 
 -- after a list of calls, each given the words that stood after the one before
 unfoldable pub after_all : List Call → List ℕ → List ℕ

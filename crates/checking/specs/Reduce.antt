@@ -5,8 +5,6 @@ use Rattle.circuit.specs.Gate.{max_miter_gates}
 use Rattle.circuit.specs.Outcome.{Outcome, served, refused, and_then}
 use Rattle.circuit.specs.Words.{gates_of, check_outcome}
 use Rattle.checking.specs.declared.reduce.Reduction.{Reduction}
-use Rattle.checking.specs.declared.reduce.ReduceAnswer.{ReduceAnswer}
-use Rattle.checking.specs.declared.reduce.ReduceAnswer.TheVariants as answer
 use Rattle.checking.specs.Match.{Kind}
 use Rattle.checking.specs.Step.{Step, found, none, step_gates, filled, served_words}
 
@@ -51,7 +49,3 @@ reduce_buffer n ws = served_words (reduce_outcome n ws) (filled (reduce_gates (g
 -- the answers in document 01's values
 abbrev pub of_reduction : Reduction → Reduced ℕ
 of_reduction r = record { left = r.gates; pairs = r.pairs; merges = r.merges }
-
-abbrev pub of_reduce : ReduceAnswer → Outcome (Reduced ℕ)
-of_reduce (answer.Reduced r) = served (of_reduction r)
-of_reduce (answer.Refused r) = refused r.number r.place

@@ -5,8 +5,6 @@ use Rattle.circuit.specs.Gate.{max_miter_gates, control_count}
 use Rattle.circuit.specs.Outcome.{Outcome, served, refused, and_then}
 use Rattle.circuit.specs.Words.{gates_of, check_outcome}
 use Rattle.checking.specs.declared.clauses.Totals.{Totals}
-use Rattle.checking.specs.declared.clauses.SizesAnswer.{SizesAnswer}
-use Rattle.checking.specs.declared.clauses.SizesAnswer.TheVariants as answer
 use Rattle.checking.specs.Clauses.{targeted, up_from}
 
 abbrev pub totals : ℕ → ℕ → ℕ → Totals
@@ -44,8 +42,3 @@ sizes_of n gs = added (totals n 0 0) (added (gates_sizes gs) (added (lines_sizes
 -- 2, 11, 6, 7
 unfoldable pub sizes_outcome : ℕ → List ℕ → Outcome Totals
 sizes_outcome n ws = and_then (check_outcome n ws max_miter_gates) (λ k. served (sizes_of n (gates_of ws)))
-
--- the answer in document 01's numbers and values
-abbrev pub of_sizes : SizesAnswer → Outcome Totals
-of_sizes (answer.Sizes t) = served t
-of_sizes (answer.Refused r) = refused r.number r.place

@@ -5,8 +5,6 @@ use Rattle.circuit.specs.Gate.{max_miter_gates}
 use Rattle.circuit.specs.Outcome.{Outcome, served, refused, and_then}
 use Rattle.circuit.specs.Words.{gates_of, words_of, check_outcome}
 use Rattle.checking.specs.declared.step.Stepped.{Stepped}
-use Rattle.checking.specs.declared.step.StepAnswer.{StepAnswer}
-use Rattle.checking.specs.declared.step.StepAnswer.TheVariants as answer
 use Rattle.checking.specs.Match.{may_pass, Kind, Match, Compared, apart, matched, match_of, kind_of, remaining, of_kind}
 
 -- what a scan from one gate on finds: the place of the gate that it matches, and the match; and what the search finds: the places of both
@@ -87,7 +85,6 @@ step_buffer n ws = served_words (step_outcome n ws) (step_words (step_gates (gat
 abbrev pub of_stepped : Stepped → Step ℕ
 of_stepped s = found s.i s.j (of_kind s.kind) s.gates
 
-abbrev pub of_step : StepAnswer → Outcome (Step ℕ)
-of_step (answer.Found s) = served (of_stepped s)
-of_step answer.Nothing = served none
-of_step (answer.Refused r) = refused r.number r.place
+abbrev pub of_step : Option Stepped → Step ℕ
+of_step (Some s) = of_stepped s
+of_step None = none

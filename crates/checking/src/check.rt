@@ -1,47 +1,48 @@
 // The whole way from two cascades to clauses: the miter, a list of calls on it, and the emission.
 
 ghost use Rattle.std.specs.Prelude.{◌*◌, ◌≤◌, length};
-ghost use Rattle.circuit.specs.Outcome.{Yields};
-ghost use Rattle.checking.specs.Check.{call_of, calls_of, called, called_all, Checks};
-ghost use Rattle.checking.specs.Emit.{of_emit};
+ghost use Rattle.circuit.specs.Outcome.{outcome_of, Yields};
+ghost use Rattle.checking.specs.Check.{called, called_all, Checks};
 
-use crate::clauses::{ClauseWord, EmitAnswer};
-use crate::reduce::ReduceAnswer;
-use crate::step::StepAnswer;
+use crate::clauses::{ClauseWord, Totals};
 use circuit::gate::Gate;
-use circuit::words::CountAnswer;
+use circuit::refusal::Refusal;
 
-// Makes a call on the gates that stand at the buffer's start, a step where the kind is 0 and else a full reduction; how many gates then stand.
-fn make_call(kind: u64, n: u64, gates: usize, words: &mut [u64]) -> usize
+// A call on the gates that stand, with the number of lines that it is given.
+#[derive(Clone, Copy, Debug, PartialEq, Eq)]
+pub enum Call {
+    // A step.
+    StepOn(u64),
+    // A full reduction.
+    ReduceOn(u64),
+}
+
+// Makes a call on the gates that stand at the buffer's start; how many gates then stand.
+fn make_call(call: Call, gates: usize, words: &mut [u64]) -> usize
     requires { 3 * gates ≤ length words.old }
-    ensures { Yields result words.new (called (call_of kind n) (record { gates = gates; words = words.old })).gates (called (call_of kind n) (record { gates = gates; words = words.old })).words }
+    ensures { Yields result words.new (called call (record { gates = gates; words = words.old })).gates (called call (record { gates = gates; words = words.old })).words }
 {
     let end = Gate::WORDS * gates;
-    if kind == 0 {
-        return match crate::step::step(n, &mut words[..end]) {
-            StepAnswer::Found(s) => s.gates,
-            StepAnswer::Nothing => gates,
-            StepAnswer::Refused(_) => gates,
-        };
-    }
-    match crate::reduce::reduce(n, &mut words[..end]) {
-        ReduceAnswer::Reduced(r) => r.gates,
-        ReduceAnswer::Refused(_) => gates,
+    match call {
+        Call::StepOn(n) => match crate::step::step(n, &mut words[..end]) {
+            Ok(Some(stepped)) => stepped.gates,
+            _ => gates,
+        },
+        Call::ReduceOn(n) => match crate::reduce::reduce(n, &mut words[..end]) {
+            Ok(reduction) => reduction.gates,
+            Err(_) => gates,
+        },
     }
 }
 
-// Makes the calls, two words each, on the gates that stand at the buffer's start; how many gates then stand.
-fn make_calls(calls: &[u64], gates: usize, words: &mut [u64]) -> usize
+// Makes the calls on the gates that stand at the buffer's start; how many gates then stand.
+fn make_calls(calls: &[Call], gates: usize, words: &mut [u64]) -> usize
     requires { 3 * gates ≤ length words.old }
-    ensures { Yields result words.new (called_all (calls_of calls.now) (record { gates = gates; words = words.old })).gates (called_all (calls_of calls.now) (record { gates = gates; words = words.old })).words }
+    ensures { Yields result words.new (called_all calls.now (record { gates = gates; words = words.old })).gates (called_all calls.now (record { gates = gates; words = words.old })).words }
 {
-    let count = calls.len() / 2;
     let mut left = gates;
-    let mut i = 0;
-    while i < count {
-        let at = 2 * i;
-        left = make_call(calls[at], calls[at + 1], left, words);
-        i += 1;
+    for call in calls {
+        left = make_call(*call, left, words);
     }
     left
 }
@@ -53,18 +54,13 @@ pub fn check(
     a: &[u64],
     nb: u64,
     b: &[u64],
-    calls: &[u64],
+    calls: &[Call],
     work: &mut [u64],
     out: &mut [ClauseWord],
-) -> EmitAnswer
-    ensures { Checks na a.now nb b.now (calls_of calls.now) work.old out.old (of_emit result) work.new out.new }
+) -> Result<Totals, Refusal>
+    ensures { Checks na a.now nb b.now calls.now work.old out.old (outcome_of result) work.new out.new }
 {
-    match crate::miter::miter(na, a, nb, b, work) {
-        CountAnswer::Refused(why) => EmitAnswer::Refused(why),
-        CountAnswer::Gates(gates) => {
-            let left = make_calls(calls, gates, work);
-            let end = Gate::WORDS * left;
-            crate::clauses::emit(na, &work[..end], out)
-        }
-    }
+    let gates = crate::miter::miter(na, a, nb, b, work)?;
+    let left = make_calls(calls, gates, work);
+    crate::clauses::emit(na, &work[..Gate::WORDS * left], out)
 }

@@ -3,35 +3,11 @@
 ghost use Rattle.std.specs.Prelude.{◌≡◌, true};
 ghost use Rattle.circuit.specs.Gate.{max_lines};
 ghost use Rattle.circuit.specs.Words.{gates_of, all_valid, pair_outcome};
-ghost use Rattle.circuit.specs.Outcome.{served};
-ghost use Rattle.checking.specs.Compare.{lowest_from, outputs_differ, Sweeps, Picks, differs_outcome, pick_outcome, of_difference, of_differs, of_refusal};
+ghost use Rattle.circuit.specs.Outcome.{outcome_of, map_served};
+ghost use Rattle.checking.specs.Compare.{lowest_from, outputs_differ, Sweeps, Picks, differs_outcome, pick_outcome, of_difference, of_refusal};
 
 use circuit::gate::Gate;
 use circuit::refusal::Refusal;
-use circuit::words::PairAnswer;
-
-// The lowest state on which two cascades differ (01: sweep), none, or a refusal.
-#[derive(Clone, Copy)]
-pub enum DifferenceAnswer {
-    State(u64),
-    Nothing,
-    Refused(Refusal),
-}
-
-// Whether two cascades differ on a state (01: input check), or a refusal.
-#[derive(Clone, Copy)]
-pub enum DiffersAnswer {
-    Differ,
-    Agree,
-    Refused(Refusal),
-}
-
-// Why a call is refused, or nothing.
-#[derive(Clone, Copy)]
-pub enum RefusalAnswer {
-    Nothing,
-    Refused(Refusal),
-}
 
 // Whether two cascades, which were tested, give different outputs on a state.
 pub(crate) fn outputs_differ(a: &[u64], b: &[u64], state: u64) -> bool
@@ -43,71 +19,49 @@ pub(crate) fn outputs_differ(a: &[u64], b: &[u64], state: u64) -> bool
 }
 
 // The lowest of the states below `count` on which two cascades differ.
-fn lowest_difference(a: &[u64], b: &[u64], count: u64) -> DifferenceAnswer
+fn lowest_difference(a: &[u64], b: &[u64], count: u64) -> Option<u64>
     requires first_valid { all_valid max_lines (gates_of a.now) ≡ true }
     requires second_valid { all_valid max_lines (gates_of b.now) ≡ true }
-    ensures { of_difference result ≡ served (lowest_from (gates_of a.now) (gates_of b.now) 0 count) }
+    ensures { of_difference result ≡ lowest_from (gates_of a.now) (gates_of b.now) 0 count }
 {
-    let mut x = 0;
-    while x < count {
+    for x in 0..count {
         if outputs_differ(a, b, x) {
-            return DifferenceAnswer::State(x);
+            return Some(x);
         }
-        x += 1;
     }
-    DifferenceAnswer::Nothing
+    None
 }
 
-// The lowest state on which two cascades of at most 16 lines differ, or none; else what is wrong with the pair, or 13.
-pub fn first_difference(na: u64, a: &[u64], nb: u64, b: &[u64]) -> DifferenceAnswer
-    ensures { Sweeps na a.now nb b.now (of_difference result) }
+// The lowest state on which two cascades of at most 16 lines differ (01: sweep), or none; else what is wrong with the pair, or 13.
+#[tactic(auto, unfolding(crate::specs::Compare::difference_outcome))]
+pub fn first_difference(na: u64, a: &[u64], nb: u64, b: &[u64]) -> Result<Option<u64>, Refusal>
+    ensures { Sweeps na a.now nb b.now (map_served of_difference (outcome_of result)) }
 {
-    match circuit::words::check_pair(na, a, nb, b) {
-        PairAnswer::Refused(why) => DifferenceAnswer::Refused(why),
-        PairAnswer::Gates {
-            first: _,
-            second: _,
-        } => {
-            if Gate::MAX_SWEEP_LINES < na {
-                return DifferenceAnswer::Refused(Refusal::too_wide());
-            }
-            lowest_difference(a, b, 1 << na)
-        }
+    circuit::words::check_pair(na, a, nb, b)?;
+    if Gate::MAX_SWEEP_LINES < na {
+        return Err(Refusal::TooWide);
     }
+    Ok(lowest_difference(a, b, 1 << na))
 }
 
-// Whether two cascades differ on a state; else what is wrong with the pair, or 9.
-pub fn differs(na: u64, a: &[u64], nb: u64, b: &[u64], state: u64) -> DiffersAnswer
-    ensures { of_differs result ≡ differs_outcome na a.now nb b.now state }
+// Whether two cascades differ on a state (01: input check); else what is wrong with the pair, or 9.
+#[tactic(auto, unfolding(crate::specs::Compare::differs_outcome))]
+pub fn differs(na: u64, a: &[u64], nb: u64, b: &[u64], state: u64) -> Result<bool, Refusal>
+    ensures { outcome_of result ≡ differs_outcome na a.now nb b.now state }
 {
-    match circuit::words::check_pair(na, a, nb, b) {
-        PairAnswer::Refused(why) => DiffersAnswer::Refused(why),
-        PairAnswer::Gates {
-            first: _,
-            second: _,
-        } => {
-            if !circuit::gate::below(state, na) {
-                return DiffersAnswer::Refused(Refusal::bad_state(0));
-            }
-            if outputs_differ(a, b, state) {
-                return DiffersAnswer::Differ;
-            }
-            DiffersAnswer::Agree
-        }
+    circuit::words::check_pair(na, a, nb, b)?;
+    if !circuit::gate::below(state, na) {
+        return Err(Refusal::BadState(0));
     }
+    Ok(outputs_differ(a, b, state))
 }
 
 // Why `fewer_gates` is refused: what is wrong with the pair; or nothing.
-pub fn fewer_gates_refusal(na: u64, a: &[u64], nb: u64, b: &[u64]) -> RefusalAnswer
+#[tactic(auto, unfolding(crate::specs::Compare::pick_outcome))]
+pub fn fewer_gates_refusal(na: u64, a: &[u64], nb: u64, b: &[u64]) -> Option<Refusal>
     ensures { of_refusal result ≡ pick_outcome na a.now nb b.now }
 {
-    match circuit::words::check_pair(na, a, nb, b) {
-        PairAnswer::Refused(why) => RefusalAnswer::Refused(why),
-        PairAnswer::Gates {
-            first: _,
-            second: _,
-        } => RefusalAnswer::Nothing,
-    }
+    circuit::words::check_pair(na, a, nb, b).err()
 }
 
 // The cascade with fewer gates (01: pick), the first on a tie; the empty stretch at the first's start where that is refused.
@@ -115,9 +69,9 @@ pub fn fewer_gates<'a>(na: u64, a: &'a [u64], nb: u64, b: &'a [u64]) -> &'a [u64
     ensures { Picks (pair_outcome na a.now nb b.now) a.now b.now result.now a.entry.ref_ptr b.entry.ref_ptr result.ref_ptr }
 {
     match circuit::words::check_pair(na, a, nb, b) {
-        PairAnswer::Refused(_) => &a[0..0],
-        PairAnswer::Gates { first, second } => {
-            if first <= second {
+        Err(_) => &a[0..0],
+        Ok(counts) => {
+            if counts.first <= counts.second {
                 return a;
             }
             b

@@ -36,10 +36,8 @@ fn set_inputs(n: u64, current: &mut [u64])
     requires current_room { n ≤ length current.old }
     ensures { Holds n current.new input_of }
 {
-    let mut k = 0;
-    while k < n {
+    for k in 0..n {
         current[k as usize] = k + 1;
-        k += 1;
     }
 }
 
@@ -48,18 +46,15 @@ fn put_gates(n: u64, words: &[u64], current: &mut [u64], out: &mut [ClauseWord])
     requires { GatesReady n words.now current.old (length out.old) }
     ensures { GatesPut n (gates_of words.now) current.new out.old out.new result.at result.used }
 {
-    let gates = words.len() / Gate::WORDS;
     let mut used = n;
     let mut at = 0;
-    let mut i = 0;
-    while i < gates {
+    for i in 0..words.len() / Gate::WORDS {
         let g = circuit::words::gate_at(words, i);
         let target = g.target;
         let k = crate::emitter::control_count(g);
         at += crate::emitter::put_gate(g, n, current, used, &mut out[at..]);
         used = new_variable(used, k);
         current[target as usize] = used;
-        i += 1;
     }
     Front { at, used }
 }
@@ -73,11 +68,9 @@ fn put_difference(hit: bool, d: u64, a: u64, b: u64, out: &mut [ClauseWord]) -> 
     if hit {
         let x = crate::emitter::literal(a, true);
         let y = crate::emitter::literal(b, true);
-        crate::emitter::put_5(out, 1, 3, not_d, x, y);
-        return 5;
+        return bits::put(out, &[1, 3, not_d, x, y]);
     }
-    crate::emitter::put_3(out, 0, 1, not_d);
-    3
+    bits::put(out, &[0, 1, not_d])
 }
 
 // The clauses of the lines at the buffer's start; a line is hit where its last variable is no input.
@@ -85,12 +78,10 @@ fn put_differences(n: u64, current: &[u64], used: u64, out: &mut [ClauseWord]) -
     requires { LinesReady n current.now used (length out.old) }
     ensures { Yields result out.new (length (lines_stored n current.now used)) (over (lines_stored n current.now used) out.old) }
 {
-    let mut k = 0;
     let mut at = 0;
-    while k < n {
+    for k in 0..n {
         let last = current[k as usize];
         at += put_difference(n < last, used + k + 1, k + 1, last, &mut out[at..]);
-        k += 1;
     }
     at
 }
@@ -102,12 +93,9 @@ fn put_last(n: u64, used: u64, out: &mut [ClauseWord])
     requires out_room { n + 2 ≤ length out.old }
     ensures { out.new ≡ over (last_stored n used) out.old }
 {
-    out[0] = 0;
-    out[1] = crate::emitter::number(n);
-    let mut k = 0;
-    while k < n {
+    bits::put(out, &[0, crate::emitter::number(n)]);
+    for k in 0..n {
         out[k as usize + 2] = crate::emitter::literal(used + 1 + k, true);
-        k += 1;
     }
 }
 

@@ -30,46 +30,6 @@ pub(crate) fn literal(variable: u64, positive: bool) -> ClauseWord
     -v
 }
 
-// Three words at the buffer's start.
-pub(crate) fn put_3(out: &mut [ClauseWord], a: ClauseWord, b: ClauseWord, c: ClauseWord)
-    requires { 3 ≤ length out.old }
-    ensures { out.new ≡ over (a ∷ (b ∷ (c ∷ []))) out.old }
-{
-    out[0] = a;
-    out[1] = b;
-    out[2] = c;
-}
-
-// Four words at the buffer's start.
-fn put_4(out: &mut [ClauseWord], a: ClauseWord, b: ClauseWord, c: ClauseWord, d: ClauseWord)
-    requires { 4 ≤ length out.old }
-    ensures { out.new ≡ over (a ∷ (b ∷ (c ∷ (d ∷ [])))) out.old }
-{
-    out[0] = a;
-    out[1] = b;
-    out[2] = c;
-    out[3] = d;
-}
-
-// Five words at the buffer's start.
-pub(crate) fn put_5(
-    out: &mut [ClauseWord],
-    a: ClauseWord,
-    b: ClauseWord,
-    c: ClauseWord,
-    d: ClauseWord,
-    e: ClauseWord,
-)
-    requires { 5 ≤ length out.old }
-    ensures { out.new ≡ over (a ∷ (b ∷ (c ∷ (d ∷ (e ∷ []))))) out.old }
-{
-    out[0] = a;
-    out[1] = b;
-    out[2] = c;
-    out[3] = d;
-    out[4] = e;
-}
-
 // Of the controls on k lines, by rising line, every -c and then every OR (-p, c), at the buffer's start.
 fn put_controls(
     positive: u64,
@@ -95,7 +55,7 @@ fn put_controls(
         let sign = circuit::gate::has(positive, line);
         out[i] = literal(v, !sign);
         let at = k + 4 * i;
-        put_4(&mut out[at..], 0, 2, not_p, literal(v, sign));
+        bits::put(&mut out[at..], &[0, 2, not_p, literal(v, sign)]);
         left &= left - 1;
         i += 1;
     }
@@ -119,18 +79,13 @@ fn put_many(
 {
     let p = used + 1;
     let controls = k as usize;
-    put_3(out, 0, number(k + 1), literal(p, true));
+    bits::put(out, &[0, number(k + 1), literal(p, true)]);
     put_controls(positive, lines, controls, n, current, p, &mut out[3..]);
     let end = 3 + 5 * controls;
-    put_5(
+    end + bits::put(
         &mut out[end..],
-        1,
-        3,
-        literal(p + 1, false),
-        literal(v, true),
-        literal(p, true),
-    );
-    end + 5
+        &[1, 3, literal(p + 1, false), literal(v, true), literal(p, true)],
+    )
 }
 
 // How many controls a gate has; bits are counted only where there are two or more.
@@ -165,17 +120,9 @@ pub(crate) fn put_gate(g: Gate, n: u64, current: &[u64], used: u64, out: &mut [C
         return put_many(positive, lines, k, n, current, used, v, out);
     }
     if k == 0 {
-        put_4(out, 1, 2, literal(used + 1, true), literal(v, true));
-        return 4;
+        return bits::put(out, &[1, 2, literal(used + 1, true), literal(v, true)]);
     }
     let line = circuit::gate::lowest(lines);
-    put_5(
-        out,
-        1,
-        3,
-        literal(used + 1, false),
-        literal(v, true),
-        literal(current[line as usize], circuit::gate::has(positive, line)),
-    );
-    5
+    let c = literal(current[line as usize], circuit::gate::has(positive, line));
+    bits::put(out, &[1, 3, literal(used + 1, false), literal(v, true), c])
 }

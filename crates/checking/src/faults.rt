@@ -3,16 +3,15 @@
 ghost use Rattle.std.specs.Prelude.{◌≡◌, ◌-◌, ◌*◌, ◌^◌, ◌≤◌, true, [], length, nat_lt};
 ghost use Rattle.bits.specs.Lists.{over};
 ghost use Rattle.circuit.specs.Gate.{max_lines, valid};
-ghost use Rattle.circuit.specs.Outcome.{Yields};
+ghost use Rattle.circuit.specs.Outcome.{outcome_of, Yields};
 ghost use Rattle.circuit.specs.Refusal.{bad_state, agreeing_state};
-ghost use Rattle.circuit.specs.Words.{gates_of, all_valid, of_count};
+ghost use Rattle.circuit.specs.Words.{gates_of, all_valid};
 ghost use Rattle.checking.specs.Compare.{outputs_differ};
 ghost use Rattle.checking.specs.Faults.{is_free, missing_control, gate_masks, mask_where, masks_from, each_from, fault_check, fault_outcome, fault_buffer};
 ghost use Rattle.checking.specs.private.Narrowing.{kept, narrowed, narrowed_by};
 
 use circuit::gate::Gate;
 use circuit::refusal::Refusal;
-use circuit::words::{CountAnswer, PairAnswer};
 
 // The masks of a gate: of a missing positive control, then of a missing negative one.
 const MASKS: usize = 2;
@@ -106,49 +105,43 @@ fn narrow_all(words: &[u64], states: &[u64], out: &mut [u64])
 }
 
 // The number of states, all below 2 ^ n; else 9 at the first that is not.
-fn check_states(n: u64, states: &[u64]) -> CountAnswer
-    ensures { of_count result ≡ each_from (λ x. nat_lt x (2 ^ n)) bad_state 0 states.now }
+fn check_states(n: u64, states: &[u64]) -> Result<usize, Refusal>
+    ensures { outcome_of result ≡ each_from (λ x. nat_lt x (2 ^ n)) bad_state 0 states.now }
 {
     let mut i = 0;
     while i < states.len() {
         if !circuit::gate::below(states[i], n) {
-            return CountAnswer::Refused(Refusal::bad_state(i as u64));
+            return Err(Refusal::BadState(i as u64));
         }
         i += 1;
     }
-    CountAnswer::Gates(i)
+    Ok(i)
 }
 
 // The number of states, on all of which the cascades differ; else 12 at the first on which they agree.
-fn check_differing(a: &[u64], b: &[u64], states: &[u64]) -> CountAnswer
+fn check_differing(a: &[u64], b: &[u64], states: &[u64]) -> Result<usize, Refusal>
     requires first_valid { all_valid max_lines (gates_of a.now) ≡ true }
     requires second_valid { all_valid max_lines (gates_of b.now) ≡ true }
-    ensures { of_count result ≡ each_from (outputs_differ (gates_of a.now) (gates_of b.now)) agreeing_state 0 states.now }
+    ensures { outcome_of result ≡ each_from (outputs_differ (gates_of a.now) (gates_of b.now)) agreeing_state 0 states.now }
 {
     let mut i = 0;
     while i < states.len() {
         if !crate::compare::outputs_differ(a, b, states[i]) {
-            return CountAnswer::Refused(Refusal::agreeing_state(i as u64));
+            return Err(Refusal::AgreeingState(i as u64));
         }
         i += 1;
     }
-    CountAnswer::Gates(i)
+    Ok(i)
 }
 
 // The number of gates of the suspect; else what is wrong with the pair, 9 or 12.
-fn check_faults(na: u64, suspect: &[u64], nb: u64, reference: &[u64], states: &[u64]) -> CountAnswer
-    ensures { of_count result ≡ fault_check na suspect.now nb reference.now states.now }
+fn check_faults(na: u64, suspect: &[u64], nb: u64, reference: &[u64], states: &[u64]) -> Result<usize, Refusal>
+    ensures { outcome_of result ≡ fault_check na suspect.now nb reference.now states.now }
 {
-    match circuit::words::check_pair(na, suspect, nb, reference) {
-        PairAnswer::Refused(why) => CountAnswer::Refused(why),
-        PairAnswer::Gates { first, second: _ } => match check_states(na, states) {
-            CountAnswer::Refused(why) => CountAnswer::Refused(why),
-            CountAnswer::Gates(_) => match check_differing(suspect, reference, states) {
-                CountAnswer::Refused(why) => CountAnswer::Refused(why),
-                CountAnswer::Gates(_) => CountAnswer::Gates(first),
-            },
-        },
-    }
+    let counts = circuit::words::check_pair(na, suspect, nb, reference)?;
+    check_states(na, states)?;
+    check_differing(suspect, reference, states)?;
+    Ok(counts.first)
 }
 
 // The number of gates of the suspect, whose masks stand at the buffer's start; else what is wrong with the pair, 9, 12 or 10.
@@ -159,18 +152,14 @@ pub fn fault_masks(
     reference: &[u64],
     states: &[u64],
     out: &mut [u64],
-) -> CountAnswer
-    ensures { Yields (of_count result) out.new (fault_outcome na suspect.now nb reference.now states.now (length out.old)) (fault_buffer na suspect.now nb reference.now states.now out.old) }
+) -> Result<usize, Refusal>
+    ensures { Yields (outcome_of result) out.new (fault_outcome na suspect.now nb reference.now states.now (length out.old)) (fault_buffer na suspect.now nb reference.now states.now out.old) }
 {
-    match check_faults(na, suspect, nb, reference, states) {
-        CountAnswer::Refused(why) => CountAnswer::Refused(why),
-        CountAnswer::Gates(gates) => {
-            if out.len() < MASKS * gates {
-                return CountAnswer::Refused(Refusal::no_room());
-            }
-            start_masks(na, suspect, out);
-            narrow_all(suspect, states, out);
-            CountAnswer::Gates(gates)
-        }
+    let gates = check_faults(na, suspect, nb, reference, states)?;
+    if out.len() < MASKS * gates {
+        return Err(Refusal::NoRoom);
     }
+    start_masks(na, suspect, out);
+    narrow_all(suspect, states, out);
+    Ok(gates)
 }

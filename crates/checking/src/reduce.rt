@@ -1,30 +1,22 @@
 // The full reduction: steps until none.
 
 ghost use Rattle.std.specs.Prelude.{◌≡◌, ◌%◌, true, length};
-ghost use Rattle.circuit.specs.Outcome.{Yields};
+ghost use Rattle.circuit.specs.Outcome.{outcome_of, map_served, Yields};
 ghost use Rattle.circuit.specs.Gate.{max_lines};
 ghost use Rattle.circuit.specs.Words.{gates_of, all_valid};
 ghost use Rattle.checking.specs.Step.{filled};
-ghost use Rattle.checking.specs.Reduce.{reduce_gates, numbered, reduce_outcome, reduce_buffer, of_reduction, of_reduce};
+ghost use Rattle.checking.specs.Reduce.{reduce_gates, numbered, reduce_outcome, reduce_buffer, of_reduction};
 
 use crate::step::{Kind, Search};
 use circuit::gate::Gate;
 use circuit::refusal::Refusal;
-use circuit::words::CountAnswer;
 
 // The gates left, the pairs and the merges (drops and turns).
-#[derive(Clone, Copy)]
+#[derive(Clone, Copy, Debug, PartialEq, Eq)]
 pub struct Reduction {
     pub gates: usize,
     pub pairs: usize,
     pub merges: usize,
-}
-
-// The same, or a refusal.
-#[derive(Clone, Copy)]
-pub enum ReduceAnswer {
-    Reduced(Reduction),
-    Refused(Refusal),
 }
 
 // Makes steps on the words of gates until there is none.
@@ -67,11 +59,10 @@ fn reduce_gates(words: &mut [u64]) -> Reduction
 }
 
 // Reduces a caller's words; else 2, 11, 6 or 7.
-pub fn reduce(n: u64, words: &mut [u64]) -> ReduceAnswer
-    ensures { Yields (of_reduce result) words.new (reduce_outcome n words.old) (reduce_buffer n words.old) }
+#[tactic(auto, unfolding(crate::specs::Reduce::reduce_outcome, crate::specs::Reduce::reduce_buffer))]
+pub fn reduce(n: u64, words: &mut [u64]) -> Result<Reduction, Refusal>
+    ensures { Yields (map_served of_reduction (outcome_of result)) words.new (reduce_outcome n words.old) (reduce_buffer n words.old) }
 {
-    match circuit::words::check_cascade(n, words, Gate::MAX_MITER_GATES) {
-        CountAnswer::Refused(why) => ReduceAnswer::Refused(why),
-        CountAnswer::Gates(_) => ReduceAnswer::Reduced(reduce_gates(words)),
-    }
+    circuit::words::check_cascade(n, words, Gate::MAX_MITER_GATES)?;
+    Ok(reduce_gates(words))
 }

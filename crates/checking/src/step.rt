@@ -2,7 +2,7 @@
 
 ghost use Rattle.std.specs.Prelude.{◌≡◌, ◌+◌, ◌-◌, ◌*◌, ◌/◌, ◌%◌, ◌^◌, ◌<◌, ◌≤◌, true, [], ◌∷◌, ◌++◌, length, take, drop, replicate, ◌==◌, count_ones};
 ghost use Rattle.bits.specs.Lists.{over};
-ghost use Rattle.circuit.specs.Outcome.{Yields};
+ghost use Rattle.circuit.specs.Outcome.{outcome_of, map_served, Yields};
 ghost use Rattle.circuit.specs.Gate.{max_lines};
 ghost use Rattle.circuit.specs.Words.{gates_of, gate_at, all_valid};
 ghost use Rattle.checking.specs.Match.{may_pass, match_of, of_verdict};
@@ -11,7 +11,6 @@ ghost use Rattle.checking.specs.private.StepCode.{of_search, from_gate, FoundAt}
 
 use circuit::gate::Gate;
 use circuit::refusal::Refusal;
-use circuit::words::CountAnswer;
 
 // Which match it was (01: pair, drop, turn).
 #[derive(Clone, Copy)]
@@ -50,14 +49,6 @@ pub struct Stepped {
     pub j: usize,
     pub kind: Kind,
     pub gates: usize,
-}
-
-// The same, or nothing, or a refusal.
-#[derive(Clone, Copy)]
-pub enum StepAnswer {
-    Found(Stepped),
-    Nothing,
-    Refused(Refusal),
 }
 
 // Whether the mask has exactly one bit.
@@ -258,14 +249,13 @@ pub(crate) fn make_step(words: &mut [u64], i: usize, j: usize, by: Match) -> Ste
 }
 
 // Makes a step on a caller's words; else 2, 11, 6 or 7.
-pub fn step(n: u64, words: &mut [u64]) -> StepAnswer
-    ensures { Yields (of_step result) words.new (step_outcome n words.old) (step_buffer n words.old) }
+#[tactic(auto, unfolding(crate::specs::Step::step_outcome, crate::specs::Step::step_buffer))]
+pub fn step(n: u64, words: &mut [u64]) -> Result<Option<Stepped>, Refusal>
+    ensures { Yields (map_served of_step (outcome_of result)) words.new (step_outcome n words.old) (step_buffer n words.old) }
 {
-    match circuit::words::check_cascade(n, words, Gate::MAX_MITER_GATES) {
-        CountAnswer::Refused(why) => StepAnswer::Refused(why),
-        CountAnswer::Gates(_) => match search_gates(words) {
-            Search::Nothing => StepAnswer::Nothing,
-            Search::At { i, j, by } => StepAnswer::Found(make_step(words, i, j, by)),
-        },
+    circuit::words::check_cascade(n, words, Gate::MAX_MITER_GATES)?;
+    match search_gates(words) {
+        Search::Nothing => Ok(None),
+        Search::At { i, j, by } => Ok(Some(make_step(words, i, j, by))),
     }
 }

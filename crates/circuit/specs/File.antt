@@ -3,7 +3,7 @@ use Rattle.std.specs.Prelude.{ℕ, ◌+◌, ◌-◌, ◌*◌, ◌^◌, Bool, tru
 use Rattle.std.specs.Bool.{beq}
 use Rattle.circuit.specs.declared.gate.Gate.{Gate}
 -- what a served reading tells: the line count, the number of gates, the bytes taken
-pub use Rattle.circuit.specs.declared.file.ReadCounts.{ReadCounts}
+use Rattle.circuit.specs.declared.file.ReadCounts.{ReadCounts}
 use Rattle.circuit.specs.Gate.{max_gates, Control}
 use Rattle.circuit.specs.Outcome.{Outcome, served, refused, demand, and_then, written}
 use Rattle.circuit.specs.Refusal.{wrong_form, bad_line_count, line_outside, target_controlled, not_rising, too_many_gates, no_room}

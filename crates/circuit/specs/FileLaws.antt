@@ -7,7 +7,8 @@ use Rattle.circuit.specs.Outcome.{Outcome, served, refused, Wrong, Fails, Untouc
 use Rattle.circuit.specs.Refusal.{wrong_form, bad_line_count, line_outside, target_controlled, not_rising, too_many_gates, no_room}
 use Rattle.circuit.specs.Words.{gates_of, words_of, all_valid, Cascade, WordsRefused}
 use Rattle.circuit.specs.Text.{lines_word, gate_word, end_word, number_text, control_text, header_line, gate_lines, text_of}
-use Rattle.circuit.specs.File.{Line, first_line, lines_of, fields_of, Reading, reading, ReadCounts, read_outcome, read_buffer, write_outcome, write_buffer}
+use Rattle.circuit.specs.File.{Line, first_line, lines_of, fields_of, Reading, reading, read_outcome, read_buffer, write_outcome, write_buffer}
+use Rattle.circuit.specs.declared.file.ReadCounts.{ReadCounts}
 
 -- a cascade that a file can hold
 pub record FileCascade (n : ℕ) (gs : List Gate) : Type 0 where

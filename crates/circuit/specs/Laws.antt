@@ -6,7 +6,8 @@ use Rattle.bits.specs.Lists.{over}
 use Rattle.circuit.specs.declared.gate.Gate.{Gate}
 use Rattle.circuit.specs.Gate.{max_lines, max_gates, not_gate, valid, fires, apply, missed, toggled, control_count, controls_of, all_met}
 use Rattle.circuit.specs.Outcome.{served, refused, Wrong, Fails, Untouched, Yields}
-use Rattle.circuit.specs.Words.{gates_of, words_of, all_valid, check_outcome, Cascade, Counts, pair_outcome, WordsRefused, GoodPair, PairRefused}
+use Rattle.circuit.specs.Words.{gates_of, words_of, all_valid, check_outcome, Cascade, pair_outcome, WordsRefused, GoodPair, PairRefused}
+use Rattle.circuit.specs.declared.words.Counts.{Counts}
 use Rattle.circuit.specs.Run.{run, run_tested, Equal, Differs, run_outcome, records_outcome}
 use Rattle.circuit.specs.Refusal.{bad_state, no_room}
 use Rattle.circuit.specs.Inverse.{inverse, inverse_outcome, inverse_buffer}

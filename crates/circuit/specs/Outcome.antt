@@ -14,6 +14,11 @@ abbrev pub outcome_of : {A : Type 0} → Result A Refusal → Outcome A
 outcome_of (Ok a) = served a
 outcome_of (Err why) = refused (refusal_number why) (refusal_place why)
 
+-- the same with the value as f gives it
+abbrev pub map_served : {A B : Type 0} → (A → B) → Outcome A → Outcome B
+map_served f (served a) = served (f a)
+map_served f (refused number place) = refused number place
+
 -- the call goes on where the test holds, and is else refused
 abbrev pub demand : {A : Type 0} → Bool → ℕ → ℕ → Outcome A → Outcome A
 demand test number place more = cond test more (refused number place)

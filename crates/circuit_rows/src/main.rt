@@ -1,13 +1,10 @@
 // Runs of rows on gates and cascades: a line for each, with the state or the refusal's number and place.
 #![tactic(auto)]
 
-use circuit::run::RunAnswer;
-use circuit::words::CountAnswer;
-
 fn print_run(rt: &impl Print, lines: u64, words: &[u64], state: u64) {
     match circuit::run::run(lines, words, state) {
-        RunAnswer::State(output) => rows::print_row(rt, b"state ", &[state, output]),
-        RunAnswer::Refused(why) => rows::print_row(rt, b"refused ", &[why.number, why.place]),
+        Ok(output) => rows::print_row(rt, b"state ", &[state, output]),
+        Err(why) => rows::print_row(rt, b"refused ", &[why.number(), why.place()]),
     }
 }
 
@@ -15,8 +12,8 @@ fn print_run(rt: &impl Print, lines: u64, words: &[u64], state: u64) {
 fn print_inverse(rt: &impl Print, lines: u64, words: &[u64]) {
     let mut out = [1u64, 2, 3, 4, 5, 6, 7, 8];
     match circuit::inverse::inverse(lines, words, &mut out) {
-        CountAnswer::Gates(gates) => rows::print_row(rt, b"gates ", &[gates as u64, 0]),
-        CountAnswer::Refused(why) => rows::print_row(rt, b"refused ", &[why.number, why.place]),
+        Ok(gates) => rows::print_row(rt, b"gates ", &[gates as u64, 0]),
+        Err(why) => rows::print_row(rt, b"refused ", &[why.number(), why.place()]),
     }
     rows::print_row(rt, b"", &out);
 }

@@ -1,28 +1,25 @@
 // Faults and differences of the network 3_17: a line for each answer, and a line for the masks.
 #![tactic(auto)]
 
-use checking::compare::{DifferenceAnswer, DiffersAnswer};
-use circuit::words::CountAnswer;
-
 fn print_first_difference(rt: &impl Print, lines: u64, a: &[u64], b: &[u64]) {
     match checking::compare::first_difference(lines, a, lines, b) {
-        DifferenceAnswer::State(state) => rows::print_row(rt, b"first difference ", &[state, 0]),
-        DifferenceAnswer::Nothing => {
+        Ok(Some(state)) => rows::print_row(rt, b"first difference ", &[state, 0]),
+        Ok(None) => {
             let _ = rt.write_all(b"none\n");
         }
-        DifferenceAnswer::Refused(why) => rows::print_row(
+        Err(why) => rows::print_row(
             rt,
             b"refused ",
-            &[why.number, why.place],
+            &[why.number(), why.place()],
         ),
     }
 }
 
 fn print_differs(rt: &impl Print, lines: u64, a: &[u64], b: &[u64], state: u64) {
     match checking::compare::differs(lines, a, lines, b, state) {
-        DiffersAnswer::Differ => rows::print_row(rt, b"differ ", &[state, 0]),
-        DiffersAnswer::Agree => rows::print_row(rt, b"agree ", &[state, 0]),
-        DiffersAnswer::Refused(why) => rows::print_row(rt, b"refused ", &[why.number, why.place]),
+        Ok(true) => rows::print_row(rt, b"differ ", &[state, 0]),
+        Ok(false) => rows::print_row(rt, b"agree ", &[state, 0]),
+        Err(why) => rows::print_row(rt, b"refused ", &[why.number(), why.place()]),
     }
 }
 
@@ -30,8 +27,8 @@ fn print_differs(rt: &impl Print, lines: u64, a: &[u64], b: &[u64], state: u64) 
 fn print_masks(rt: &impl Print, lines: u64, suspect: &[u64], reference: &[u64], states: &[u64]) {
     let mut out = [9u64; 13];
     match checking::faults::fault_masks(lines, suspect, lines, reference, states, &mut out) {
-        CountAnswer::Gates(gates) => rows::print_row(rt, b"gates ", &[gates as u64, 0]),
-        CountAnswer::Refused(why) => rows::print_row(rt, b"refused ", &[why.number, why.place]),
+        Ok(gates) => rows::print_row(rt, b"gates ", &[gates as u64, 0]),
+        Err(why) => rows::print_row(rt, b"refused ", &[why.number(), why.place()]),
     }
     rows::print_row(rt, b"", &out);
 }

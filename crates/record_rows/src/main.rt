@@ -2,15 +2,16 @@
 #![tactic(auto)]
 
 ghost use Rattle.std.specs.Prelude.{◌≡◌, ◌≤◌, take};
-ghost use Rattle.circuit.specs.Run.{of_run, records_outcome};
+ghost use Rattle.circuit.specs.Outcome.{outcome_of};
+ghost use Rattle.circuit.specs.Run.{records_outcome};
 
 use circuit::gate::Gate;
-use circuit::run::RunAnswer;
+use circuit::refusal::Refusal;
 
 // Runs the first `count` gates of the array.
-fn run_first(n: u64, gates: [Gate; 1025], count: usize, state: u64) -> RunAnswer
+fn run_first(n: u64, gates: [Gate; 1025], count: usize, state: u64) -> Result<u64, Refusal>
     requires { count ≤ 1025 }
-    ensures { of_run result ≡ records_outcome n (take count gates) state }
+    ensures { outcome_of result ≡ records_outcome n (take count gates) state }
 {
     circuit::run::run_records(n, &gates[..count], state)
 }
@@ -19,8 +20,8 @@ fn print_run(rt: &impl Print, n: u64, gates: [Gate; 1025], count: usize, state: 
     requires { count ≤ 1025 }
 {
     match run_first(n, gates, count, state) {
-        RunAnswer::State(output) => rows::print_row(rt, b"state ", &[state, output]),
-        RunAnswer::Refused(why) => rows::print_row(rt, b"refused ", &[why.number, why.place]),
+        Ok(output) => rows::print_row(rt, b"state ", &[state, output]),
+        Err(why) => rows::print_row(rt, b"refused ", &[why.number(), why.place()]),
     }
 }
 

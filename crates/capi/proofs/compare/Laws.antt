@@ -10,7 +10,8 @@ use borrow.Author.Tests.{leb-true, leb-false, lt-ltb, le-ltb}
 use Rattle.bits.proofs.Bools.{either, cond-true, cond-false}
 use Rattle.circuit.specs.Gate.{max_gates}
 use Rattle.circuit.specs.Outcome.{Outcome, served, refused}
-use Rattle.circuit.specs.Words.{Counts, Cascade, pair_outcome}
+use Rattle.circuit.specs.Words.{Cascade, pair_outcome}
+use Rattle.circuit.specs.declared.words.Counts.{Counts}
 use Rattle.circuit.proofs.Promises.{pair_served}
 use Rattle.checking.proofs.Promises.{refused_pick, made_pick}
 use Rattle.checking.specs.Compare.{picked, pick_outcome}

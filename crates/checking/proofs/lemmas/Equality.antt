@@ -16,7 +16,10 @@ use Rattle.checking.specs.Clauses.{Clause, clauses_of, variables_of}
 use Rattle.checking.specs.Stored.{stored, clauses_in}
 use Rattle.checking.specs.Sizes.{totals, sizes_of, sizes_outcome}
 use Rattle.checking.specs.Emit.{emit_outcome, emit_buffer}
-use Rattle.checking.specs.Equality.{Call, step_on, reduce_on, step_leaves, reduce_leaves, after, after_all, miter_leaves, left_after, Emitted, EqualityOf, Equality}
+use Rattle.checking.specs.Equality.{step_leaves, reduce_leaves, after, after_all, miter_leaves, left_after, Emitted, EqualityOf, Equality}
+use Rattle.checking.specs.declared.check.Call.TheVariants.{ReduceOn}
+use Rattle.checking.specs.declared.check.Call.TheVariants.{StepOn}
+use Rattle.checking.specs.declared.check.Call.{Call}
 use Rattle.checking.proofs.lemmas.miter.Laws.{miter_laws}
 use Rattle.checking.proofs.lemmas.step.Laws.{none_kept, step_laws}
 use Rattle.checking.proofs.lemmas.reduce.Relation.{reduce_laws}
@@ -53,7 +56,7 @@ module _ (n : ℕ) (start : List Gate) (ws : List ℕ) (g : Standing n start ws)
         subst (λ (l : List ℕ). Standing n start (take (3 * length hs) l)) b (kept (step_buffer n ws) hs s keeps)
     step_found k c none e = subst (Standing n start) (sym (none_kept m ws e)) g
 
-    after_step : (o : Outcome ℕ) → check_outcome m ws max_miter_gates ≡ o → Standing n start (after (step_on m) ws)
+    after_step : (o : Outcome ℕ) → check_outcome m ws max_miter_gates ≡ o → Standing n start (after (StepOn m) ws)
     unfolding after step_outcome
     after_step (served k) e =
         let c : Cascade m ws max_miter_gates k = check_served m ws max_miter_gates k e in
@@ -63,7 +66,7 @@ module _ (n : ℕ) (start : List Gate) (ws : List ℕ) (g : Standing n start ws)
         subst (λ (o : Outcome (Step ℕ)). Standing n start (step_leaves o (step_buffer m ws))) (sym o)
         (subst (Standing n start) (sym (step_laws.call_untouched m ws number place o)) g)
 
-    after_reduce : (o : Outcome ℕ) → check_outcome m ws max_miter_gates ≡ o → Standing n start (after (reduce_on m) ws)
+    after_reduce : (o : Outcome ℕ) → check_outcome m ws max_miter_gates ≡ o → Standing n start (after (ReduceOn m) ws)
     unfolding after reduce_outcome
     after_reduce (served k) e =
         let c : Cascade m ws max_miter_gates k = check_served m ws max_miter_gates k e in
@@ -79,8 +82,8 @@ module _ (n : ℕ) (start : List Gate) (ws : List ℕ) (g : Standing n start ws)
         (subst (Standing n start) (sym (reduce_laws.call_untouched m ws number place o)) g)
 
 after_call : (n : ℕ) (start : List Gate) (ws : List ℕ) → Standing n start ws → (c : Call) → Standing n start (after c ws)
-after_call n start ws g (step_on m) = after_step n start ws g m (check_outcome m ws max_miter_gates) refl
-after_call n start ws g (reduce_on m) = after_reduce n start ws g m (check_outcome m ws max_miter_gates) refl
+after_call n start ws g (StepOn m) = after_step n start ws g m (check_outcome m ws max_miter_gates) refl
+after_call n start ws g (ReduceOn m) = after_reduce n start ws g m (check_outcome m ws max_miter_gates) refl
 
 pub after_calls : (n : ℕ) (start : List Gate) (calls : List Call) (ws : List ℕ) → Standing n start ws → Standing n start (after_all calls ws)
 unfolding after_all

@@ -1,4 +1,3 @@
--- The laws of the one-gate emitter: `Signed` on literals in words, `Parts` on what each part writes, `Whole` on a gate.
-pub mod Signed
+-- The laws of the one-gate emitter: `Parts` on what each part writes, `Whole` on a gate.
 pub mod Parts
 pub mod Whole

@@ -20,7 +20,8 @@ use Rattle.circuit.specs.Refusal.{line_counts_differ, no_room}
 use Rattle.circuit.specs.Words.{gates_of, words_of, Cascade}
 use Rattle.circuit.proofs.Promises.{never, demand_met, demand_failed, gates_length, gates_words, words_length, pair_refused, reader, read_served, read_refused, read_leaves}
 use Rattle.circuit.specs.Text.{text_of}
-use Rattle.circuit.specs.File.{Reading, reading, ReadCounts, read_outcome, read_buffer}
+use Rattle.circuit.specs.File.{Reading, reading, read_outcome, read_buffer}
+use Rattle.circuit.specs.declared.file.ReadCounts.{ReadCounts}
 use Rattle.circuit.specs.FileLaws.{ReadRefused}
 use Rattle.checking.specs.declared.clauses.Totals.{Totals}
 use Rattle.checking.specs.Miter.{miter_gates, miter_outcome, miter_buffer}

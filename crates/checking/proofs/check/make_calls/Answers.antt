@@ -1,6 +1,6 @@
 -- `checking::check::make_calls` meets its contract.
 use Rattle.std.proofs.Common.{◌≡◌, ℕ, ◌+◌, ◌*◌, List, [], get_or, sym, refl, ap, ◌∙◌, arith}
-use Rattle.checking.specs.Equality.{Call}
+use Rattle.checking.specs.declared.check.Call.{Call}
 use Rattle.checking.specs.Check.{call_of, Held, called_all}
 use Rattle.checking.proofs.lemmas.check.Laws.{call_leaves, calls_turn, calls_end}
 use Rattle.checking.proofs.check.make_calls.Goals as goal

@@ -1,9 +1,10 @@
 -- `checking::clauses::list_sizes` meets its contract.
-use Rattle.std.proofs.Common.{◌≡◌, ℕ, ◌+◌, ◌/◌, ◌≤◌, true, length, sym, ap, ◌∙◌, subst, arith}
+use Rattle.std.proofs.Common.{◌≡◌, ℕ, ◌+◌, ◌^◌, ◌%◌, ◌/◌, ◌≤◌, true, length, sym, ap, ◌∙◌, subst, arith}
+use lib.Bits.{bit_or}
 use Rattle.circuit.specs.Gate.{max_lines, valid}
 use Rattle.circuit.specs.Outcome.{served}
 use Rattle.circuit.proofs.Promises.{why, then_refused, valid_facts, next_bad}
-use Rattle.checking.proofs.lemmas.clauses.Loop.{one_more, controls_more, controls_few, Summed, summed_start, summed_next, summed, summed_all}
+use Rattle.checking.proofs.lemmas.clauses.Loop.{controls_more, controls_few, Summed, summed_start, summed_next, summed, summed_all}
 use Rattle.checking.proofs.clauses.list_sizes.Goals as goal
 use Rattle.checking.proofs.clauses.list_sizes.Goals.{After-control_count-k, Else-not-valid}
 
@@ -23,10 +24,7 @@ good c = sym c.valid.ensures ∙ c.if-not-valid.false
 few : (c : After-control_count-k) → c.control_count-k.result ≤ max_lines
 few c =
     let good : valid c.args.n c.gate_at-g.result ≡ true = sym c.valid.ensures ∙ c.if-not-valid.false in
-    subst (λ (k : ℕ). k ≤ max_lines) (sym c.control_count-k.ensures) (controls_few _ c.gate_at-g.result c.requires.few_lines good)
-
-pub overflow_add-variables : goal.overflow_add-variables
-overflow_add-variables c = omega (arith, one_more c.control_count-k.result c.extra_variables-variables.result c.extra_variables-variables.ensures)
+    omega (arith, c.control_count-k.ensures, controls_few _ c.gate_at-g.result c.requires.few_lines good)
 
 pub overflow_add-clauses : goal.overflow_add-clauses
 overflow_add-clauses c =
@@ -35,19 +33,15 @@ overflow_add-clauses c =
 pub overflow_add-controls : goal.overflow_add-controls
 overflow_add-controls c = omega (arith, few (goal.at.overflow_add-controls c).After-control_count-k)
 
-pub with_line-hit-requires : goal.with_line-hit-requires
-with_line-hit-requires c =
-    omega (arith, (valid_facts c.args.n c.gate_at-g.result (good (goal.at.with_line-hit-requires c).Else-not-valid)).target_below, c.requires.few_lines)
-
 pub loop-i-preserved : goal.loop-i-preserved
 loop-i-preserved c =
-    subst (λ (hit : ℕ). Summed c.args.n c.args.words.now (c.loop-i.variables + c.extra_variables-variables.result) (c.loop-i.clauses + c.extra_clauses-clauses.result) (c.loop-i.controls + c.control_count-k.result) hit (c.loop-i.i + 1))
-    (sym c.with_line-hit.ensures)
-    (summed_next c.args.n c.args.words.now _ _ _ _ _ c.gate_at-g.result c.requires.few_lines c.loop-i.invariant (omega arith) c.gate_at-g.ensures (good (goal.at.loop-i-preserved c).Else-not-valid) c.control_count-k.result
+    let good = good (goal.at.loop-i-preserved c).Else-not-valid in
+    let below : c.gate_at-g.result.target % max_lines ≡ c.gate_at-g.result.target = omega (arith, (valid_facts c.args.n c.gate_at-g.result good).target_below, c.requires.few_lines) in
+    let line : c.line-hit.result ≡ 2 ^ c.gate_at-g.result.target = c.line-hit.ensures ∙ ap (◌^◌ 2) below in
+    subst (λ (line : ℕ). Summed c.args.n c.args.words.now (c.loop-i.variables + c.extra_variables-variables.result) (c.loop-i.clauses + c.extra_clauses-clauses.result) (c.loop-i.controls + c.control_count-k.result) (bit_or c.loop-i.hit line) (c.loop-i.i + 1))
+    (sym line)
+    (summed_next c.args.n c.args.words.now _ _ _ _ _ c.gate_at-g.result c.requires.few_lines c.loop-i.invariant (omega arith) c.gate_at-g.ensures good c.control_count-k.result
     c.extra_variables-variables.result c.extra_clauses-clauses.result c.control_count-k.ensures c.extra_variables-variables.ensures c.extra_clauses-clauses.ensures)
-
-pub overflow_add-result-7 : goal.overflow_add-result-7
-overflow_add-result-7 c = omega (arith, c.count.ensures.1)
 
 pub returns : goal.returns
 returns c =

@@ -1,10 +1,6 @@
 -- `checking::clauses::list_sizes` meets its contract. The loop's invariant: the gates passed are valid and summed up, and their targets stand in the mask. Assumes nothing.
-use Rattle.std.proofs.Common.{◌-◌}
 use Rattle.checking.proofs.lemmas.clauses.Loop.{Summed}
 use Rattle.checking.proofs.clauses.list_sizes.Given as goal
 
 abbrev pub invariant-loop-i : goal.invariant-loop-i
 invariant-loop-i l = Summed l.n l.words l.variables l.clauses l.controls l.hit l.i
-
-abbrev pub decreases-loop-i : goal.decreases-loop-i
-decreases-loop-i l = l.gates - l.i

@@ -1,10 +1,6 @@
 -- `checking::emission::put_differences` meets its contract. The loop's invariant: the clauses of lines below k stand at the buffer's start, and the others are left. Assumes nothing.
-use Rattle.std.proofs.Common.{◌-◌}
 use Rattle.checking.proofs.lemmas.emission.Lines.{Compared}
 use Rattle.checking.proofs.emission.put_differences.Given as goal
 
 abbrev pub invariant-loop-k : goal.invariant-loop-k
 invariant-loop-k l = Compared l.n l.current l.used l.initial.out l.out l.k l.at
-
-abbrev pub decreases-loop-k : goal.decreases-loop-k
-decreases-loop-k l = l.n - l.k

@@ -10,7 +10,8 @@ use Rattle.checking.specs.Clauses.{clauses_of}
 use Rattle.checking.specs.Stored.{stored}
 use Rattle.checking.specs.Told.{Told, ServedTells}
 use Rattle.checking.specs.Emit.{emit_outcome, emit_buffer}
-use Rattle.checking.specs.Equality.{Call, after_all, miter_leaves, left_after, Emitted, Claim}
+use Rattle.checking.specs.Equality.{after_all, miter_leaves, left_after, Emitted, Claim}
+use Rattle.checking.specs.declared.check.Call.{Call}
 use Rattle.checking.specs.Check.{held_words, held, checked_outcome, work_left, clauses_left, Checks}
 use Rattle.checking.proofs.lemmas.miter.Laws.{miter_laws}
 use Rattle.checking.proofs.lemmas.clauses.Answers.{emit_laws}

@@ -11,7 +11,10 @@ use Rattle.circuit.proofs.Promises.{then_served, then_refused, check_served, val
 use Rattle.checking.specs.Step.{Step, found, none, step_gates, with_count, step_outcome, step_buffer}
 use Rattle.checking.specs.StepLaws.{Stands}
 use Rattle.checking.specs.Reduce.{Reduced, reduce_gates, reduce_outcome, reduce_buffer}
-use Rattle.checking.specs.Equality.{Call, step_on, reduce_on, step_leaves, reduce_leaves, after, after_all}
+use Rattle.checking.specs.Equality.{step_leaves, reduce_leaves, after, after_all}
+use Rattle.checking.specs.declared.check.Call.TheVariants.{ReduceOn}
+use Rattle.checking.specs.declared.check.Call.TheVariants.{StepOn}
+use Rattle.checking.specs.declared.check.Call.{Call}
 use Rattle.checking.specs.Miter.{miter_outcome, miter_buffer}
 use Rattle.checking.specs.Emit.{emit_outcome, emit_buffer}
 use Rattle.checking.specs.Check.{call_of, calls_of, Held, held_words, step_gates_left, reduce_gates_left, called, called_all, checked_outcome, clauses_left}
@@ -54,7 +57,7 @@ module _ (kind n gates : ℕ) (ws last : List ℕ) (room : 3 * gates ≤ length 
       → Yields r (last ++ drop (3 * gates) ws) (called (call_of kind n) (holding gates ws)).gates (called (call_of kind n) (holding gates ws)).words
   unfolding called
   step_called z t r e l f =
-      let k : called (call_of kind n) (holding gates ws) ≡ called (step_on n) (holding gates ws) = ap (λ (x : ℕ). called (call_of x n) (holding gates ws)) z in
+      let k : called (call_of kind n) (holding gates ws) ≡ called (StepOn n) (holding gates ws) = ap (λ (x : ℕ). called (call_of x n) (holding gates ws)) z in
       record {
         answer = f ∙ ap (λ (o : Outcome (Step ℕ)). step_gates_left o gates) e ∙ sym (ap (λ (h : Held). h.gates) k);
         buffer = rest (step_buffer n (take (3 * gates) ws)) l ∙ sym (ap (λ (h : Held). h.words) k);
@@ -65,7 +68,7 @@ module _ (kind n gates : ℕ) (ws last : List ℕ) (room : 3 * gates ≤ length 
   unfolding called
   reduce_called z t r e l f =
       let s : kind ≡ suc (kind - 1) = omega arith in
-      let k : called (call_of kind n) (holding gates ws) ≡ called (reduce_on n) (holding gates ws) = ap (λ (x : ℕ). called (call_of x n) (holding gates ws)) s in
+      let k : called (call_of kind n) (holding gates ws) ≡ called (ReduceOn n) (holding gates ws) = ap (λ (x : ℕ). called (call_of x n) (holding gates ws)) s in
       record {
         answer = f ∙ ap (λ (o : Outcome (Reduced ℕ)). reduce_gates_left o gates) e ∙ sym (ap (λ (h : Held). h.gates) k);
         buffer = rest (reduce_buffer n (take (3 * gates) ws)) l ∙ sym (ap (λ (h : Held). h.words) k);
@@ -143,10 +146,10 @@ module _ (gates : ℕ) (ws : List ℕ) (room : 3 * gates ≤ length ws) where
 
   leaves : (c : Call) → Leaves c (holding gates ws)
   unfolding called after
-  leaves (step_on n) =
+  leaves (StepOn n) =
       let (f, l, s) = step_left n (check_outcome n st max_miter_gates) refl in
       record { few = f; long = over_long (step_buffer n st) l; stands = s }
-  leaves (reduce_on n) =
+  leaves (ReduceOn n) =
       let (f, l, s) = reduce_left n (check_outcome n st max_miter_gates) refl in
       record { few = f; long = over_long (reduce_buffer n st) l; stands = s }
 

@@ -26,22 +26,6 @@ sizes_many (suc (suc k)) h =
     let e : suc (suc k) + 3 + 4 * suc (suc k) + 5 ≡ 4 * (suc (suc k) + 2) + suc (suc k) = omega arith in
     ap (totals 2 (suc (suc k) + 2)) e
 
--- its variables less one, and its clauses less one a variable, as the code sums them up
-pub variables_more : (k : ℕ) → bool_byte (leb 2 k) + 1 ≡ (gate_sizes k).variables
-variables_more zero = refl
-variables_more (suc zero) = refl
-variables_more (suc (suc k)) = ap (λ (b : Bool). bool_byte b + 1) (le-leb 2 (suc (suc k)) (omega arith))
-
-pub clauses_few : (k : ℕ) → k < 2 → 0 + (gate_sizes k).variables ≡ (gate_sizes k).clauses
-clauses_few zero h = refl
-clauses_few (suc zero) h = refl
-clauses_few (suc (suc k)) h = absurd (omega arith)
-
-pub clauses_many : (k : ℕ) → 2 ≤ k → k + (gate_sizes k).variables ≡ (gate_sizes k).clauses
-clauses_many zero h = absurd (omega arith)
-clauses_many (suc zero) h = absurd (omega arith)
-clauses_many (suc (suc k)) h = refl
-
 gate_words_lem : (k : ℕ) → (gate_sizes k).words ≡ 4 * (gate_sizes k).clauses + k
 gate_words_lem zero = refl
 gate_words_lem (suc zero) = refl

@@ -6,7 +6,8 @@ use Rattle.circuit.specs.declared.gate.Gate.{Gate}
 use Rattle.circuit.specs.Gate.{max_lines}
 use Rattle.circuit.specs.Outcome.{Outcome, served, refused}
 use Rattle.circuit.specs.Refusal.{bad_state, too_wide}
-use Rattle.circuit.specs.Words.{gates_of, all_valid, Counts, pair_outcome}
+use Rattle.circuit.specs.Words.{gates_of, all_valid, pair_outcome}
+use Rattle.circuit.specs.declared.words.Counts.{Counts}
 use Rattle.circuit.specs.Run.{run}
 use Rattle.circuit.proofs.Promises.{demand_met, demand_failed, then_served, then_refused, valid_all_more, pair_served, then_both, then_fails}
 use Rattle.checking.specs.Compare.{outputs_differ, max_sweep_lines, Difference, none, lowest, lowest_from, difference_outcome, Says, differs_outcome, picked, pick_outcome, Picks}

@@ -1,5 +1,5 @@
 -- What the emission's loop over the gates writes, gate by gate. Assumes nothing.
-use Rattle.std.proofs.Common.{◌≡◌, ℕ, ◌+◌, ◌-◌, ◌*◌, ◌/◌, ◌<◌, ◌≤◌, Bool, true, false, cond, eqb, List, [], ◌∷◌, ◌++◌, map, length, get_or, take, drop, set, ℤ, sym, refl, ap, ◌∙◌, subst, append_assoc, append-nil, arith, length-append, length-set, get_or-set_other, get_or-set_same, eqb-true}
+use Rattle.std.proofs.Common.{◌≡◌, ℕ, ◌+◌, ◌-◌, ◌*◌, ◌/◌, ◌<◌, ◌≤◌, Bool, true, false, cond, eqb, List, ◌∷◌, ◌++◌, map, length, get_or, take, drop, set, ℤ, sym, ap, ◌∙◌, subst, append_assoc, append-nil, arith, length-append, length-set, get_or-set_other, get_or-set_same, eqb-true}
 use lib.ListN.{length-map}
 use borrow.Author.Tests.{eqb-false}
 use borrow.Rule.Slice.PartMut.{put_mid}
@@ -62,25 +62,6 @@ pub record Emitted (n : ℕ) (ws start : List ℕ) (first : List ℤ) (current :
   pub as_long : length out ≡ length first
   pub buffer : out ≡ over front first
 
-pub emitted_none : (n : ℕ) (ws start : List ℕ) (first : List ℤ) → GatesReady n ws start (length first) → Emitted n ws start first start first n 0 0
-emitted_none n ws start first ready =
-    record {
-      front = [];
-      variables = input_of;
-      inside = omega arith;
-      clauses_left_lem = refl;
-      used_left = refl;
-      currents_left = refl;
-      good = ready.gates;
-      holds = ready.inputs;
-      small = λ k h. omega (arith, ready.inputs k h);
-      few = omega arith;
-      kept = refl;
-      place = refl;
-      as_long = refl;
-      buffer = refl;
-    }
-
 module _ (n : ℕ) (ws start : List ℕ) (first : List ℤ) (current : List ℕ) (out : List ℤ) (used at i : ℕ) (ready : GatesReady n ws start (length first))
     (e : Emitted n ws start first current out used at i) (inside : i < length ws / 3) (g : Gate) (is : g ≡ gate_at ws i) where
   abbrev later : List Gate
@@ -95,7 +76,7 @@ module _ (n : ℕ) (ws start : List ℕ) (first : List ℤ) (current : List ℕ)
   pub gate_good : valid n g ≡ true
   gate_good = valid_next n ws i g inside is e.good
 
-  pub target_inside : g.target < length current
+  target_inside : g.target < length current
   target_inside = omega (arith, (valid_facts n g gate_good).target_below, ready.long, e.kept)
 
   next : gates_of (drop (3 * i) ws) ≡ g ∷ later

@@ -6,7 +6,7 @@ use lib.Count.{count_trailing_zeros, ones-le}
 use lib.IntN.{neg_ℤ-neg_ℤ}
 use lib.ListN.{length-map}
 use lib.Seq.{set-append_left, drop-length}
-use borrow.Rule.Slice.PartMut.{put_mid}
+use borrow.Rule.Slice.PartMut.{put_mid, same_len_mid}
 use Rattle.bits.specs.Digits.{bit, lines_in}
 use Rattle.bits.specs.Lists.{over}
 use Rattle.bits.proofs.Digits.{lines_ones}
@@ -92,17 +92,16 @@ module _ (k p : ℕ) (first : List ℤ) (room : 5 * k ≤ length first) where
         ∙ ap (λ (m : ℕ). (negs (cs ++ (c ∷ [])) ++ y) ++ drop m first) f
 
     -- and OR (−p, c), in the lent rest
-    pub filling_more : (out last : List ℤ) (z a b : ℤ) → out ≡ filling k p cs first → length out ≡ length first → z ≡ neg_ℤ c → a ≡ minus p → b ≡ c
-        → last ≡ over (pos 0 ∷ pos 2 ∷ a ∷ b ∷ []) (take (length (set out i z) - (k + 4 * i)) (drop (k + 4 * i) (set out i z)))
+    pub filling_more : (out last : List ℤ) (z : ℤ) → out ≡ filling k p cs first → length out ≡ length first → z ≡ neg_ℤ c
+        → last ≡ over (pos 0 ∷ pos 2 ∷ minus p ∷ c ∷ []) (take (length (set out i z) - (k + 4 * i)) (drop (k + 4 * i) (set out i z)))
         → put_mid (k + 4 * i) (length (set out i z) - (k + 4 * i)) (set out i z) last ≡ filling k p (cs ++ (c ∷ [])) first
-    filling_more out last z a b e long ez ea eb l =
+    filling_more out last z e long ez l =
         let y : List ℤ = stored (implied p cs) in
         let x : List ℤ = negs (cs ++ (c ∷ [])) in
         let f : length (x ++ y) ≡ k + 4 * i =
         length-append x y ∙ ap₂ ◌+◌ (negs_long (cs ++ (c ∷ [])) (omega (arith, one_long))) (implied_words p cs ∙ ap (λ (m : ℕ). 4 * m) count) in
-        lent_over (x ++ y) (pos 0 ∷ pos 2 ∷ a ∷ b ∷ []) first (set out i z) last (k + 4 * i) (ap (set out i) ez ∙ neg_stored out e) f
+        lent_over (x ++ y) (pos 0 ∷ pos 2 ∷ minus p ∷ c ∷ []) first (set out i z) last (k + 4 * i) (ap (set out i) ez ∙ neg_stored out e) f
         (omega (arith, length-set out i z)) l
-        ∙ ap₂ (λ (s t : ℤ). over ((x ++ y) ++ (pos 0 ∷ pos 2 ∷ s ∷ t ∷ [])) first) ea eb
         ∙ ap (λ (m : List ℤ). over m first) (append_assoc x y (pos 0 ∷ pos 2 ∷ minus p ∷ c ∷ []) ∙ ap (λ (m : List ℤ). x ++ m) (sym (implied_more p cs c)))
 
 -- ---- the walk over the lines of a mask
@@ -130,35 +129,36 @@ module _ (current : List ℕ) (positive lines k n p : ℕ) (first out : List ℤ
       ∙ filling_done k p first room (map (literal_at current positive) w.passed) (length-map w.passed (literal_at current positive) ∙ sym (h.count ∙ ap length is))
       ∙ ap (λ (l : List ℕ). over (controls_stored p (map (literal_at current positive) l)) first) (sym is)
 
-  -- a line is left
-  module _ (some : 0 < left) (line : ℕ) (is : line ≡ count_trailing_zeros max_lines left) where
-    pub line_below : line < n
-    line_below = omega (arith, is, lowest_below max_lines n left small some w.below)
+  -- a line is left: it is one of the n, and its control one of the k
+  module _ (some : left ≡ 0 → ⊥) (line : ℕ) (is : line ≡ count_trailing_zeros max_lines left) where
+    line_below : line < n
+    line_below = omega (arith, is, lowest_below max_lines n left small (omega arith) w.below)
 
     more : lines_in lines n ≡ (w.passed ++ (line ∷ [])) ++ lines_in (bit_and left (left - 1)) n
-    more = lines_on max_lines n lines left w.passed w.all small some w.below line is
+    more = lines_on max_lines n lines left w.passed w.all small (omega arith) w.below line is
 
     passed_long : length (w.passed ++ (line ∷ [])) ≡ i + 1
     passed_long = length-append w.passed (line ∷ []) ∙ ap (λ (m : ℕ). m + 1) w.count
 
-    pub inside : i < k
-    inside = omega (arith, h.count, ap length more, length-append (w.passed ++ (line ∷ [])) (lines_in (bit_and left (left - 1)) n), passed_long)
+    pub inside : (line < n) × (i < k)
+    inside = (line_below, omega (arith, h.count, ap length more, length-append (w.passed ++ (line ∷ [])) (lines_in (bit_and left (left - 1)) n), passed_long))
 
-    pub walk_on : (last : List ℤ) (z a b : ℤ) → z ≡ literal_word (not (bit positive line)) (by_line current line) → a ≡ minus p → b ≡ literal_at current positive line
-        → last ≡ over (pos 0 ∷ pos 2 ∷ a ∷ b ∷ []) (take (length (set out i z) - (k + 4 * i)) (drop (k + 4 * i) (set out i z)))
-        → length (put_mid (k + 4 * i) (length (set out i z) - (k + 4 * i)) (set out i z) last) ≡ length (set out i z)
+    pub walk_on : (last : List ℤ) (z : ℤ) → z ≡ literal_word (not (bit positive line)) (by_line current line)
+        → last ≡ over (pos 0 ∷ pos 2 ∷ minus p ∷ literal_at current positive line ∷ []) (take (length (set out i z) - (k + 4 * i)) (drop (k + 4 * i) (set out i z)))
+        → length last ≡ length (take (length (set out i z) - (k + 4 * i)) (drop (k + 4 * i) (set out i z)))
         → Walk current positive lines k n p first (put_mid (k + 4 * i) (length (set out i z) - (k + 4 * i)) (set out i z) last) (bit_and left (left - 1)) (i + 1)
-    walk_on last z a b ez ea eb l kept =
+    walk_on last z ez l kept =
         let cs = map (literal_at current positive) w.passed in
+        let at = k + 4 * i in
         record {
           below = omega (arith, and_le_l left (left - 1), w.below);
           passed = w.passed ++ (line ∷ []);
           all = more;
           count = passed_long;
-          long = kept ∙ length-set out i z ∙ w.long;
+          long = same_len_mid at (length (set out i z) - at) (set out i z) last kept ∙ length-set out i z ∙ w.long;
           buffer =
-              filling_more k p first room cs i (length-map w.passed (literal_at current positive) ∙ w.count) inside (literal_at current positive line) out last z a b w.buffer w.long
-              (ez ∙ negated_word (bit positive line) (by_line current line)) ea eb l
+              filling_more k p first room cs i (length-map w.passed (literal_at current positive) ∙ w.count) inside.1 (literal_at current positive line) out last z w.buffer w.long
+              (ez ∙ negated_word (bit positive line) (by_line current line)) l
               ∙ ap (λ (m : List ℤ). filling k p m first) (sym (map-append (literal_at current positive) w.passed (line ∷ [])));
         }
 
@@ -194,21 +194,18 @@ many_stored_lem p w v k cs e =
 
 -- so the clauses with a p stand at the buffer's start
 pub many_filled : (current : List ℕ) (positive lines k n used v : ℕ) (first : List ℤ) → Many lines k n used v (length first)
-    → (x y a b d : ℤ) → x ≡ plus (k + 1) → y ≡ plus (used + 1) → a ≡ minus (used + 1 + 1) → b ≡ plus v → d ≡ plus (used + 1)
-    → (o l₂ l₃ : List ℤ) → o ≡ over (pos 0 ∷ x ∷ y ∷ []) first
+    → (o l₂ l₃ : List ℤ) → o ≡ over (pos 0 ∷ pos (k + 1) ∷ plus (used + 1) ∷ []) first
     → l₂ ≡ over (controls_stored (used + 1) (literals_in current positive lines n)) (take (length o - 3) (drop 3 o))
     → (o₂ : List ℤ) → o₂ ≡ put_mid 3 (length o - 3) o l₂
-    → l₃ ≡ over (pos 1 ∷ pos 3 ∷ a ∷ b ∷ d ∷ []) (take (length o₂ - (3 + 5 * k)) (drop (3 + 5 * k) o₂))
+    → l₃ ≡ over (pos 1 ∷ pos 3 ∷ minus (used + 1 + 1) ∷ plus v ∷ plus (used + 1) ∷ []) (take (length o₂ - (3 + 5 * k)) (drop (3 + 5 * k) o₂))
     → put_mid (3 + 5 * k) (length o₂ - (3 + 5 * k)) o₂ l₃ ≡ over (many_stored current used v positive lines n) first
-many_filled current positive lines k n used v first m x y a b d ex ey ea eb ed o l₂ l₃ e e₂ o₂ f₂ e₃ =
+many_filled current positive lines k n used v first m o l₂ l₃ e e₂ o₂ f₂ e₃ =
     let cs = literals_in current positive lines n in
     let p : ℕ = used + 1 in
     let mid : List ℤ = controls_stored p cs in
     let count : length cs ≡ k = length-map (lines_in lines n) (literal_at current positive) ∙ sym m.controls.count in
     let long : length mid ≡ 5 * k = omega (arith, length-append (map neg_ℤ cs) (stored (implied p cs)), length-map cs neg_ℤ, implied_words p cs) in
-    filled k (pos 0 ∷ x ∷ y ∷ []) mid (pos 1 ∷ pos 3 ∷ a ∷ b ∷ d ∷ []) first o l₂ l₃ refl long m.enough e e₂ o₂ f₂ e₃
+    filled k (pos 0 ∷ pos (k + 1) ∷ plus p ∷ []) mid (pos 1 ∷ pos 3 ∷ minus (p + 1) ∷ plus v ∷ plus p ∷ []) first o l₂ l₃ refl long m.enough e e₂ o₂ f₂ e₃
     ∙ ap (λ (l : List ℤ). over l first)
-    (ap₂ (λ (s t : List ℤ). ((pos 0 ∷ s) ++ mid) ++ (pos 1 ∷ pos 3 ∷ t))
-    (ap₂ (λ (s t : ℤ). s ∷ t ∷ []) ex ey) (ap₂ (λ (s : ℤ) (t : List ℤ). s ∷ t) ea (ap₂ (λ (s t : ℤ). s ∷ t ∷ []) eb ed))
-    ∙ many_stored_lem p (p + 1) v k cs count
+    (many_stored_lem p (p + 1) v k cs count
     ∙ ap₂ (λ (i j : ℕ). stored (many_clauses i j v cs)) (add-one used) (add-one (used + 1) ∙ ap suc (add-one used)))

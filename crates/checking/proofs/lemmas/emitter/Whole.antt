@@ -78,23 +78,13 @@ module _ (n used : ℕ) (current : List ℕ) (g : Gate) (room : ℕ) (ready : Re
       ∙ ap (λ (ls : List ℤ). stored (gate_clauses used target ls)) (by_lines current g n)
 
   module _ (k : ℕ) (is : k ≡ control_count g) where
-    room_by : (m : ℕ) → (gate_sizes k).words ≡ m → m ≤ room
-    room_by m e = subst (λ (x : ℕ). x ≤ room) (ap (λ (j : ℕ). (gate_sizes j).words) (sym is) ∙ e) ready.enough
-
     -- no control
-    pub room_none : k ≡ 0 → 4 ≤ room
-    room_none e = room_by 4 (ap (λ (j : ℕ). (gate_sizes j).words) e)
-
     pub written_none : k ≡ 0 → gate_stored used current g ≡ pos 1 ∷ pos 2 ∷ plus (used + 1) ∷ plus target ∷ []
     written_none e =
         by_literals ∙ zero_stored used target literals (literals_known ∙ sym is ∙ e)
         ∙ ap (λ (w : ℕ). pos 1 ∷ pos 2 ∷ plus w ∷ plus target ∷ []) (sym (add-one used))
 
-    -- one control
-    pub room_one : k ≡ 1 → 5 ≤ room
-    room_one e = room_by 5 (ap (λ (j : ℕ). (gate_sizes j).words) e)
-
-    -- it stands on the lowest line
+    -- one control, on the lowest line
     module _ (e : k ≡ 1) (line : ℕ) (low : line ≡ count_trailing_zeros max_lines lines) where
       some : 0 < lines
       some = ⊎_elim (λ z. absurd (omega (arith, lines_known, ap (λ (x : ℕ). length (lines_in x n)) z, ap length (lines_none n)))) (λ p. p) (eq-zero-or-pos lines)
@@ -123,7 +113,7 @@ module _ (n used : ℕ) (current : List ℕ) (g : Gate) (room : ℕ) (ready : Re
             controls = record { below = lines_below; count = is ∙ sym lines_known };
             few = ready.few;
             target = target_small;
-            enough = room_by (5 * k + 8) (ap (λ (t : Totals). t.words) (sizes_many k two) ∙ omega arith);
+            enough = omega (arith, ready.enough, ap (λ (j : ℕ). (gate_sizes j).words) is, ap (λ (t : Totals). t.words) (sizes_many k two));
           }
 
       pub written_many : gate_stored used current g ≡ many_stored current used target g.positive lines n

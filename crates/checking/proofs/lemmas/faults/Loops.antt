@@ -10,7 +10,8 @@ use Rattle.circuit.specs.declared.gate.Gate.{Gate}
 use Rattle.circuit.specs.Gate.{max_lines, max_gates, apply}
 use Rattle.circuit.specs.Outcome.{Outcome, served, refused, written, Yields}
 use Rattle.circuit.specs.Refusal.{bad_state, agreeing_state, no_room}
-use Rattle.circuit.specs.Words.{gates_of, gate_at, Counts, pair_outcome, Cascade}
+use Rattle.circuit.specs.Words.{gates_of, gate_at, pair_outcome, Cascade}
+use Rattle.circuit.specs.declared.words.Counts.{Counts}
 use Rattle.circuit.proofs.Promises.{demand_met, demand_failed, then_served, then_refused, then_both, told, gates_next, gates_end, pair_served}
 use Rattle.checking.specs.Compare.{outputs_differ}
 use Rattle.checking.specs.Faults.{is_free, Fault, missing_control, gate_faults, gate_masks, stands, mask_where, masks_from, fault_masks, each_from, fault_check, fault_outcome, fault_buffer, everywhere}

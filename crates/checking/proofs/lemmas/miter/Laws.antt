@@ -2,13 +2,14 @@
 use Rattle.std.proofs.Common.{◌≡◌, ℕ, ◌+◌, ◌-◌, ◌*◌, ◌%◌, ◌<◌, ◌≤◌, true, leb, ◌↔◌, List, ◌++◌, reverse, length, take, drop, sym, refl, ap, ◌∙◌, append_assoc, arith, length-append, length-drop, take_at, drop_at, le-leb, leb-true}
 use borrow.Author.Tests.{lt-leb}
 use borrow.Rule.Slice.PartMut.{put_mid}
-use Rattle.bits.specs.Lists.{over}
+use Rattle.bits.specs.Lists.{over, Put}
 use Rattle.bits.proofs.Lists.{lent_over, over_length, rest_lent}
 use Rattle.circuit.specs.declared.gate.Gate.{Gate}
 use Rattle.circuit.specs.Gate.{max_gates}
 use Rattle.circuit.specs.Outcome.{Outcome, served, refused, written, Untouched, Yields}
 use Rattle.circuit.specs.Refusal.{no_room}
-use Rattle.circuit.specs.Words.{gates_of, words_of, all_valid, Counts, pair_outcome}
+use Rattle.circuit.specs.Words.{gates_of, words_of, all_valid, pair_outcome}
+use Rattle.circuit.specs.declared.words.Counts.{Counts}
 use Rattle.circuit.specs.Run.{run}
 use Rattle.circuit.specs.Inverse.{inverse, put_inverse}
 use Rattle.circuit.proofs.Promises.{told, demand_met, demand_failed, demanded, then_served, then_refused, then_both, above, written_refused, gates_length, gates_words, words_gates, words_append, words_length, valid_append, pair_served, served_pair, pair_wrong, run_append, run_inverse, inverse_run, inverse_length, inverse_valid, inverse_fits}
@@ -59,15 +60,15 @@ module _ (na : ℕ) (a : List ℕ) (nb : ℕ) (b : List ℕ) where
   pair_few c good = let g = pair_served na a nb b c good in (g.first_good.few, g.second_good.few)
 
   -- after the copy the rest of the buffer takes the inverse
-  pub miter_written : (c : Counts) → pair_outcome na a nb b ≡ served c → (out mid last : List ℕ) → length a + length b ≤ length out → mid ≡ over a out
-      → last ≡ put_inverse b (take (length mid - length a) (drop (length a) mid))
-      → put_mid (length a) (length mid - length a) mid last ≡ over front out
-  miter_written c good out mid last room e l =
+  pub miter_written : (c : Counts) → pair_outcome na a nb b ≡ served c → (out mid last : List ℕ) (at : ℕ) → length a + length b ≤ length out → Put at mid a out
+      → last ≡ put_inverse b (take (length mid - at) (drop at mid))
+      → put_mid at (length mid - at) mid last ≡ over front out
+  miter_written c good out mid last at room p l =
       let z = (pair_served na a nb b c good).first_good.size in
-      let n : length mid ≡ length out = ap length e ∙ over_length a out (omega arith) in
-      let r : length (take (length mid - length a) (drop (length a) mid)) ≡ length mid - length a = ap length (rest_lent mid (length a)) ∙ length-drop (length a) mid in
-      lent_over a back out mid last (length a) e refl (omega arith)
-      (l ∙ inverse_fits b (take (length mid - length a) (drop (length a) mid)) (omega arith))
+      let n : length mid ≡ length out = ap length p.buffer ∙ over_length a out (omega arith) in
+      let r : length (take (length mid - at) (drop at mid)) ≡ length mid - at = ap length (rest_lent mid at) ∙ length-drop at mid in
+      lent_over a back out mid last at p.buffer (sym p.count) (omega (arith, p.count))
+      (l ∙ inverse_fits b (take (length mid - at) (drop at mid)) (omega (arith, p.count)))
       ∙ ap (λ (x : List ℕ). over x out) (sym (front_parts (omega arith)))
 
   -- served exactly for valid pairs with room

@@ -33,4 +33,4 @@ returns-in-Refused c =
 pub returns-else-out-a : goal.returns-else-out-a
 returns-else-out-a c =
     miter_told _ _ _ _ _ _ (served _) _ refl (miter_made _ _ _ _ _ _ (good (goal.at.returns-else-out-a c).In-Gates) c.if-out-a.false)
-    (miter_written c.args.na c.args.a.now c.args.nb c.args.b.now _ (good (goal.at.returns-else-out-a c).In-Gates) c.args.out.now c.copy.new.out c.put_inverse.new.out c.if-out-a.false c.copy.ensures c.put_inverse.ensures)
+    (miter_written c.args.na c.args.a.now c.args.nb c.args.b.now _ (good (goal.at.returns-else-out-a c).In-Gates) c.args.out.now c.put-at.new.out c.put_inverse.new.out _ c.if-out-a.false c.put-at.ensures c.put_inverse.ensures)

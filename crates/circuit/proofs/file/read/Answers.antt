@@ -4,7 +4,8 @@ use Rattle.bits.specs.Lists.{over}
 use Rattle.circuit.specs.Outcome.{Outcome, served, refused, outcome_of}
 use Rattle.circuit.specs.Refusal.{no_room}
 use Rattle.circuit.specs.Words.{words_of}
-use Rattle.circuit.specs.File.{Reading, reading, ReadCounts, counts_of, gates_read}
+use Rattle.circuit.specs.File.{Reading, reading, counts_of, gates_read}
+use Rattle.circuit.specs.declared.file.ReadCounts.{ReadCounts}
 use Rattle.circuit.proofs.lemmas.file.Laws.{read_bad, read_short, read_fits}
 use Rattle.circuit.proofs.lemmas.file.Steps.{Started, header_bad, header_start, judged, judged_bad, judged_good, read_told}
 use Rattle.circuit.proofs.file.read.Goals as goal

@@ -1,5 +1,6 @@
 -- `circuit::inverse::put_inverse` meets its contract.
 use Rattle.std.proofs.Common.{◌≡◌, ℕ, ◌+◌, ◌-◌, ◌*◌, ◌/◌, List, length, sym, ap, ◌∙◌, arith}
+use Rattle.std.proofs.Math.Nat.{sub-zero}
 use Rattle.bits.specs.Lists.{over}
 use Rattle.circuit.proofs.lemmas.inverse.Laws.{tail_back, back_none, back_turn, put_fits, put_short}
 use Rattle.circuit.proofs.inverse.put_inverse.Goals as goal

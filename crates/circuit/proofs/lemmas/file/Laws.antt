@@ -7,7 +7,8 @@ use Rattle.circuit.specs.Gate.{max_lines, max_gates}
 use Rattle.circuit.specs.Outcome.{Outcome, served, refused, and_then}
 use Rattle.circuit.specs.Refusal.{wrong_form, no_room}
 use Rattle.circuit.specs.Text.{tab, line_feed, lines_word, number_text, header_line, end_line, gate_lines, text_of}
-use Rattle.circuit.specs.File.{Line, no_line, first_line, later_lines, lines_of, line_size, gate_on, gate_fields, parted_by, header_on, is_end, Reading, read_from, reading, ReadCounts, counts_of, read_outcome, write_outcome}
+use Rattle.circuit.specs.File.{Line, no_line, first_line, later_lines, lines_of, line_size, gate_on, gate_fields, parted_by, header_on, is_end, Reading, read_from, reading, counts_of, read_outcome, write_outcome}
+use Rattle.circuit.specs.declared.file.ReadCounts.{ReadCounts}
 use Rattle.circuit.specs.FileLaws as laws
 use Rattle.circuit.specs.FileLaws.{FileCascade, LineOffence, FileRefused, ReaderLaws, Readable, ReadAs, ReadRefused, Writable, WriteRefused}
 use Rattle.circuit.specs.Words.{gates_of, check_outcome}

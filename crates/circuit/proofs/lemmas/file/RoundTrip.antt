@@ -6,7 +6,8 @@ use Rattle.circuit.specs.Gate.{max_gates, not_gate, valid}
 use Rattle.circuit.specs.Outcome.{Outcome, served, Untouched, Yields}
 use Rattle.circuit.specs.Words.{gates_of, words_of, all_valid}
 use Rattle.circuit.specs.Text.{number_text, gate_lines, text_of}
-use Rattle.circuit.specs.File.{Reading, reading, ReadCounts, gates_read, read_outcome, read_buffer, write_outcome, write_buffer}
+use Rattle.circuit.specs.File.{Reading, reading, gates_read, read_outcome, read_buffer, write_outcome, write_buffer}
+use Rattle.circuit.specs.declared.file.ReadCounts.{ReadCounts}
 use Rattle.circuit.specs.FileLaws.{FileCascade, Readable, Writable, RoundTrip}
 use Rattle.circuit.proofs.lemmas.Outcome.{written_served, written_refused}
 use Rattle.circuit.proofs.lemmas.words.Gates.{gates_length, gates_words, words_length}

@@ -8,7 +8,8 @@ use Rattle.circuit.specs.Gate.{max_lines, max_gates}
 use Rattle.circuit.specs.Outcome.{Outcome, served, refused, written, Yields}
 use Rattle.circuit.specs.Refusal.{wrong_form}
 use Rattle.circuit.specs.Text.{line_feed, end_word, end_line}
-use Rattle.circuit.specs.File.{Line, no_line, first_line, later_lines, lines_of, line_size, parted_by, same, gate_fields, gate_on, header_on, is_end, Reading, read_from, reading, ReadCounts, counts_of, gates_read, read_outcome, read_buffer}
+use Rattle.circuit.specs.File.{Line, no_line, first_line, later_lines, lines_of, line_size, parted_by, same, gate_fields, gate_on, header_on, is_end, Reading, read_from, reading, counts_of, gates_read, read_outcome, read_buffer}
+use Rattle.circuit.specs.declared.file.ReadCounts.{ReadCounts}
 use Rattle.circuit.specs.Words.{words_of}
 use Rattle.circuit.specs.private.Scan.{line_at, gate_next, header_next, counts_from}
 use Rattle.circuit.specs.private.Fill.{GatesAt}

@@ -6,7 +6,8 @@ use Rattle.circuit.specs.declared.gate.Gate.{Gate}
 use Rattle.circuit.specs.Gate.{max_lines, max_gates, not_gate, valid}
 use Rattle.circuit.specs.Outcome.{Outcome, served, refused, demand, and_then, Wrong, Fails}
 use Rattle.circuit.specs.Refusal.{bad_line_count, too_many_gates, no_gate, line_counts_differ, bad_word_count}
-use Rattle.circuit.specs.Words.{gates_of, gate_at, words_of, all_valid, line_count_good, valid_from, size_outcome, gates_outcome, check_outcome, Counts, pair_outcome, Cascade, WordsRefused, lines, thirds, many, gate, GoodPair, PairRefused}
+use Rattle.circuit.specs.Words.{gates_of, gate_at, words_of, all_valid, line_count_good, valid_from, size_outcome, gates_outcome, check_outcome, pair_outcome, Cascade, WordsRefused, lines, thirds, many, gate, GoodPair, PairRefused}
+use Rattle.circuit.specs.declared.words.Counts.{Counts}
 use Rattle.circuit.proofs.lemmas.Outcome.{never, unserved, demand_met, demand_failed, demanded, then_served, then_refused, then_both, wrong_refused, fails_refused, unequal}
 use Rattle.circuit.proofs.lemmas.words.Gates.{gates_length, gates_next, gates_end, words_length, gates_words, words_gates}
 
