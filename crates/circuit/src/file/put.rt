@@ -25,7 +25,7 @@ fn two_digits(k: u64) -> (u8, u8)
 }
 
 // Writes a number below 100.
-#[tactic(auto, using(crate::proofs::lemmas::file::Numbers::text_short, crate::proofs::lemmas::file::Numbers::text_long))]
+#[tactic(auto, using(crate::proofs::lemmas::file::Numbers::text_rules))]
 fn put_number(out: &mut [u8], k: u64) -> usize
     requires { (k < 100) × (length (number_text k) ≤ length out.old) }
     ensures { Put result out.new (number_text k) out.old }

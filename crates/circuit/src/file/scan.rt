@@ -75,7 +75,7 @@ pub(crate) fn digits(k: u64) -> usize
 }
 
 // The number in the field at a position, if it has one.
-#[tactic(auto, using(crate::proofs::lemmas::file::scan::Laws::number_first, crate::proofs::lemmas::file::scan::Laws::number_one, crate::proofs::lemmas::file::scan::Laws::number_zero, crate::proofs::lemmas::file::scan::Laws::number_second, crate::proofs::lemmas::file::scan::Laws::number_third, crate::proofs::lemmas::file::scan::Laws::number_two))]
+#[tactic(auto, using(crate::proofs::lemmas::file::scan::Laws::number_rules))]
 fn number(text: &[u8], at: usize) -> Option<Numeral>
     requires { at ≤ length text.now }
     ensures { result ≡ numeral_at at (number_of 0 (field_at (drop at text.now))) }
@@ -107,7 +107,7 @@ fn number(text: &[u8], at: usize) -> Option<Numeral>
 }
 
 // The target or control line in the field at a position; else 1 or 3.
-#[tactic(auto, using(crate::proofs::lemmas::file::scan::Laws::line_wrong, crate::proofs::lemmas::file::scan::Laws::line_outside_lem, crate::proofs::lemmas::file::scan::Laws::line_good))]
+#[tactic(auto, using(crate::proofs::lemmas::file::scan::Laws::line_rules))]
 fn line(text: &[u8], at: usize, n: u64, place: u64) -> Result<Numeral, Refusal>
     requires { at ≤ length text.now }
     ensures { outcome_of result ≡ line_next n place at (field_at (drop at text.now)) }
@@ -120,7 +120,7 @@ fn line(text: &[u8], at: usize, n: u64, place: u64) -> Result<Numeral, Refusal>
 }
 
 // The control in the field at a position; else 1 or 3.
-#[tactic(auto, using(crate::proofs::lemmas::file::scan::Laws::control_unsigned, crate::proofs::lemmas::file::scan::Laws::control_refused, crate::proofs::lemmas::file::scan::Laws::control_good))]
+#[tactic(auto, using(crate::proofs::lemmas::file::scan::Laws::control_rules))]
 fn control(text: &[u8], at: usize, n: u64, place: u64) -> Result<ControlRead, Refusal>
     requires { at ≤ length text.now }
     ensures { outcome_of result ≡ control_next n place at (field_at (drop at text.now)) }
@@ -187,7 +187,7 @@ fn controls(text: &[u8], first: usize, n: u64, place: u64, target: u64) -> Resul
 }
 
 // The position after the gate line at a position, after so many gate lines; else 6, 1, 3, 4 or 5.
-#[tactic(auto, using(crate::proofs::lemmas::file::scan::Rest::gate_wrong, crate::proofs::lemmas::file::scan::Rest::gate_above, crate::proofs::lemmas::file::scan::Rest::gate_bad, crate::proofs::lemmas::file::scan::Rest::gate_goes))]
+#[tactic(auto, using(crate::proofs::lemmas::file::scan::Rest::gate_rules))]
 pub(crate) fn gate_line(text: &[u8], start: usize, n: u64, place: u64, gates: usize) -> Result<usize, Refusal>
     requires { (start ≤ length text.now) × (n ≤ max_lines) }
     ensures { outcome_of result ≡ gate_next n place gates start (drop start text.now) }
@@ -212,7 +212,7 @@ pub(crate) fn ends(text: &[u8], at: usize) -> bool
 }
 
 // The line count of a text and the position after its first line; else 1 or 2.
-#[tactic(auto, using(crate::proofs::lemmas::file::scan::Rest::header_other, crate::proofs::lemmas::file::scan::Rest::header_wrong, crate::proofs::lemmas::file::scan::Rest::header_outside, crate::proofs::lemmas::file::scan::Rest::header_missing, crate::proofs::lemmas::file::scan::Rest::header_further, crate::proofs::lemmas::file::scan::Rest::header_good))]
+#[tactic(auto, using(crate::proofs::lemmas::file::scan::Rest::header_rules))]
 pub(crate) fn header(text: &[u8]) -> Result<HeaderNext, Refusal>
     ensures { outcome_of result ≡ header_next text.now }
 {

@@ -203,6 +203,8 @@ module _ (text : List ℕ) (at a : ℕ) (is_a : a ≡ get_or text at 10) where
             ap₂ (λ (x y : ℕ). Some (record { value = 10 * (x - 48) + (y - 48); next = at + 2 })) byte_a byte_b
             ∙ both_digits at (drop at text) low goes (sym (ap is_digit byte_b) ∙ e) (λ y. z (byte_a ∙ y)) (sym (ap is_stop byte_d) ∙ s)
 
+pub ruleset number_rules = (number_first, number_one, number_zero, number_second, number_third, number_two)
+
 -- ---- the target or control line there
 
 -- a field that is no number, in line i
@@ -240,6 +242,8 @@ line_good n i at f m e l =
     let t = number_told i at f m e in
     then_served _ _ m.value (then_served _ _ m.value t.0 ∙ demand_met _ _ _ _ (lt-ltb m.value n l))
     ∙ ap (λ (k : ℕ). served (record { value = m.value; next = k })) (sym t.1)
+
+pub ruleset line_rules = (line_wrong, line_outside_lem, line_good)
 
 -- ---- the control there
 
@@ -301,6 +305,8 @@ module _ (n i : ℕ) (text : List ℕ) (at s : ℕ) (is : s ≡ get_or text at 1
         let x : record { value = k; next = at + 1 + width k } ≡ m = unserved b in
         then_served _ _ (record { line = k; positive = eqb s plus_sign }) (control_signed ∙ then_served _ _ k a)
         ∙ ap (λ (y : Numeral). served (record { line = y.value; positive = eqb s plus_sign; next = y.next })) x
+
+pub ruleset control_rules = (control_unsigned, control_refused, control_good)
 
 -- ---- a text that starts with a word
 

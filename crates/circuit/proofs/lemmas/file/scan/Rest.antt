@@ -473,6 +473,8 @@ module _ (text : List ℕ) (start : ℕ) (word : starts_with eqb (take (length t
           gate_target (drop start text) starts n i count start few m.value (target_field ∙ target_read.0) (drop m.next text)
           (after_target ∙ ap (λ (r : List ℕ). drop (length (field_at r)) r) d) m.next (target_read.1 ∙ ap (λ (r : List ℕ). start + 2 + length (field_at r)) d)
 
+pub ruleset gate_rules = (gate_wrong, gate_above, gate_bad, gate_goes)
+
 -- ---- `end`
 
 end_line_lem : (r : List ℕ) → starts_with eqb r (101 ∷ 110 ∷ 100 ∷ 10 ∷ []) ≡ is_end (line_at r)
@@ -621,3 +623,5 @@ module _ (r : List ℕ) (starts : starts_with eqb r (108 ∷ 105 ∷ 110 ∷ 101
         where
           ten : ◌≡◌ {A = ℕ} 10 tab → ⊥
           ten q = omega arith
+
+pub ruleset header_rules = (header_other, header_wrong, header_outside, header_missing, header_further, header_good)
