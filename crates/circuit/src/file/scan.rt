@@ -188,7 +188,13 @@ fn controls(text: &[u8], first: usize, n: u64, place: u64, target: u64) -> Resul
 
 // The position after the gate line at a position, after so many gate lines; else 6, 1, 3, 4 or 5.
 #[tactic(auto, using(crate::proofs::lemmas::file::scan::Rest::gate_rules))]
-pub(crate) fn gate_line(text: &[u8], start: usize, n: u64, place: u64, gates: usize) -> Result<usize, Refusal>
+pub(crate) fn gate_line(
+    text: &[u8],
+    start: usize,
+    n: u64,
+    place: u64,
+    gates: usize,
+) -> Result<usize, Refusal>
     requires { (start ≤ length text.now) × (n ≤ max_lines) }
     ensures { outcome_of result ≡ gate_next n place gates start (drop start text.now) }
 {

@@ -1,7 +1,7 @@
 -- `circuit::file::judge` meets its contract.
 use Rattle.std.proofs.Common.{◌≡◌, Err, sym, ap, ◌∙◌, arith, rules}
 use Rattle.circuit.specs.Outcome.{outcome_of}
-use Rattle.circuit.proofs.lemmas.file.Steps.{judging_start, judging_turn, judging_refused, judging_step, judging_end}
+use Rattle.circuit.proofs.lemmas.file.Steps.{judging_turn, judging_refused, judging_step, judging_end}
 use Rattle.circuit.proofs.file.judge.Goals as goal
 
 pub returns-in_err-at : goal.returns-in_err-at

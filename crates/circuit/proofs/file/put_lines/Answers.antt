@@ -1,8 +1,7 @@
 -- `circuit::file::put_lines` meets its contract.
-use Rattle.std.proofs.Common.{◌-◌, length, ◌∙◌, arith, rules}
-use borrow.Rule.Slice.PartMut.{same_len_mid}
+use Rattle.std.proofs.Common.{arith}
 use Rattle.circuit.proofs.lemmas.file.put.Laws.{rest_length}
-use Rattle.circuit.proofs.lemmas.file.Writes.{typing_start, typing_at, typing_room, typing_target, typing_on, typing_done}
+use Rattle.circuit.proofs.lemmas.file.Writes.{typing_at, typing_room, typing_target, typing_on, typing_done}
 use Rattle.circuit.proofs.file.put_lines.Goals as goal
 
 pub put_gate_line-at-requires : goal.put_gate_line-at-requires

@@ -1,6 +1,5 @@
 -- `circuit::file::text_size` meets its contract.
 use Rattle.std.proofs.Common.{arith}
-use Rattle.circuit.proofs.lemmas.file.scan.Laws.{width_two}
 use Rattle.circuit.proofs.lemmas.file.Writes.{sizing_start, sizing_on, sizing_done}
 use Rattle.circuit.proofs.file.text_size.Goals as goal
 

@@ -121,9 +121,6 @@ pub record Judging (n first : ℕ) (text : List ℕ) (start at gates : ℕ) : Ty
   pub inside : at ≤ length text
   pub left : read_from n first [] start (lines_of (drop start text)) ≡ read_from n first passed at (lines_of (drop at text))
 
-pub judging_start : (n first : ℕ) (text : List ℕ) (start : ℕ) → n ≤ max_lines → start ≤ length text → Judging n first text start start 0
-judging_start n first text start h i = record { passed = []; count = refl; high = h; few = omega arith; inside = i; left = refl }
-
 module _ (n first : ℕ) (text : List ℕ) (start at gates : ℕ) (j : Judging n first text start at gates) where
   module _ (open-line : is_end (line_at (drop at text)) ≡ false) where
     pub judging_refused : (number p : ℕ) → gate_next n (gates + first) gates at (drop at text) ≡ refused number p → counts_from n first start text ≡ refused number p

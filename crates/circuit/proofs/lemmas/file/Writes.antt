@@ -1,5 +1,5 @@
 -- Writing as the code takes it: one gate line of the two loops over gates, and what the call owes. Assumes nothing.
-use Rattle.std.proofs.Common.{◌≡◌, ℕ, ◌+◌, ◌-◌, ◌*◌, ◌/◌, ◌<◌, ◌≤◌, true, List, [], ◌++◌, length, take, drop, sym, refl, ap, ◌∙◌, append_assoc, arith, length-append, le-leb}
+use Rattle.std.proofs.Common.{◌≡◌, ℕ, ◌+◌, ◌-◌, ◌*◌, ◌/◌, ◌<◌, ◌≤◌, true, List, [], ◌++◌, length, take, drop, sym, ap, ◌∙◌, append_assoc, arith, length-append, le-leb}
 use borrow.Author.Tests.{lt-leb}
 use borrow.Rule.Slice.PartMut.{put_mid}
 use Rattle.bits.specs.Lists.{Put}
@@ -16,7 +16,7 @@ use Rattle.circuit.proofs.lemmas.Outcome.{demand_met, demand_failed, then_served
 use Rattle.circuit.proofs.lemmas.gate.Valid.{valid_facts}
 use Rattle.circuit.proofs.lemmas.words.Gates.{gates_next, gates_end}
 use Rattle.circuit.proofs.lemmas.file.scan.Laws.{width_two}
-use Rattle.circuit.proofs.lemmas.file.put.Laws.{Written, written_none, written_more, written_put, put_as, header_length}
+use Rattle.circuit.proofs.lemmas.file.put.Laws.{Written, written_more, written_put, put_as, header_length}
 
 -- the gates from gate i on
 abbrev pub gates_from : List ℕ → ℕ → List Gate
@@ -72,9 +72,6 @@ pub record Typing (ws first out : List ℕ) (at i : ℕ) : Type 0 where
   pub valid : all_valid max_lines (gates_from ws i) ≡ true
   pub room : length (gate_lines (gates_of ws) ++ end_line) ≤ length first
   pub within : i ≤ length ws / 3
-
-pub typing_start : (ws out : List ℕ) → all_valid max_lines (gates_of ws) ≡ true → length (gate_lines (gates_of ws) ++ end_line) ≤ length out → Typing ws out out 0 0
-typing_start ws out v h = record { front = []; filled = written_none out; left = refl; valid = v; room = h; within = omega arith }
 
 module _ (ws first out : List ℕ) (at i : ℕ) (t : Typing ws first out at i) where
   all_length : length t.front + length (gate_lines (gates_from ws i)) + 4 ≤ length out

@@ -1,10 +1,10 @@
 -- `circuit::file::fill::fill` meets its contract.
-use Rattle.std.proofs.Common.{◌≡◌, ◌+◌, ◌-◌, ◌*◌, ◌≤◌, List, length, refl, ap, ◌∙◌, arith, rules}
+use Rattle.std.proofs.Common.{◌≡◌, ◌+◌, ◌-◌, ◌*◌, ◌≤◌, List, length, refl, ap, ◌∙◌, arith}
 use borrow.Rule.Slice.PartMut.{same_len_mid}
 use Rattle.circuit.specs.declared.gate.Gate.{Gate}
 use Rattle.circuit.specs.declared.file.fill.GateRead.{GateRead}
 use Rattle.circuit.specs.private.Fill.{GatesAt}
-use Rattle.circuit.proofs.lemmas.file.fill.Laws.{filling_start, NextLine, filling_next, filling_done}
+use Rattle.circuit.proofs.lemmas.file.fill.Laws.{filling_start, NextLine, filling_next}
 use Rattle.circuit.proofs.file.fill.fill.Goals as goal
 use Rattle.circuit.proofs.file.fill.fill.Goals.{In-loop-i}
 

@@ -1,9 +1,9 @@
 -- `circuit::file::fill::gate_line` meets its contract. Assumes nothing.
-use Rattle.std.proofs.Common.{ℕ, sym, ap, subst, arith}
+use Rattle.std.proofs.Common.{ℕ, sym, ap, subst}
 use Rattle.circuit.specs.Gate.{controls_of}
 use Rattle.circuit.specs.declared.file.scan.Numeral.{Numeral}
 use Rattle.circuit.specs.private.Fill.{ControlsAt}
-use Rattle.circuit.proofs.lemmas.file.fill.Laws.{gate_parts, digits_there, gate_there}
+use Rattle.circuit.proofs.lemmas.file.fill.Laws.{gate_parts, gate_there}
 use Rattle.circuit.proofs.file.fill.gate_line.Goals as goal
 
 pub number-k-requires : goal.number-k-requires

@@ -1,8 +1,7 @@
 -- `circuit::file::fill::joined` meets its contract. Assumes nothing.
-use Rattle.std.proofs.Common.{◌≡◌, ℕ, ◌%◌, ◌^◌, sym, ap, ◌∙◌, arith}
+use Rattle.std.proofs.Common.{◌^◌, sym, ap, ◌∙◌}
 use lib.Bits.{bit_or, or_zero_r}
-use Rattle.bits.proofs.Bools.{cond-true, cond-false}
-use Rattle.circuit.specs.Gate.{max_lines}
+use Rattle.bits.proofs.Bools.{cond-false}
 use Rattle.circuit.proofs.file.fill.joined.Goals as goal
 
 pub returns : goal.returns

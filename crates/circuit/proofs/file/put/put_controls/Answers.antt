@@ -1,6 +1,6 @@
 -- `circuit::file::put::put_controls` meets its contract.
-use Rattle.std.proofs.Common.{◌+◌, ◌-◌, ◌<◌, ◌≤◌, ◌∷◌, length, ap, ◌∙◌, ⊎_elim, mod-eq_of_lt, eq-zero-or-pos, arith}
-use lib.Bits.{or_lt, and_le_r}
+use Rattle.std.proofs.Common.{◌+◌, ◌<◌, ◌≤◌, ◌∷◌, length, ap, ◌∙◌, ⊎_elim, mod-eq_of_lt, eq-zero-or-pos, arith}
+use lib.Bits.{or_lt}
 use Rattle.bits.specs.Digits.{bit}
 use Rattle.circuit.specs.Gate.{max_lines}
 use Rattle.circuit.proofs.lemmas.gate.Controls.{control_on}

@@ -4,7 +4,7 @@ use Rattle.circuit.specs.Outcome.{outcome_of}
 use borrow.Author.Tests.{not-true, not-false}
 use Rattle.circuit.specs.Text.{tab}
 use Rattle.circuit.proofs.lemmas.file.scan.Laws.{byte_at}
-use Rattle.circuit.proofs.lemmas.file.scan.Rest.{going_start, going_room, going_refused, going_below, going_inside, going_on, going_open, going_controlled, going_falls, going_gate}
+use Rattle.circuit.proofs.lemmas.file.scan.Rest.{going_start, going_refused, going_below, going_on, going_open, going_controlled, going_falls, going_gate}
 use Rattle.circuit.proofs.file.scan.controls.Goals as goal
 use Rattle.circuit.proofs.file.scan.controls.Goals.{After-loop-at, In-loop-at}
 

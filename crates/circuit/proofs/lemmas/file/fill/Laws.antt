@@ -332,10 +332,3 @@ module _ (text : List ℕ) (gs : List Gate) (first : List ℕ) (at i : ℕ) (out
                       ∙ ap (λ (x : List ℕ). over x first) (sym (words_push f.passed g));
                 };
           }
-
-  pub filling_done : length gs ≡ i → out ≡ over (words_of gs) first
-  filling_done e = f.put ∙ ap (λ (x : List Gate). over (words_of x) first) (all f.left refl)
-    where
-      all : (l : List Gate) → f.left ≡ l → f.passed ≡ gs
-      all [] q = sym (append-nil f.passed) ∙ ap (λ (l : List Gate). f.passed ++ l) (sym q) ∙ f.parts
-      all (g ∷ hs) q = absurd (omega (arith, e, f.count, ap length f.parts, length-append f.passed f.left, ap length q))

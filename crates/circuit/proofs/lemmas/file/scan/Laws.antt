@@ -1,19 +1,19 @@
 -- The laws of what stands at a position of a text: the field there, the fields and the line from there on. Assumes nothing.
-use Rattle.std.proofs.Common.{◌≡◌, ℕ, zero, suc, ◌+◌, ◌-◌, ◌*◌, ◌<◌, ◌≤◌, Bool, true, false, not, ◌&&◌, ◌||◌, eqb, ltb, leb, List, [], ◌∷◌, ◌++◌, Option, None, Some, length, get_or, take, drop, sym, refl, ap, ◌∙◌, ap₂, true≢false, arith, drop_of_length-le, get_or-drop, drop-cons, ltb-false, ltb-true, le-ltb, lt-ltb, eq-eqb, ne_eqb, eqb-true, le-leb, leb-true, length-drop, drop-drop, take_all}
+use Rattle.std.proofs.Common.{◌≡◌, ℕ, zero, suc, ◌+◌, ◌-◌, ◌*◌, ◌<◌, ◌≤◌, Bool, true, false, not, ◌&&◌, ◌||◌, eqb, ltb, leb, List, [], ◌∷◌, ◌++◌, Option, None, Some, length, get_or, take, drop, sym, refl, ap, ◌∙◌, ap₂, true≢false, arith, get_or-drop, ltb-false, ltb-true, le-ltb, lt-ltb, eq-eqb, ne_eqb, eqb-true, le-leb, leb-true, length-drop, drop-drop, take_all}
 use mathlib.Core.Bool.{false≢true}
 use borrow.Author.Tests.{lt-leb}
 use Rattle.std.specs.List.{starts_with}
 use Rattle.std.proofs.lemmas.Bool.Decides.{Decides-eqb}
 use Rattle.std.proofs.lemmas.Slice.Eq.{starts_is}
-use Rattle.bits.proofs.Bools.{either, and_parts, both, cond-true, cond-false, and_second, table₂}
-use Rattle.circuit.specs.Outcome.{Outcome, served, refused, demand, and_then}
+use Rattle.bits.proofs.Bools.{either, and_parts, both, cond-true, cond-false, table₂}
+use Rattle.circuit.specs.Outcome.{Outcome, served, refused, and_then}
 use Rattle.circuit.specs.Refusal.{wrong_form, line_outside}
 use Rattle.circuit.specs.Text.{tab, line_feed, plus_sign, minus_sign}
 use Rattle.circuit.specs.File.{is_digit, number_of, line_of, control_of}
 use Rattle.circuit.specs.declared.file.scan.Numeral.{Numeral}
 use Rattle.circuit.specs.private.Scan.{is_stop, field_at, width, numeral_at, line_next, control_next}
 use Rattle.circuit.proofs.lemmas.Outcome.{unserved, demand_met, demand_failed, then_served, then_refused, then_both, then_fails}
-use Rattle.circuit.proofs.lemmas.file.Numbers.{text_number, number_else, number_wrong}
+use Rattle.circuit.proofs.lemmas.file.Numbers.{number_else, number_wrong}
 
 -- ---- a byte
 
@@ -253,11 +253,6 @@ sign_more s e =
     (λ t. ap is_stop (eqb-true s plus_sign t))
     (λ t. ap is_stop (eqb-true s minus_sign (sym (ap (λ (b : Bool). b || eqb s minus_sign) t) ∙ e)))
 
--- LF is no sign, so a sign stands inside the text
-signed_inside : (r : List ℕ) → (eqb (get_or r 0 10) plus_sign || eqb (get_or r 0 10) minus_sign) ≡ true → 0 < length r
-signed_inside [] e = absurd (false≢true e)
-signed_inside (b ∷ r) e = omega arith
-
 unsigned : (n i : ℕ) (r : List ℕ) → (eqb (get_or r 0 10) plus_sign || eqb (get_or r 0 10) minus_sign) ≡ false → control_of n i (field_at r) ≡ refused wrong_form i
 unfolding control_of
 unsigned n i [] e = ap (control_of n i) field_none
@@ -284,9 +279,6 @@ module _ (n i : ℕ) (text : List ℕ) (at s : ℕ) (is : s ≡ get_or text at 1
   module _ (e : (eqb s plus_sign || eqb s minus_sign) ≡ true) where
     there : (eqb (get_or (drop at text) 0 10) plus_sign || eqb (get_or (drop at text) 0 10) minus_sign) ≡ true
     there = sym (ap (λ (b : ℕ). eqb b plus_sign || eqb b minus_sign) first) ∙ e
-
-    pub sign_inside : at + 1 ≤ length text
-    sign_inside = omega (arith, signed_inside (drop at text) there, length-drop at text)
 
     control_signed : control_of n i (field_at (drop at text)) ≡ and_then (line_of n i (field_at (drop (at + 1) text))) (λ k. served (record { line = k; positive = eqb s plus_sign }))
     control_signed =

@@ -258,9 +258,6 @@ module _ (n i t : ℕ) (text : List ℕ) (first at : ℕ) (seen : Seen) (g : Goi
       pub going_below : k.line < n
       going_below = let (c, a, l, p) = read_parts in omega (arith, going_control c a)
 
-      pub going_inside : (at < k.next) × (k.next ≤ length text)
-      going_inside = let (c, a, l, p) = read_parts in (omega arith, omega (arith, going_room_after c a))
-
       pub going_on : (last : Seen) → last ≡ added t seen k.line → Going n i t text first k.next last
       going_on last e =
           let (c, a, l, p) = read_parts in
@@ -524,9 +521,6 @@ module _ (r : List ℕ) (starts : starts_with eqb r (108 ∷ 105 ∷ 110 ∷ 101
   header_word =
       subst (λ (x : List ℕ). Worded x lines_word (drop 6 r)) (sym (starts_true (108 ∷ 105 ∷ 110 ∷ 101 ∷ 115 ∷ 9 ∷ []) r starts))
       (worded lines_word (drop 6 r) refl)
-
-  pub header_room : 6 ≤ length r
-  header_room = omega (arith, ap length (starts_true (108 ∷ 105 ∷ 110 ∷ 101 ∷ 115 ∷ 9 ∷ []) r starts))
 
   -- what follows the number
   after : List ℕ
