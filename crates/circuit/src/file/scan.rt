@@ -47,10 +47,7 @@ pub struct Seen {
 fn byte(text: &[u8], at: usize) -> u8
     ensures { result ≡ slice_index_or text.now at 10 }
 {
-    match text.get(at) {
-        Some(b) => *b,
-        None => b'\n',
-    }
+    text.get(at).copied().unwrap_or(b'\n')
 }
 
 // Whether the byte ends a field.
