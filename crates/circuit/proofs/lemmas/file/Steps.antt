@@ -148,7 +148,6 @@ module _ (n : ℕ) (text : List ℕ) (start at gates : ℕ) (j : Judging n text 
 -- ---- a text from its header on
 
 pub record Started (text : List ℕ) (n next : ℕ) : Type 0 where
-  pub some : 1 ≤ next
   pub high : n ≤ max_lines
   pub inside : next ≤ length text
   pub is : reading text ≡ read_from n 1 [] next (lines_of (drop next text))
@@ -179,7 +178,6 @@ module _ (text : List ℕ) where
       let c = cut_first text d in
       let s : length text ≡ length l.bytes + length (line_feed ∷ drop (line_size l) text) = ap length c.text ∙ length-append l.bytes _ in
       record {
-        some = omega arith;
         high = h;
         inside = omega arith;
         is = then_served _ _ n good ∙ ap₂ (λ (k : ℕ) (ls : List Line). read_from n 1 [] k ls) q (sym c.later ∙ ap (λ (k : ℕ). lines_of (drop k text)) q);
