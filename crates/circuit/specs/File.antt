@@ -2,7 +2,6 @@
 use Rattle.std.specs.Prelude.{ℕ, ◌+◌, ◌-◌, ◌*◌, ◌^◌, Bool, true, false, cond, not, ◌&&◌, ◌||◌, List, [], ◌∷◌, ◌++◌, length, ◌==◌, bit_or, nat_le, nat_lt}
 use Rattle.std.specs.Bool.{beq}
 use Rattle.circuit.specs.declared.gate.Gate.{Gate}
--- what a served reading tells: the line count, the number of gates, the bytes taken
 use Rattle.circuit.specs.declared.file.ReadCounts.{ReadCounts}
 use Rattle.circuit.specs.Gate.{max_gates, Control}
 use Rattle.circuit.specs.Outcome.{Outcome, served, refused, demand, and_then, written}
@@ -169,6 +168,7 @@ reading text =
 
 -- ---- the two calls
 
+-- what a served reading tells: the line count, the number of gates, the bytes taken
 abbrev pub counts_of : Reading → ReadCounts
 counts_of c = record { lines = c.lines; gates = length c.gates; taken = c.taken }
 

@@ -24,15 +24,15 @@ pub struct ReadCounts {
     pub taken: usize,
 }
 
-// The counts of a cascade on n lines whose gate lines start at line `first` and at a position; else 1, 3, 4, 5 or 6 by line.
-fn judge(text: &[u8], n: u64, first: u64, start: usize) -> Result<ReadCounts, Refusal>
-    requires { (first ≤ start) × (start ≤ length text.now) × (n ≤ max_lines) }
-    ensures { outcome_of result ≡ counts_from n first start text.now }
+// The counts of a cascade on n lines whose gate lines start at line 1 and at a position; else 1, 3, 4, 5 or 6 by line.
+fn judge(text: &[u8], n: u64, start: usize) -> Result<ReadCounts, Refusal>
+    requires { (start ≤ length text.now) × (n ≤ max_lines) }
+    ensures { outcome_of result ≡ counts_from n start text.now }
 {
     let mut at = start;
     let mut gates = 0;
     while !crate::file::scan::ends(text, at) {
-        at = crate::file::scan::gate_line(text, at, n, gates as u64 + first, gates)?;
+        at = crate::file::scan::gate_line(text, at, n, gates as u64 + 1, gates)?;
         gates += 1;
     }
     Ok(ReadCounts {
@@ -47,7 +47,7 @@ pub fn read(text: &[u8], out: &mut [u64]) -> Result<ReadCounts, Refusal>
     ensures { Yields (outcome_of result) out.new (read_outcome text.now (length out.old)) (read_buffer text.now out.old) }
 {
     let header = crate::file::scan::header(text)?;
-    let counts = judge(text, header.lines, 1, header.next)?;
+    let counts = judge(text, header.lines, header.next)?;
     if out.len() / Gate::WORDS < counts.gates {
         return Err(Refusal::NoRoom);
     }

@@ -93,7 +93,7 @@ pub(crate) fn fill(text: &[u8], start: usize, gates: usize, out: &mut [u64])
     for i in 0..gates {
         let read = gate_line(text, at);
         let to = Gate::WORDS * i;
-        crate::words::put_gate(&mut out[to..], read.gate);
+        crate::words::store_gate(&mut out[to..], read.gate);
         at = read.next;
     }
 }

@@ -25,6 +25,7 @@ fn two_digits(k: u64) -> (u8, u8)
 }
 
 // Writes a number below 100.
+#[tactic(auto, using(crate::proofs::lemmas::file::Numbers::text_rules))]
 fn put_number(out: &mut [u8], k: u64) -> usize
     requires { (k < 100) × (length (number_text k) ≤ length out.old) }
     ensures { Put result out.new (number_text k) out.old }
@@ -83,6 +84,7 @@ fn put_gate_text(out: &mut [u8], g: Gate) -> usize
 }
 
 // Writes a gate's line.
+#[tactic(auto, using(crate::proofs::lemmas::file::put::Laws::put_byte, crate::proofs::lemmas::file::put::Laws::line_length))]
 pub(crate) fn put_gate_line(out: &mut [u8], g: Gate) -> usize
     requires { (g.target < 100) × (length (gate_line g) ≤ length out.old) }
     ensures { Put result out.new (gate_line g) out.old }
@@ -103,6 +105,7 @@ pub(crate) fn put_header(out: &mut [u8], n: u64) -> usize
 }
 
 // How many bytes the controls of two masks have, each after a tab: three each, and a second digit from line 10 on.
+#[tactic(auto, using(crate::proofs::lemmas::file::put::Laws::controls_long))]
 fn controls_size(positive: u64, negative: u64) -> usize
     ensures { (result ≡ length (controls_text (controls_of (mask_gate positive negative)))) × (result ≤ 256) }
 {
@@ -111,6 +114,7 @@ fn controls_size(positive: u64, negative: u64) -> usize
 }
 
 // How many bytes the line of a gate has.
+#[tactic(auto, using(crate::proofs::lemmas::file::put::Laws::gate_length, crate::proofs::lemmas::file::put::Laws::same_controls, crate::proofs::lemmas::file::scan::Laws::width_two))]
 pub(crate) fn gate_size(g: Gate) -> usize
     ensures { (result ≡ length (gate_line g)) × (result ≤ 300) }
 {

@@ -47,10 +47,7 @@ pub struct Seen {
 fn byte(text: &[u8], at: usize) -> u8
     ensures { result ≡ slice_index_or text.now at 10 }
 {
-    match text.get(at) {
-        Some(b) => *b,
-        None => b'\n',
-    }
+    text.get(at).copied().unwrap_or(b'\n')
 }
 
 // Whether the byte ends a field.
@@ -75,6 +72,7 @@ pub(crate) fn digits(k: u64) -> usize
 }
 
 // The number in the field at a position, if it has one.
+#[tactic(auto, using(crate::proofs::lemmas::file::scan::Laws::number_rules))]
 fn number(text: &[u8], at: usize) -> Option<Numeral>
     requires { at ≤ length text.now }
     ensures { result ≡ numeral_at at (number_of 0 (field_at (drop at text.now))) }
@@ -106,6 +104,7 @@ fn number(text: &[u8], at: usize) -> Option<Numeral>
 }
 
 // The target or control line in the field at a position; else 1 or 3.
+#[tactic(auto, using(crate::proofs::lemmas::file::scan::Laws::line_rules))]
 fn line(text: &[u8], at: usize, n: u64, place: u64) -> Result<Numeral, Refusal>
     requires { at ≤ length text.now }
     ensures { outcome_of result ≡ line_next n place at (field_at (drop at text.now)) }
@@ -118,6 +117,7 @@ fn line(text: &[u8], at: usize, n: u64, place: u64) -> Result<Numeral, Refusal>
 }
 
 // The control in the field at a position; else 1 or 3.
+#[tactic(auto, using(crate::proofs::lemmas::file::scan::Laws::control_rules))]
 fn control(text: &[u8], at: usize, n: u64, place: u64) -> Result<ControlRead, Refusal>
     requires { at ≤ length text.now }
     ensures { outcome_of result ≡ control_next n place at (field_at (drop at text.now)) }
@@ -184,7 +184,14 @@ fn controls(text: &[u8], first: usize, n: u64, place: u64, target: u64) -> Resul
 }
 
 // The position after the gate line at a position, after so many gate lines; else 6, 1, 3, 4 or 5.
-pub(crate) fn gate_line(text: &[u8], start: usize, n: u64, place: u64, gates: usize) -> Result<usize, Refusal>
+#[tactic(auto, using(crate::proofs::lemmas::file::scan::Rest::gate_rules))]
+pub(crate) fn gate_line(
+    text: &[u8],
+    start: usize,
+    n: u64,
+    place: u64,
+    gates: usize,
+) -> Result<usize, Refusal>
     requires { (start ≤ length text.now) × (n ≤ max_lines) }
     ensures { outcome_of result ≡ gate_next n place gates start (drop start text.now) }
 {
@@ -199,6 +206,7 @@ pub(crate) fn gate_line(text: &[u8], start: usize, n: u64, place: u64, gates: us
 }
 
 // Whether the line at a position is `end` with its LF.
+#[tactic(auto, using(crate::proofs::lemmas::file::scan::Rest::ends_there))]
 pub(crate) fn ends(text: &[u8], at: usize) -> bool
     requires { at ≤ length text.now }
     ensures { result ≡ is_end (line_at (drop at text.now)) }
@@ -207,6 +215,7 @@ pub(crate) fn ends(text: &[u8], at: usize) -> bool
 }
 
 // The line count of a text and the position after its first line; else 1 or 2.
+#[tactic(auto, using(crate::proofs::lemmas::file::scan::Rest::header_rules))]
 pub(crate) fn header(text: &[u8]) -> Result<HeaderNext, Refusal>
     ensures { outcome_of result ≡ header_next text.now }
 {

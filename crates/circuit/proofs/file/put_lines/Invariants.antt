@@ -1,5 +1,4 @@
 -- `circuit::file::put_lines` meets its contract. The loop's invariant: the lines that were passed stand at the buffer's start. Assumes nothing.
-use Rattle.std.proofs.Common.{◌-◌}
 use Rattle.circuit.proofs.lemmas.file.Writes.{Typing}
 use Rattle.circuit.proofs.file.put_lines.Given as goal
 

@@ -28,7 +28,7 @@ returns-in_err-header c =
     read_told _ _ _ (outcome_of (Err c.in_err-header.field-0.0)) _ (ap outcome_of e) (read_bad _ _ _ _ (header_bad _ _ _ (sym c.in_err-header.ensures))) refl
 
 pub judge-requires : goal.judge-requires
-judge-requires c = let s = started (goal.at.judge-requires c).In_ok-header in (s.some, s.inside, s.high)
+judge-requires c = let s = started (goal.at.judge-requires c).In_ok-header in (s.inside, s.high)
 
 pub returns-in_err-counts : goal.returns-in_err-counts
 returns-in_err-counts c =

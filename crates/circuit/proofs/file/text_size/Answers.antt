@@ -1,17 +1,10 @@
 -- `circuit::file::text_size` meets its contract.
 use Rattle.std.proofs.Common.{arith}
-use Rattle.circuit.proofs.lemmas.file.scan.Laws.{width_two}
 use Rattle.circuit.proofs.lemmas.file.Writes.{sizing_start, sizing_on, sizing_done}
 use Rattle.circuit.proofs.file.text_size.Goals as goal
 
-pub overflow_add-size : goal.overflow_add-size
-overflow_add-size c = omega (arith, c.digits-size.ensures, width_two c.args.n)
-
 pub loop-i-init : goal.loop-i-init
 loop-i-init c = sizing_start _ _ _ c.requires c.digits-size.ensures
-
-pub overflow_add-size-in-loop-i : goal.overflow_add-size-in-loop-i
-overflow_add-size-in-loop-i c = omega (arith, c.gate_size-size.ensures.1)
 
 pub loop-i-preserved : goal.loop-i-preserved
 loop-i-preserved c =

@@ -1,5 +1,4 @@
 -- `circuit::file::text_size` meets its contract. The loop's invariant: the lines that were passed are counted. Assumes nothing.
-use Rattle.std.proofs.Common.{◌-◌}
 use Rattle.circuit.proofs.lemmas.file.Writes.{Sizing}
 use Rattle.circuit.proofs.file.text_size.Given as goal
 

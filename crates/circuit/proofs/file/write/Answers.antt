@@ -1,5 +1,5 @@
 -- `circuit::file::write` meets its contract. Assumes nothing.
-use Rattle.std.proofs.Common.{◌≡◌, Err, length, sym, refl, ap, ◌∙◌, arith, rules}
+use Rattle.std.proofs.Common.{◌≡◌, Err, length, sym, refl, ap, arith, rules}
 use Rattle.circuit.specs.Gate.{max_lines, max_gates}
 use Rattle.circuit.specs.Outcome.{served, refused, outcome_of}
 use Rattle.circuit.specs.Refusal.{no_room}

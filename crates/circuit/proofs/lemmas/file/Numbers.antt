@@ -19,6 +19,8 @@ pub text_long : (k : ℕ) → 10 ≤ k → number_text k ≡ digit (k / 10) ∷ 
 unfolding number_text
 text_long k h = cond-false (ltb k 10) _ _ (le-ltb k 10 h)
 
+pub ruleset text_rules = (text_short, text_long)
+
 pub is_digit_lem : (k : ℕ) → k < 10 → is_digit (digit k) ≡ true
 is_digit_lem k h = both (le-leb 48 (digit k) (omega arith)) (le-leb (digit k) 57 (omega arith))
 

@@ -113,29 +113,26 @@ module _ (n first : ℕ) (lines_high : n ≤ max_lines) (text : List ℕ) (gs : 
 
 -- ---- what the loop that judges keeps: the gates up to `at`, and that what is left from there decides
 
-pub record Judging (n first : ℕ) (text : List ℕ) (start at gates : ℕ) : Type 0 where
+pub record Judging (n : ℕ) (text : List ℕ) (start at gates : ℕ) : Type 0 where
   pub passed : List Gate
   pub count : length passed ≡ gates
   pub high : n ≤ max_lines
   pub few : gates ≤ max_gates
   pub inside : at ≤ length text
-  pub left : read_from n first [] start (lines_of (drop start text)) ≡ read_from n first passed at (lines_of (drop at text))
+  pub left : read_from n 1 [] start (lines_of (drop start text)) ≡ read_from n 1 passed at (lines_of (drop at text))
 
-pub judging_start : (n first : ℕ) (text : List ℕ) (start : ℕ) → n ≤ max_lines → start ≤ length text → Judging n first text start start 0
-judging_start n first text start h i = record { passed = []; count = refl; high = h; few = omega arith; inside = i; left = refl }
-
-module _ (n first : ℕ) (text : List ℕ) (start at gates : ℕ) (j : Judging n first text start at gates) where
+module _ (n : ℕ) (text : List ℕ) (start at gates : ℕ) (j : Judging n text start at gates) where
   module _ (open-line : is_end (line_at (drop at text)) ≡ false) where
-    pub judging_refused : (number p : ℕ) → gate_next n (gates + first) gates at (drop at text) ≡ refused number p → counts_from n first start text ≡ refused number p
+    pub judging_refused : (number p : ℕ) → gate_next n (gates + 1) gates at (drop at text) ≡ refused number p → counts_from n start text ≡ refused number p
     judging_refused number p e =
         then_refused _ _ _ _
-        (j.left ∙ step_refused n first j.high text j.passed at j.inside open-line number p (ap (λ (k : ℕ). gate_next n (k + first) k at (drop at text)) j.count ∙ e))
+        (j.left ∙ step_refused n 1 j.high text j.passed at j.inside open-line number p (ap (λ (k : ℕ). gate_next n (k + 1) k at (drop at text)) j.count ∙ e))
 
-    module _ (next : ℕ) (read : gate_next n (gates + first) gates at (drop at text) ≡ served next) where
-      pub judging_step : Stepped n first text j.passed at next
-      judging_step = stepped n first j.high text j.passed at j.inside open-line next (ap (λ (k : ℕ). gate_next n (k + first) k at (drop at text)) j.count ∙ read)
+    module _ (next : ℕ) (read : gate_next n (gates + 1) gates at (drop at text) ≡ served next) where
+      pub judging_step : Stepped n 1 text j.passed at next
+      judging_step = stepped n 1 j.high text j.passed at j.inside open-line next (ap (λ (k : ℕ). gate_next n (k + 1) k at (drop at text)) j.count ∙ read)
 
-      pub judging_turn : Judging n first text start next (gates + 1)
+      pub judging_turn : Judging n text start next (gates + 1)
       judging_turn =
           let s = judging_step in
           let k = length-append j.passed (s.gate ∷ []) in
@@ -143,15 +140,14 @@ module _ (n first : ℕ) (text : List ℕ) (start at gates : ℕ) (j : Judging n
           let m = s.few in
           record { passed = j.passed ++ (s.gate ∷ []); count = omega arith; high = j.high; few = omega arith; inside = s.inside; left = j.left ∙ s.left }
 
-  pub judging_end : is_end (line_at (drop at text)) ≡ true → (counts_from n first start text ≡ served (record { lines = n; gates = gates; taken = at + 4 })) × (at + 4 ≤ length text)
+  pub judging_end : is_end (line_at (drop at text)) ≡ true → (counts_from n start text ≡ served (record { lines = n; gates = gates; taken = at + 4 })) × (at + 4 ≤ length text)
   judging_end z =
-      let (e, h) = step_end n first j.high text j.passed at j.inside z in
+      let (e, h) = step_end n 1 j.high text j.passed at j.inside z in
       (then_served _ _ _ (j.left ∙ e) ∙ ap (λ (k : ℕ). served (record { lines = n; gates = k; taken = at + 4 })) j.count, h)
 
 -- ---- a text from its header on
 
 pub record Started (text : List ℕ) (n next : ℕ) : Type 0 where
-  pub some : 1 ≤ next
   pub high : n ≤ max_lines
   pub inside : next ≤ length text
   pub is : reading text ≡ read_from n 1 [] next (lines_of (drop next text))
@@ -182,7 +178,6 @@ module _ (text : List ℕ) where
       let c = cut_first text d in
       let s : length text ≡ length l.bytes + length (line_feed ∷ drop (line_size l) text) = ap length c.text ∙ length-append l.bytes _ in
       record {
-        some = omega arith;
         high = h;
         inside = omega arith;
         is = then_served _ _ n good ∙ ap₂ (λ (k : ℕ) (ls : List Line). read_from n 1 [] k ls) q (sym c.later ∙ ap (λ (k : ℕ). lines_of (drop k text)) q);
@@ -194,7 +189,7 @@ module _ (text : List ℕ) where
 
   module _ (n next : ℕ) (s : Started text n next) where
     -- what the judging loop told
-    pub judged_bad : (number p : ℕ) → counts_from n 1 next text ≡ refused number p → reading text ≡ refused number p
+    pub judged_bad : (number p : ℕ) → counts_from n next text ≡ refused number p → reading text ≡ refused number p
     judged_bad number p e = s.is ∙ bad (read_from n 1 [] next (lines_of (drop next text))) refl
       where
         bad : (o : Outcome Reading) → read_from n 1 [] next (lines_of (drop next text)) ≡ o → read_from n 1 [] next (lines_of (drop next text)) ≡ refused number p
@@ -205,7 +200,7 @@ module _ (text : List ℕ) where
             let j : y ≡ p = cc in
             q ∙ ap₂ (λ (a b : ℕ). refused a b) i j
 
-    pub judged : (k : ReadCounts) → counts_from n 1 next text ≡ served k
+    pub judged : (k : ReadCounts) → counts_from n next text ≡ served k
         → (c : Reading) × (reading text ≡ served c) × (counts_of c ≡ k)
     judged k e =
         let (c, a, b) = then_both (read_from n 1 [] next (lines_of (drop next text))) _ k e in

@@ -1,5 +1,5 @@
 -- Writing as the code takes it: one gate line of the two loops over gates, and what the call owes. Assumes nothing.
-use Rattle.std.proofs.Common.{◌≡◌, ℕ, ◌+◌, ◌-◌, ◌*◌, ◌/◌, ◌<◌, ◌≤◌, true, List, [], ◌++◌, length, take, drop, sym, refl, ap, ◌∙◌, append_assoc, arith, length-append, le-leb}
+use Rattle.std.proofs.Common.{◌≡◌, ℕ, ◌+◌, ◌-◌, ◌*◌, ◌/◌, ◌<◌, ◌≤◌, true, List, [], ◌++◌, length, take, drop, sym, ap, ◌∙◌, append_assoc, arith, length-append, le-leb}
 use borrow.Author.Tests.{lt-leb}
 use borrow.Rule.Slice.PartMut.{put_mid}
 use Rattle.bits.specs.Lists.{Put}
@@ -16,7 +16,7 @@ use Rattle.circuit.proofs.lemmas.Outcome.{demand_met, demand_failed, then_served
 use Rattle.circuit.proofs.lemmas.gate.Valid.{valid_facts}
 use Rattle.circuit.proofs.lemmas.words.Gates.{gates_next, gates_end}
 use Rattle.circuit.proofs.lemmas.file.scan.Laws.{width_two}
-use Rattle.circuit.proofs.lemmas.file.put.Laws.{Written, written_none, written_more, written_put, put_as, header_length}
+use Rattle.circuit.proofs.lemmas.file.put.Laws.{Written, written_more, written_put, put_as, header_length}
 
 -- the gates from gate i on
 abbrev pub gates_from : List ℕ → ℕ → List Gate
@@ -33,7 +33,6 @@ lines_end ws i h = ap gate_lines (gates_end ws i h)
 -- ---- what the loop that counts keeps
 
 pub record Sizing (n : ℕ) (ws : List ℕ) (size i : ℕ) : Type 0 where
-  pub within : i ≤ length ws / 3
   pub few : length ws / 3 ≤ max_gates
   pub sum : size + length (gate_lines (gates_from ws i)) ≡ length (text_of n (gates_of ws))
   pub small : size ≤ 13 + 300 * i
@@ -41,7 +40,6 @@ pub record Sizing (n : ℕ) (ws : List ℕ) (size i : ℕ) : Type 0 where
 pub sizing_start : (n : ℕ) (ws : List ℕ) (w : ℕ) → length ws / 3 ≤ max_gates → w ≡ width n → Sizing n ws (11 + w) 0
 sizing_start n ws w h e =
     record {
-      within = omega arith;
       few = h;
       sum = omega (arith, header_length n, length-append (header_line n) (gate_lines (gates_of ws) ++ end_line), length-append (gate_lines (gates_of ws)) end_line);
       small = omega (arith, width_two n);
@@ -54,7 +52,6 @@ sizing_on n ws size i s h g e r q b =
     let y = s.small in
     let z : r ≡ length (gate_line (gate_at ws i)) = q ∙ ap (λ (f : Gate). length (gate_line f)) e in
     record {
-      within = omega arith;
       few = s.few;
       sum = omega (arith, ap length (lines_next ws i h), length-append (gate_line (gate_at ws i)) (gate_lines (gates_from ws (i + 1))));
       small = omega arith;
@@ -71,10 +68,6 @@ pub record Typing (ws first out : List ℕ) (at i : ℕ) : Type 0 where
   pub left : front ++ (gate_lines (gates_from ws i) ++ end_line) ≡ gate_lines (gates_of ws) ++ end_line
   pub valid : all_valid max_lines (gates_from ws i) ≡ true
   pub room : length (gate_lines (gates_of ws) ++ end_line) ≤ length first
-  pub within : i ≤ length ws / 3
-
-pub typing_start : (ws out : List ℕ) → all_valid max_lines (gates_of ws) ≡ true → length (gate_lines (gates_of ws) ++ end_line) ≤ length out → Typing ws out out 0 0
-typing_start ws out v h = record { front = []; filled = written_none out; left = refl; valid = v; room = h; within = omega arith }
 
 module _ (ws first out : List ℕ) (at i : ℕ) (t : Typing ws first out at i) where
   all_length : length t.front + length (gate_lines (gates_from ws i)) + 4 ≤ length out
@@ -112,7 +105,6 @@ module _ (ws first out : List ℕ) (at i : ℕ) (t : Typing ws first out at i) w
               ∙ t.left;
           valid = both_valid.1;
           room = t.room;
-          within = omega arith;
         }
 
   pub typing_done : length ws / 3 ≤ i → (r : ℕ) (last : List ℕ) → Put r last end_line (take (length out - at) (drop at out)) → length last ≡ length (take (length out - at) (drop at out))

@@ -24,14 +24,8 @@ next t cs s = passing_next _ _ cs _ _ _ (t.loop-at.invariant cs s) t.loop-at-tes
 here : (t : In-loop-at) → Next _ _ _ _ _ _ (t.loop-at.invariant t.requires.0 t.requires.1)
 here t = next t t.requires.0 t.requires.1
 
-pub overflow_add-plus : goal.overflow_add-plus
-overflow_add-plus c = omega (arith, (here (goal.at.overflow_add-plus c).In-loop-at).inside)
-
 pub bounds-text-at-in-loop-at : goal.bounds-text-at-in-loop-at
 bounds-text-at-in-loop-at c = (here (goal.at.bounds-text-at-in-loop-at c).In-loop-at).inside
-
-pub overflow_add-at : goal.overflow_add-at
-overflow_add-at c = omega (arith, (here (goal.at.overflow_add-at c).In-loop-at).inside)
 
 pub number-k-requires : goal.number-k-requires
 number-k-requires c = let n = here (goal.at.number-k-requires c).In-loop-at in (n.control.line, n.line)

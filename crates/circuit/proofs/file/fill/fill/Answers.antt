@@ -1,20 +1,19 @@
 -- `circuit::file::fill::fill` meets its contract.
-use Rattle.std.proofs.Common.{◌≡◌, ◌+◌, ◌-◌, ◌*◌, ◌≤◌, List, length, refl, ap, ◌∙◌, arith, rules}
-use borrow.Rule.Slice.PartMut.{same_len_mid}
+use Rattle.std.proofs.Common.{◌≡◌, ◌+◌, ◌*◌, ◌≤◌, List, length, ap, arith}
 use Rattle.circuit.specs.declared.gate.Gate.{Gate}
 use Rattle.circuit.specs.declared.file.fill.GateRead.{GateRead}
 use Rattle.circuit.specs.private.Fill.{GatesAt}
-use Rattle.circuit.proofs.lemmas.file.fill.Laws.{filling_start, NextLine, filling_next, filling_done}
+use Rattle.circuit.proofs.lemmas.file.fill.Laws.{filling_start, NextLine, filling_next}
 use Rattle.circuit.proofs.file.fill.fill.Goals as goal
 use Rattle.circuit.proofs.file.fill.fill.Goals.{In-loop-i}
 
 pub loop-i-init : goal.loop-i-init
-loop-i-init c = (omega arith, refl, (λ gs s e. filling_start _ gs _ _ s))
+loop-i-init c = λ gs s e. filling_start _ gs _ _ s
 
 -- the line at the position
 next : (c : In-loop-i) (gs : List Gate) (s : GatesAt c.args.text.now c.args.start gs)
-    (e : length gs ≡ c.args.gates) → NextLine _ gs _ _ _ _ (c.loop-i.invariant.2 gs s e)
-next c gs s e = filling_next _ gs _ _ _ _ (c.loop-i.invariant.2 gs s e) (omega (arith, c.loop-i-test.true))
+    (e : length gs ≡ c.args.gates) → NextLine _ gs _ _ _ _ (c.loop-i.invariant gs s e)
+next c gs s e = filling_next _ gs _ _ _ _ (c.loop-i.invariant gs s e) (omega (arith, c.loop-i-test.true))
 
 pub gate_line-read-requires : goal.gate_line-read-requires
 gate_line-read-requires c =
@@ -24,32 +23,11 @@ gate_line-read-requires c =
 
 -- the gate's words fit
 room : (c : In-loop-i) → 3 * c.loop-i.i + 3 ≤ length c.loop-i.out
-room c = omega (arith, c.loop-i-test.true, c.loop-i.invariant.1, c.requires.1)
-
-pub overflow_mul-to : goal.overflow_mul-to
-overflow_mul-to c = omega (arith, room (goal.at.overflow_mul-to c).In-loop-i)
-
-pub offset_bounds-out-to : goal.offset_bounds-out-to
-offset_bounds-out-to c = let h = room (goal.at.offset_bounds-out-to c).In-loop-i in search rules
-
-pub slice_bounds-put_gate-count : goal.slice_bounds-put_gate-count
-slice_bounds-put_gate-count c = omega (arith, room (goal.at.slice_bounds-put_gate-count c).In-loop-i)
-
-pub slice_bounds-put_gate-start : goal.slice_bounds-put_gate-start
-slice_bounds-put_gate-start c = let h = room (goal.at.slice_bounds-put_gate-start c).In-loop-i in search rules
+room c = omega (arith, c.loop-i-test.true, c.loop-i.auto.out, c.requires.1)
 
 pub loop-i-preserved : goal.loop-i-preserved
-loop-i-preserved c = (
-  omega arith,
-  same_len_mid (3 * c.loop-i.i) (length c.loop-i.out - 3 * c.loop-i.i) c.loop-i.out c.put_gate.new.out c.put_gate.auto.out ∙ c.loop-i.invariant.1,
-  (λ gs s e.
-      let n = next (goal.at.loop-i-preserved c).In-loop-i gs s e in
-      let r = c.gate_line-read.ensures n.gate n.here in
-      n.step (room (goal.at.loop-i-preserved c).In-loop-i) _ _ (ap (λ (x : GateRead). x.next) r) (ap (λ (x : GateRead). x.gate) r) _ c.put_gate.ensures),
-)
-
-pub shape_of-out : goal.shape_of-out
-shape_of-out c = c.loop-i.invariant.1
-
-pub returns : goal.returns
-returns c = λ gs s e. filling_done _ gs _ _ _ _ (c.loop-i.invariant.2 gs s e) (omega (arith, c.loop-i.invariant.0, c.loop-i-test.false))
+loop-i-preserved c =
+    λ gs s e.
+    let n = next (goal.at.loop-i-preserved c).In-loop-i gs s e in
+    let r = c.gate_line-read.ensures n.gate n.here in
+    n.step (room (goal.at.loop-i-preserved c).In-loop-i) _ _ (ap (λ (x : GateRead). x.next) r) (ap (λ (x : GateRead). x.gate) r) _ c.store_gate.ensures

@@ -1,13 +1,10 @@
 -- `circuit::file::fill::gate_line` meets its contract. Assumes nothing.
-use Rattle.std.proofs.Common.{ℕ, sym, ap, subst, arith}
+use Rattle.std.proofs.Common.{ℕ, sym, ap, subst}
 use Rattle.circuit.specs.Gate.{controls_of}
 use Rattle.circuit.specs.declared.file.scan.Numeral.{Numeral}
 use Rattle.circuit.specs.private.Fill.{ControlsAt}
-use Rattle.circuit.proofs.lemmas.file.fill.Laws.{gate_parts, digits_there, gate_there}
+use Rattle.circuit.proofs.lemmas.file.fill.Laws.{gate_parts, gate_there}
 use Rattle.circuit.proofs.file.fill.gate_line.Goals as goal
-
-pub overflow_add-at : goal.overflow_add-at
-overflow_add-at c = omega (arith, (digits_there _ _ _ (gate_parts _ _ _ c.requires.1).number).1)
 
 pub number-k-requires : goal.number-k-requires
 number-k-requires c = (c.requires.0.target, (gate_parts _ _ _ c.requires.1).number)

@@ -15,20 +15,11 @@ low c = number_low _ _ _ c.requires.1 _ _ refl refl
 high : (c : Else-b-lt48) → get_or c.args.text.now (c.args.at + 1) 0 ≤ 57
 high c = (number_two _ _ _ c.requires.1 _ _ refl refl c.if-b-lt48.false).0
 
-pub bounds-text-at : goal.bounds-text-at
-bounds-text-at c = omega (arith, room (goal.at.bounds-text-at c).Start)
-
-pub overflow_add-b : goal.overflow_add-b
-overflow_add-b c = omega (arith, room (goal.at.overflow_add-b c).Start)
-
 pub bounds-text-at-2 : goal.bounds-text-at-2
 bounds-text-at-2 c = room (goal.at.bounds-text-at-2 c).Start
 
 pub overflow_sub-result : goal.overflow_sub-result
 overflow_sub-result c = (low (goal.at.overflow_sub-result c).Start).0
-
-pub overflow_add-result : goal.overflow_add-result
-overflow_add-result c = omega (arith, room (goal.at.overflow_add-result c).Start)
 
 pub returns-then-b-lt48 : goal.returns-then-b-lt48
 returns-then-b-lt48 c =
@@ -42,9 +33,6 @@ overflow_mul-result c = omega (arith, low (goal.at.overflow_mul-result c).Start)
 
 pub overflow_add-result-2 : goal.overflow_add-result-2
 overflow_add-result-2 c = omega (arith, low (goal.at.overflow_add-result-2 c).Start, high (goal.at.overflow_add-result-2 c).Else-b-lt48)
-
-pub overflow_add-result-3 : goal.overflow_add-result-3
-overflow_add-result-3 c = omega (arith, room (goal.at.overflow_add-result-3 c).Start)
 
 pub returns : goal.returns
 returns c =

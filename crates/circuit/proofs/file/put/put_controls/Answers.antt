@@ -1,6 +1,6 @@
 -- `circuit::file::put::put_controls` meets its contract.
-use Rattle.std.proofs.Common.{◌+◌, ◌-◌, ◌<◌, ◌≤◌, ◌∷◌, length, ap, ◌∙◌, ⊎_elim, mod-eq_of_lt, eq-zero-or-pos, arith}
-use lib.Bits.{or_lt, and_le_r}
+use Rattle.std.proofs.Common.{◌+◌, ◌<◌, ◌≤◌, ◌∷◌, length, ap, ◌∙◌, ⊎_elim, mod-eq_of_lt, eq-zero-or-pos, arith}
+use lib.Bits.{or_lt}
 use Rattle.bits.specs.Digits.{bit}
 use Rattle.circuit.specs.Gate.{max_lines}
 use Rattle.circuit.proofs.lemmas.gate.Controls.{control_on}
@@ -29,29 +29,13 @@ room c =
     let some : 0 < c.loop-left.left = ⊎_elim (λ z. absurd (c.loop-left-test.true z)) (λ p. p) (eq-zero-or-pos c.loop-left.left) in
     putting_room _ _ _ _ _ _ c.loop-left.invariant some c.lowest-k.result c.lowest-k.ensures
 
-pub slice_bounds-put_control-count : goal.slice_bounds-put_control-count
-slice_bounds-put_control-count c = omega (arith, room (goal.at.slice_bounds-put_control-count c).After-lowest-k)
-
 pub put_control-at-requires : goal.put_control-at-requires
 put_control-at-requires c =
     (omega (arith, below (goal.at.put_control-at-requires c).After-lowest-k), omega (arith, room (goal.at.put_control-at-requires c).After-lowest-k, rest_length c.loop-left.out c.loop-left.at (omega (arith, room (goal.at.put_control-at-requires c).After-lowest-k)), control_length (record { line = c.lowest-k.result; positive = c.has.result }), control_length (control_on c.args.positive c.lowest-k.result)))
 
-pub overflow_add-at : goal.overflow_add-at
-overflow_add-at c = omega (arith, room (goal.at.overflow_add-at c).After-lowest-k, c.put_control-at.ensures.count)
-
-pub overflow_sub-left : goal.overflow_sub-left
-overflow_sub-left c = some (goal.at.overflow_sub-left c).In-loop-left
-
-pub loop-left-smaller : goal.loop-left-smaller
-loop-left-smaller c =
-    omega (arith, some (goal.at.loop-left-smaller c).In-loop-left, and_le_r c.loop-left.left (c.loop-left.left - 1))
-
 pub loop-left-preserved : goal.loop-left-preserved
 loop-left-preserved c =
     putting_on _ _ _ _ _ _ c.loop-left.invariant (some (goal.at.loop-left-preserved c).In-loop-left) c.lowest-k.result c.lowest-k.ensures _ (c.has.ensures ∙ ap (bit _) (mod-eq_of_lt (below (goal.at.loop-left-preserved c).After-lowest-k))) _ _ c.put_control-at.ensures c.put_control-at.auto.out
-
-pub shape_of-out : goal.shape_of-out
-shape_of-out c = c.loop-left.invariant.written.same
 
 pub returns : goal.returns
 returns c = putting_done _ _ _ _ _ _ c.loop-left.invariant c.loop-left-test.false

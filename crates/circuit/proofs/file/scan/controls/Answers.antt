@@ -4,7 +4,7 @@ use Rattle.circuit.specs.Outcome.{outcome_of}
 use borrow.Author.Tests.{not-true, not-false}
 use Rattle.circuit.specs.Text.{tab}
 use Rattle.circuit.proofs.lemmas.file.scan.Laws.{byte_at}
-use Rattle.circuit.proofs.lemmas.file.scan.Rest.{going_start, going_room, going_refused, going_below, going_inside, going_on, going_open, going_controlled, going_falls, going_gate}
+use Rattle.circuit.proofs.lemmas.file.scan.Rest.{going_start, going_refused, going_below, going_on, going_open, going_controlled, going_falls, going_gate}
 use Rattle.circuit.proofs.file.scan.controls.Goals as goal
 use Rattle.circuit.proofs.file.scan.controls.Goals.{After-loop-at, In-loop-at}
 
@@ -23,13 +23,6 @@ pub loop-at-init : goal.loop-at-init
 loop-at-init c =
     (c.requires.1, going_start _ _ _ _ _ _ c.requires.0 c.requires.2 c.none-seen.ensures)
 
-pub overflow_add-at : goal.overflow_add-at
-overflow_add-at c =
-    omega (arith, going_room _ _ _ _ _ _ _ c.loop-at.invariant.1 (here (goal.at.overflow_add-at c).In-loop-at))
-
-pub control-requires : goal.control-requires
-control-requires c = going_room _ _ _ _ _ _ _ c.loop-at.invariant.1 (here (goal.at.control-requires c).In-loop-at)
-
 pub returns-in_err-k : goal.returns-in_err-k
 returns-in_err-k c =
     let e : c.from_residual.result ≡ Err c.in_err-k.field-0.0 = search rules in
@@ -38,10 +31,6 @@ returns-in_err-k c =
 pub add-seen-requires : goal.add-seen-requires
 add-seen-requires c =
     omega (arith, going_below _ _ _ _ _ _ _ c.loop-at.invariant.1 (here (goal.at.add-seen-requires c).In-loop-at) _ (sym c.in_ok-k.ensures))
-
-pub loop-at-smaller : goal.loop-at-smaller
-loop-at-smaller c =
-    omega (arith, going_inside _ _ _ _ _ _ _ c.loop-at.invariant.1 (here (goal.at.loop-at-smaller c).In-loop-at) _ (sym c.in_ok-k.ensures))
 
 pub loop-at-preserved : goal.loop-at-preserved
 loop-at-preserved c =

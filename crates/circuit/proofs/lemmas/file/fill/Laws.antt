@@ -306,7 +306,7 @@ module _ (text : List ℕ) (gs : List Gate) (first : List ℕ) (at i : ℕ) (out
     pub gate : Gate
     pub here : GateAt text at gate
     pub step : 3 * i + 3 ≤ length out → (next : ℕ) (h : Gate) → next ≡ at + length (gate_line gate) → h ≡ gate
-        → (last : List ℕ) → last ≡ put_gate h (take (length out - 3 * i) (drop (3 * i) out))
+        → (last : List ℕ) → last ≡ over (gate_words h) (take (length out - 3 * i) (drop (3 * i) out))
         → Filling text gs first next (i + 1) (put_mid (3 * i) (length out - 3 * i) out last)
 
   pub filling_next : i < length gs → NextLine
@@ -328,14 +328,7 @@ module _ (text : List ℕ) (gs : List Gate) (first : List ℕ) (at i : ℕ) (out
                   here = subst (λ (k : ℕ). GatesAt text k hs) (sym q) b;
                   put =
                       lent_over (words_of f.passed) (gate_words g) first out last (3 * i) f.put (omega (arith, words_length f.passed, f.count)) (omega arith)
-                      (l ∙ ap (λ (x : Gate). put_gate x (take (length out - 3 * i) (drop (3 * i) out))) w ∙ put_fits g (take (length out - 3 * i) (drop (3 * i) out)) (omega (arith, rest_length out (3 * i) (omega arith))))
+                      (l ∙ ap (λ (x : Gate). over (gate_words x) (take (length out - 3 * i) (drop (3 * i) out))) w)
                       ∙ ap (λ (x : List ℕ). over x first) (sym (words_push f.passed g));
                 };
           }
-
-  pub filling_done : length gs ≡ i → out ≡ over (words_of gs) first
-  filling_done e = f.put ∙ ap (λ (x : List Gate). over (words_of x) first) (all f.left refl)
-    where
-      all : (l : List Gate) → f.left ≡ l → f.passed ≡ gs
-      all [] q = sym (append-nil f.passed) ∙ ap (λ (l : List Gate). f.passed ++ l) (sym q) ∙ f.parts
-      all (g ∷ hs) q = absurd (omega (arith, e, f.count, ap length f.parts, length-append f.passed f.left, ap length q))

@@ -1,5 +1,5 @@
 -- The laws of the writer: bytes put at the start of a buffer and after those, the lines of a mask, and the controls that it writes. Assumes nothing.
-use Rattle.std.proofs.Common.{◌≡◌, ℕ, zero, suc, ◌+◌, ◌-◌, ◌*◌, ◌/◌, ◌^◌, ◌<◌, ◌≤◌, Bool, true, false, cond, leb, List, [], ◌∷◌, ◌++◌, map, length, take, drop, set, sym, refl, ap, ◌∙◌, subst, ap₂, append_assoc, append-nil, div-lt_iff_lt-mul, arith, drop-drop, length-append, length-drop, length-set, length-take, take_all, pow_pos, le-leb}
+use Rattle.std.proofs.Common.{◌≡◌, ℕ, zero, suc, ◌+◌, ◌-◌, ◌*◌, ◌/◌, ◌^◌, ◌<◌, ◌≤◌, Bool, true, false, cond, leb, List, [], ◌∷◌, ◌++◌, map, length, take, drop, set, sym, refl, ap, ◌∙◌, subst, ap₂, append_assoc, append-nil, div-lt_iff_lt-mul, arith, drop-drop, length-append, length-drop, length-take, pow_pos, le-leb}
 use mathlib.Core.List.{map-append}
 use lib.Bits.{bit_and, bit_or, or_lt, and_le_l}
 use lib.Count.{ones, count_trailing_zeros}
@@ -29,14 +29,6 @@ pub record Written (first out : List ℕ) (at : ℕ) (front : List ℕ) : Type 0
 
 pub written_none : (out : List ℕ) → Written out out 0 []
 written_none out = record { is = refl; long = refl; same = refl }
-
--- a word that the kit copied
-pub copied : (word out last : List ℕ) (r : ℕ) → r ≡ length word → last ≡ take (length word) word ++ drop (length word) out → Put r last word out
-copied word out last r e b =
-    record { count = e; buffer = b ∙ ap (λ (x : List ℕ). x ++ drop (length word) out) (take_all (length word) word (omega arith)) }
-
-pub written_two : (out : List ℕ) (a b : ℕ) → 2 ≤ length out → Written out (set (set out 0 a) 1 b) 2 (a ∷ b ∷ [])
-written_two out a b h = record { is = sets-eq (a ∷ b ∷ []) out 0 h; long = refl; same = length-set (set out 0 a) 1 b ∙ length-set out 0 a }
 
 -- the rest of the buffer was lent, and `new` put at its start
 pub written_more : (first out : List ℕ) (at : ℕ) (front : List ℕ) → Written first out at front → (r : ℕ) (last new : List ℕ) → at ≤ length out
@@ -234,11 +226,6 @@ module _ (p q : ℕ) (first out : List ℕ) (at left : ℕ) (t : Putting p q fir
           room = t.room;
         }
 
--- the room that is left after the first bytes
-pub room_after : (out : List ℕ) (r : ℕ) (last new : List ℕ) → Put r last new (take (length out - 0) (drop 0 out)) → length last ≡ length (take (length out - 0) (drop 0 out))
-    → (m : ℕ) → length new + m ≤ length out → r + m ≤ length (put_mid 0 (length out - 0) out last)
-room_after out r last new p l m h = let w = written_first out r last new p l in omega (arith, w.same, w.long)
-
 pub line_length : (g : Gate) → length (gate_line g) ≡ length (gate_text g) + 1
 line_length g = length-append (gate_text g) (line_feed ∷ [])
 
@@ -247,11 +234,3 @@ text_length g = omega (arith, length-append (number_text g.target) (controls_tex
 
 pub header_text_length : (n : ℕ) → length (header_line n) ≡ length (108 ∷ 105 ∷ 110 ∷ 101 ∷ 115 ∷ tab ∷ number_text n) + 1
 header_text_length n = omega (arith, length-append (number_text n) (line_feed ∷ []))
-
--- the rest after the first bytes has as much
-pub rest_room : (out : List ℕ) (r : ℕ) (last new : List ℕ) → Put r last new (take (length out - 0) (drop 0 out)) → length last ≡ length (take (length out - 0) (drop 0 out))
-    → (m : ℕ) → length new + m ≤ length out
-    → m ≤ length (take (length (put_mid 0 (length out - 0) out last) - r) (drop r (put_mid 0 (length out - 0) out last)))
-rest_room out r last new p l m h =
-    let k = room_after out r last new p l m h in
-    omega (arith, rest_length (put_mid 0 (length out - 0) out last) r (omega arith))

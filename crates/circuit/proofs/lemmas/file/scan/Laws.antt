@@ -1,19 +1,19 @@
 -- The laws of what stands at a position of a text: the field there, the fields and the line from there on. Assumes nothing.
-use Rattle.std.proofs.Common.{◌≡◌, ℕ, zero, suc, ◌+◌, ◌-◌, ◌*◌, ◌<◌, ◌≤◌, Bool, true, false, not, ◌&&◌, ◌||◌, eqb, ltb, leb, List, [], ◌∷◌, ◌++◌, Option, None, Some, length, get_or, take, drop, sym, refl, ap, ◌∙◌, ap₂, true≢false, arith, drop_of_length-le, get_or-drop, drop-cons, ltb-false, ltb-true, le-ltb, lt-ltb, eq-eqb, ne_eqb, eqb-true, le-leb, leb-true, length-drop, drop-drop, take_all}
+use Rattle.std.proofs.Common.{◌≡◌, ℕ, zero, suc, ◌+◌, ◌-◌, ◌*◌, ◌<◌, ◌≤◌, Bool, true, false, not, ◌&&◌, ◌||◌, eqb, ltb, leb, List, [], ◌∷◌, ◌++◌, Option, None, Some, length, get_or, take, drop, sym, refl, ap, ◌∙◌, ap₂, true≢false, arith, get_or-drop, ltb-false, ltb-true, le-ltb, lt-ltb, eq-eqb, ne_eqb, eqb-true, le-leb, leb-true, length-drop, drop-drop, take_all}
 use mathlib.Core.Bool.{false≢true}
 use borrow.Author.Tests.{lt-leb}
 use Rattle.std.specs.List.{starts_with}
 use Rattle.std.proofs.lemmas.Bool.Decides.{Decides-eqb}
 use Rattle.std.proofs.lemmas.Slice.Eq.{starts_is}
-use Rattle.bits.proofs.Bools.{either, and_parts, both, cond-true, cond-false, and_second, table₂}
-use Rattle.circuit.specs.Outcome.{Outcome, served, refused, demand, and_then}
+use Rattle.bits.proofs.Bools.{either, and_parts, both, cond-true, cond-false, table₂}
+use Rattle.circuit.specs.Outcome.{Outcome, served, refused, and_then}
 use Rattle.circuit.specs.Refusal.{wrong_form, line_outside}
 use Rattle.circuit.specs.Text.{tab, line_feed, plus_sign, minus_sign}
 use Rattle.circuit.specs.File.{is_digit, number_of, line_of, control_of}
 use Rattle.circuit.specs.declared.file.scan.Numeral.{Numeral}
 use Rattle.circuit.specs.private.Scan.{is_stop, field_at, width, numeral_at, line_next, control_next}
 use Rattle.circuit.proofs.lemmas.Outcome.{unserved, demand_met, demand_failed, then_served, then_refused, then_both, then_fails}
-use Rattle.circuit.proofs.lemmas.file.Numbers.{text_number, number_else, number_wrong}
+use Rattle.circuit.proofs.lemmas.file.Numbers.{number_else, number_wrong}
 
 -- ---- a byte
 
@@ -203,6 +203,8 @@ module _ (text : List ℕ) (at a : ℕ) (is_a : a ≡ get_or text at 10) where
             ap₂ (λ (x y : ℕ). Some (record { value = 10 * (x - 48) + (y - 48); next = at + 2 })) byte_a byte_b
             ∙ both_digits at (drop at text) low goes (sym (ap is_digit byte_b) ∙ e) (λ y. z (byte_a ∙ y)) (sym (ap is_stop byte_d) ∙ s)
 
+pub ruleset number_rules = (number_first, number_one, number_zero, number_second, number_third, number_two)
+
 -- ---- the target or control line there
 
 -- a field that is no number, in line i
@@ -241,6 +243,8 @@ line_good n i at f m e l =
     then_served _ _ m.value (then_served _ _ m.value t.0 ∙ demand_met _ _ _ _ (lt-ltb m.value n l))
     ∙ ap (λ (k : ℕ). served (record { value = m.value; next = k })) (sym t.1)
 
+pub ruleset line_rules = (line_wrong, line_outside_lem, line_good)
+
 -- ---- the control there
 
 sign_more : (s : ℕ) → (eqb s plus_sign || eqb s minus_sign) ≡ true → is_stop s ≡ false
@@ -248,11 +252,6 @@ sign_more s e =
     either (eqb s plus_sign)
     (λ t. ap is_stop (eqb-true s plus_sign t))
     (λ t. ap is_stop (eqb-true s minus_sign (sym (ap (λ (b : Bool). b || eqb s minus_sign) t) ∙ e)))
-
--- LF is no sign, so a sign stands inside the text
-signed_inside : (r : List ℕ) → (eqb (get_or r 0 10) plus_sign || eqb (get_or r 0 10) minus_sign) ≡ true → 0 < length r
-signed_inside [] e = absurd (false≢true e)
-signed_inside (b ∷ r) e = omega arith
 
 unsigned : (n i : ℕ) (r : List ℕ) → (eqb (get_or r 0 10) plus_sign || eqb (get_or r 0 10) minus_sign) ≡ false → control_of n i (field_at r) ≡ refused wrong_form i
 unfolding control_of
@@ -281,9 +280,6 @@ module _ (n i : ℕ) (text : List ℕ) (at s : ℕ) (is : s ≡ get_or text at 1
     there : (eqb (get_or (drop at text) 0 10) plus_sign || eqb (get_or (drop at text) 0 10) minus_sign) ≡ true
     there = sym (ap (λ (b : ℕ). eqb b plus_sign || eqb b minus_sign) first) ∙ e
 
-    pub sign_inside : at + 1 ≤ length text
-    sign_inside = omega (arith, signed_inside (drop at text) there, length-drop at text)
-
     control_signed : control_of n i (field_at (drop at text)) ≡ and_then (line_of n i (field_at (drop (at + 1) text))) (λ k. served (record { line = k; positive = eqb s plus_sign }))
     control_signed =
         signed n i (drop at text) there
@@ -302,6 +298,8 @@ module _ (n i : ℕ) (text : List ℕ) (at s : ℕ) (is : s ≡ get_or text at 1
         then_served _ _ (record { line = k; positive = eqb s plus_sign }) (control_signed ∙ then_served _ _ k a)
         ∙ ap (λ (y : Numeral). served (record { line = y.value; positive = eqb s plus_sign; next = y.next })) x
 
+pub ruleset control_rules = (control_unsigned, control_refused, control_good)
+
 -- ---- a text that starts with a word
 
 pub starts_true : (w r : List ℕ) → starts_with eqb r w ≡ true → r ≡ w ++ drop (length w) r
@@ -310,7 +308,6 @@ starts_true w r e = (starts_is Decides-eqb r w (starts_with eqb r w) refl).0 e
 pub true_starts : (w r : List ℕ) → starts_with eqb (w ++ r) w ≡ true
 true_starts w r = (starts_is Decides-eqb (w ++ r) w (starts_with eqb (w ++ r) w) refl).1 r refl
 
--- the same of the text from a position on
-pub starts_there : (text : List ℕ) (at : ℕ) (w : List ℕ) (r : Bool) → r ≡ starts_with eqb (take (length text - at) (drop at text)) w → r ≡ starts_with eqb (drop at text) w
-starts_there text at w r e =
-    e ∙ ap (λ (x : List ℕ). starts_with eqb x w) (take_all (length text - at) (drop at text) (omega (arith, length-drop at text)))
+-- the text from a position on, as a slice
+pub starts_there : (text : List ℕ) (at : ℕ) (w : List ℕ) → starts_with eqb (take (length text - at) (drop at text)) w ≡ starts_with eqb (drop at text) w
+starts_there text at w = ap (λ (x : List ℕ). starts_with eqb x w) (take_all (length text - at) (drop at text) (omega (arith, length-drop at text)))

@@ -1,5 +1,5 @@
 -- The laws of the line from a position on: its next field, its end, and the gate or the header that it gives. Assumes nothing.
-use Rattle.std.proofs.Common.{◌≡◌, ℕ, suc, ◌+◌, ◌-◌, ◌<◌, ◌≤◌, Bool, true, false, not, ◌||◌, eqb, ltb, List, [], ◌∷◌, ◌++◌, None, Some, length, get_or, drop, sym, refl, ap, ◌∙◌, subst, ap₂, append_assoc, arith, length-drop, drop-drop, ltb-false, ltb-true, le-ltb, lt-ltb, eq-eqb, ne_eqb, eqb-true}
+use Rattle.std.proofs.Common.{◌≡◌, ℕ, suc, ◌+◌, ◌-◌, ◌<◌, ◌≤◌, Bool, true, false, not, ◌||◌, eqb, ltb, List, [], ◌∷◌, ◌++◌, None, Some, length, get_or, take, drop, sym, refl, ap, ◌∙◌, subst, ap₂, append_assoc, arith, length-drop, drop-drop, ltb-false, ltb-true, le-ltb, lt-ltb, eq-eqb, ne_eqb, eqb-true}
 use Rattle.std.specs.List.{starts_with}
 use mathlib.Core.List.{cons≢nil}
 use lib.Seq.{drop-append_seam, append_snoc}
@@ -8,7 +8,7 @@ use Rattle.circuit.specs.declared.gate.Gate.{Gate}
 use Rattle.circuit.specs.declared.file.scan.ControlRead.{ControlRead}
 use Rattle.circuit.specs.declared.file.scan.Numeral.{Numeral}
 use Rattle.circuit.specs.declared.file.scan.Seen.{Seen}
-use Rattle.circuit.specs.Gate.{max_gates, Control}
+use Rattle.circuit.specs.Gate.{max_lines, max_gates, Control}
 use Rattle.circuit.specs.Outcome.{Outcome, served, refused, demand, and_then}
 use Rattle.circuit.specs.Refusal.{wrong_form, bad_line_count, line_outside, target_controlled, not_rising, too_many_gates}
 use Rattle.circuit.specs.Words.{line_count_good}
@@ -21,7 +21,7 @@ use Rattle.circuit.proofs.lemmas.file.Lines as lines
 use Rattle.circuit.proofs.lemmas.file.Numbers.{text_short, text_long, text_number}
 use Rattle.circuit.proofs.lemmas.file.Controls.{next_line, among_push, rising_push, next_push}
 use Rattle.circuit.proofs.lemmas.file.Offences.{ControlFound, control_found}
-use Rattle.circuit.proofs.lemmas.file.scan.Laws.{default_any, byte_at, field_more, field_stop, field_none, width_short, width_long, number_none, number_told, starts_true, true_starts}
+use Rattle.circuit.proofs.lemmas.file.scan.Laws.{default_any, byte_at, field_more, field_stop, field_none, width_short, width_long, number_none, number_told, starts_true, true_starts, starts_there}
 
 -- ---- one byte
 
@@ -258,9 +258,6 @@ module _ (n i t : ℕ) (text : List ℕ) (first at : ℕ) (seen : Seen) (g : Goi
       pub going_below : k.line < n
       going_below = let (c, a, l, p) = read_parts in omega (arith, going_control c a)
 
-      pub going_inside : (at < k.next) × (k.next ≤ length text)
-      going_inside = let (c, a, l, p) = read_parts in (omega arith, omega (arith, going_room_after c a))
-
       pub going_on : (last : Seen) → last ≡ added t seen k.line → Going n i t text first k.next last
       going_on last e =
           let (c, a, l, p) = read_parts in
@@ -358,7 +355,7 @@ word_starts w r t fs e =
 
 -- ---- a gate line from its start
 
-pub gate_other : (n i count at : ℕ) (r : List ℕ) → starts_with eqb r (103 ∷ 9 ∷ []) ≡ false → gate_next n i count at r ≡ refused wrong_form i
+gate_other : (n i count at : ℕ) (r : List ℕ) → starts_with eqb r (103 ∷ 9 ∷ []) ≡ false → gate_next n i count at r ≡ refused wrong_form i
 unfolding gate_fields
 gate_other n i count at r e = then_refused _ _ wrong_form i (go (fields_of (line_at r).bytes) refl)
   where
@@ -382,7 +379,7 @@ module _ (r : List ℕ) (starts : starts_with eqb r (103 ∷ 9 ∷ []) ≡ true)
   gate_parts : fields_of (line_at r).bytes ≡ gate_word ∷ field_at (drop 2 r) ∷ later_fields (fields_of (line_at (drop (length (field_at (drop 2 r))) (drop 2 r))).bytes)
   gate_parts = gate_word_lem.fields ∙ ap (λ (fs : List (List ℕ)). gate_word ∷ fs) (parted (drop 2 r)).fields
 
-  pub gate_many : (n i count at : ℕ) → max_gates ≤ count → gate_next n i count at r ≡ refused too_many_gates i
+  gate_many : (n i count at : ℕ) → max_gates ≤ count → gate_next n i count at r ≡ refused too_many_gates i
   unfolding gate_fields
   gate_many n i count at h =
       then_refused _ _ too_many_gates i
@@ -424,8 +421,18 @@ line_field_length n i f k e =
     ap length (text_number i f m a).1 ∙ number_width m ∙ ap width x
 
 -- at a position of a text
-module _ (text : List ℕ) (start : ℕ) (starts : starts_with eqb (drop start text) (103 ∷ 9 ∷ []) ≡ true) where
-  pub gate_inside : start + 2 ≤ length text
+pub gate_wrong : (n i count : ℕ) (text : List ℕ) (start : ℕ) → starts_with eqb (take (length text - start) (drop start text)) (103 ∷ 9 ∷ []) ≡ false
+    → gate_next n i count start (drop start text) ≡ refused wrong_form i
+gate_wrong n i count text start e = gate_other n i count start (drop start text) (sym (starts_there text start (103 ∷ 9 ∷ [])) ∙ e)
+
+module _ (text : List ℕ) (start : ℕ) (word : starts_with eqb (take (length text - start) (drop start text)) (103 ∷ 9 ∷ []) ≡ true) where
+  starts : starts_with eqb (drop start text) (103 ∷ 9 ∷ []) ≡ true
+  starts = sym (starts_there text start (103 ∷ 9 ∷ [])) ∙ word
+
+  pub gate_above : (n i count : ℕ) → max_gates ≤ count → gate_next n i count start (drop start text) ≡ refused too_many_gates i
+  gate_above n i count h = gate_many (drop start text) starts n i count start h
+
+  gate_inside : start + 2 ≤ length text
   gate_inside = omega (arith, gate_room (drop start text) starts, length-drop start text)
 
   module _ (n i count : ℕ) (few : count < max_gates) where
@@ -450,11 +457,12 @@ module _ (text : List ℕ) (start : ℕ) (starts : starts_with eqb (drop start t
       after_target =
           ap (λ (k : ℕ). drop k text) target_read.1 ∙ sym (drop-drop (length (field_at (drop (start + 2) text))) (start + 2) text)
 
-      pub target_inside : m.next ≤ length text
-      target_inside = omega (arith, target_read.1, (parted (drop (start + 2) text)).inside, length-drop (start + 2) text, gate_inside)
-
-      pub target_stop : field_at (drop m.next text) ≡ []
-      target_stop = ap field_at after_target ∙ (parted (drop (start + 2) text)).stop
+      pub target_ready : n ≤ max_lines → (m.next ≤ length text) × (n ≤ max_lines) × (field_at (drop m.next text) ≡ [])
+      target_ready h = (
+        omega (arith, target_read.1, (parted (drop (start + 2) text)).inside, length-drop (start + 2) text, gate_inside),
+        h,
+        ap field_at after_target ∙ (parted (drop (start + 2) text)).stop,
+      )
 
       pub gate_goes : gate_next n i count start (drop start text) ≡ controls_next n i m.value m.next (drop m.next text)
       gate_goes =
@@ -462,9 +470,11 @@ module _ (text : List ℕ) (start : ℕ) (starts : starts_with eqb (drop start t
           gate_target (drop start text) starts n i count start few m.value (target_field ∙ target_read.0) (drop m.next text)
           (after_target ∙ ap (λ (r : List ℕ). drop (length (field_at r)) r) d) m.next (target_read.1 ∙ ap (λ (r : List ℕ). start + 2 + length (field_at r)) d)
 
+pub ruleset gate_rules = (gate_wrong, gate_above, gate_bad, gate_goes)
+
 -- ---- `end`
 
-pub end_line_lem : (r : List ℕ) → starts_with eqb r (101 ∷ 110 ∷ 100 ∷ 10 ∷ []) ≡ is_end (line_at r)
+end_line_lem : (r : List ℕ) → starts_with eqb r (101 ∷ 110 ∷ 100 ∷ 10 ∷ []) ≡ is_end (line_at r)
 unfolding lines_of same
 end_line_lem r =
     same_test _ _
@@ -473,6 +483,9 @@ end_line_lem r =
     let (d, b) = and_parts (line_at r).ended (same (line_at r).bytes end_word) e in
     ap (λ (x : List ℕ). starts_with eqb x (101 ∷ 110 ∷ 100 ∷ 10 ∷ []))
     ((cut_first r d).text ∙ ap (λ (x : List ℕ). x ++ (line_feed ∷ drop (line_size (line_at r)) r)) (same_true (line_at r).bytes end_word b)))
+
+pub ends_there : (text : List ℕ) (at : ℕ) → starts_with eqb (take (length text - at) (drop at text)) (101 ∷ 110 ∷ 100 ∷ 10 ∷ []) ≡ is_end (line_at (drop at text))
+ends_there text at = starts_there text at (101 ∷ 110 ∷ 100 ∷ 10 ∷ []) ∙ end_line_lem (drop at text)
 
 -- ---- the header
 
@@ -508,9 +521,6 @@ module _ (r : List ℕ) (starts : starts_with eqb r (108 ∷ 105 ∷ 110 ∷ 101
   header_word =
       subst (λ (x : List ℕ). Worded x lines_word (drop 6 r)) (sym (starts_true (108 ∷ 105 ∷ 110 ∷ 101 ∷ 115 ∷ 9 ∷ []) r starts))
       (worded lines_word (drop 6 r) refl)
-
-  pub header_room : 6 ≤ length r
-  header_room = omega (arith, ap length (starts_true (108 ∷ 105 ∷ 110 ∷ 101 ∷ 115 ∷ 9 ∷ []) r starts))
 
   -- what follows the number
   after : List ℕ
@@ -607,3 +617,5 @@ module _ (r : List ℕ) (starts : starts_with eqb r (108 ∷ 105 ∷ 110 ∷ 101
         where
           ten : ◌≡◌ {A = ℕ} 10 tab → ⊥
           ten q = omega arith
+
+pub ruleset header_rules = (header_other, header_wrong, header_outside, header_missing, header_further, header_good)
