@@ -9,13 +9,14 @@ use lib.ListN.{length, take, drop, get_or, length-append, length-drop, drop_of_l
 use lib.Seq.{drop-cons, drop-drop, get_or-drop, take-append_seam, drop-append_seam}
 use borrow.Rule.Slice.PartMut.{put_mid}
 use Rattle.bits.specs.Lists.{Put}
-use Rattle.circuit.proofs.Promises.{Written, written_none, written_more, written_put, put_as}
+use Rattle.circuit.proofs.Promises.{Written, written_none, written_put, put_as, rest_length}
 use Rattle.checking.specs.Clauses.{Clause, OR, XOR}
 use Rattle.checking.specs.Satisfaction.{clause_literals}
 use Rattle.checking.specs.Stored.{stored}
 use Rattle.checking.proofs.Promises.{stored_none, stored_next}
 use Rattle.text.specs.Dimacs.{blank, literal_text, literals_text, clause_text}
 use Rattle.text.specs.private.Words.{record_text}
+use Rattle.text.proofs.put.Laws.{written_on}
 
 -- ---- literals
 
@@ -34,12 +35,11 @@ pub record Typing (ls : List ℤ) (first out : List ℕ) (at i : ℕ) : Type 0 w
   pub filled : Written first out at front
   pub left : front ++ literals_text (drop i ls) ≡ literals_text ls
   pub room : length (literals_text ls) ≤ length first
-  pub within : i ≤ length ls
 
 pub typing_start : (ls : List ℤ) (out : List ℕ) → length (literals_text ls) ≤ length out → Typing ls out out 0 0
-typing_start ls out h = record { front = []; filled = written_none out; left = refl; room = h; within = omega arith }
+typing_start ls out h = record { front = []; filled = written_none out; left = refl; room = h }
 
-module _ (ls : List ℤ) (first out : List ℕ) (at i : ℕ) (t : Typing ls first out at i) where
+module _ {ls : List ℤ} {first out : List ℕ} {at i : ℕ} (t : Typing ls first out at i) where
   typing_all : at + length (literals_text (drop i ls)) ≤ length out
   typing_all =
       omega (arith, ap length t.left, length-append t.front (literals_text (drop i ls)), t.room, t.filled.long, t.filled.same)
@@ -47,27 +47,24 @@ module _ (ls : List ℤ) (first out : List ℕ) (at i : ℕ) (t : Typing ls firs
   pub typing_at : at ≤ length out
   typing_at = omega (arith, typing_all)
 
-  module _ (h : i < length ls) (z : ℤ) (is : z ≡ get_or ls i (pos 0)) where
-    pub typing_room : at + (length (literal_text z) + 1) ≤ length out
+  module _ (h : i < length ls) {z : ℤ} (is : z ≡ get_or ls i (pos 0)) where
+    pub typing_room : length (literal_text z) + 1 ≤ length (take (length out - at) (drop at out))
     typing_room =
-        omega (arith, typing_all, ap length (literals_next ls i h), length-append (literal_text (get_or ls i (pos 0)) ++ (blank ∷ [])) (literals_text (drop (i + 1) ls)), length-append (literal_text (get_or ls i (pos 0))) (blank ∷ []), ap (λ (x : ℤ). length (literal_text x)) is)
+        omega
+        (arith, typing_all, rest_length out at typing_at, ap length (literals_next ls i h), length-append (literal_text (get_or ls i (pos 0)) ++ (blank ∷ [])) (literals_text (drop (i + 1) ls)), length-append (literal_text (get_or ls i (pos 0))) (blank ∷ []), ap (λ (x : ℤ). length (literal_text x)) is)
 
-    pub typing_sum : at + length (literal_text z ++ (blank ∷ [])) ≤ length out
-    typing_sum = omega (arith, typing_room, length-append (literal_text z) (blank ∷ []))
-
-    pub typing_on : (r : ℕ) (last : List ℕ) → Put r last (literal_text z ++ (blank ∷ [])) (take (length out - at) (drop at out)) → length last ≡ length (take (length out - at) (drop at out))
+    pub typing_on : {r : ℕ} {last : List ℕ} → Put r last (literal_text z ++ (blank ∷ [])) (take (length out - at) (drop at out)) → length last ≡ length (take (length out - at) (drop at out))
         → Typing ls first (put_mid at (length out - at) out last) (at + r) (i + 1)
-    typing_on r last p k =
+    typing_on p k =
         record {
           front = t.front ++ (literal_text z ++ (blank ∷ []));
-          filled = written_more first out at t.front t.filled r last _ typing_at p k;
+          filled = written_on t.filled p k;
           left =
               append_assoc t.front (literal_text z ++ (blank ∷ [])) (literals_text (drop (i + 1) ls))
               ∙ ap (λ (l : List ℕ). t.front ++ l)
               (ap (λ (x : ℤ). (literal_text x ++ (blank ∷ [])) ++ literals_text (drop (i + 1) ls)) is ∙ sym (literals_next ls i h))
               ∙ t.left;
           room = t.room;
-          within = omega arith;
         }
 
   pub typing_done : length ls ≤ i → Put at out (literals_text ls) first
