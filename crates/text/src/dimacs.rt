@@ -21,7 +21,7 @@ fn put_signed(out: &mut [u8], literal: ClauseWord) -> usize
 
 // Writes a literal and a blank.
 fn put_literal(out: &mut [u8], literal: ClauseWord) -> usize
-    requires { length (literal_text literal) + 1 ≤ length out.old }
+    requires { length (literal_text literal ++ (blank ∷ [])) ≤ length out.old }
     ensures { Put result out.new (literal_text literal ++ (blank ∷ [])) out.old }
 {
     let at = put_signed(out, literal);
@@ -29,7 +29,6 @@ fn put_literal(out: &mut [u8], literal: ClauseWord) -> usize
 }
 
 // Writes literals, each followed by a blank.
-#[tactic(auto, using(crate::proofs::dimacs::Loops::typing_at, crate::proofs::dimacs::Loops::typing_start))]
 fn put_literals(out: &mut [u8], literals: &[ClauseWord]) -> usize
     requires { length (literals_text literals.now) ≤ length out.old }
     ensures { Put result out.new (literals_text literals.now) out.old }

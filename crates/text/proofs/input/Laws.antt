@@ -200,10 +200,6 @@ parts n first second =
       high = b;
     }
 
-pub text_parts : (n first second : ℕ) → cond (eqb first second) agree_word differ_word ++ outputs_of n first second ≡ outputs_text n first second
-unfolding outputs_text
-text_parts n first second = refl
-
 size_by : (t : Bool) → length (cond t agree_word differ_word) ≡ 5 + bool_byte (not t)
 size_by true = refl
 size_by false = refl

@@ -8,10 +8,6 @@ use borrow.Rule.Slice.PartMut.{put_mid}
 use Rattle.bits.specs.Lists.{Put}
 use Rattle.circuit.proofs.Promises.{Written, written_none, written_more, written_put, put_as, rest_length}
 
--- nothing was written
-pub put_none : (out : List ℕ) → Put 0 out [] out
-put_none out = record { count = refl; buffer = refl }
-
 pub written_start : {first out : List ℕ} {r : ℕ} {new : List ℕ} → Put r out new first → length out ≡ length first → Written first out r new
 written_start p l = record { is = p.buffer; long = p.count; same = l }
 
