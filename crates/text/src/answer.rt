@@ -61,7 +61,7 @@ fn fit_clauses(out: &mut [u8], variables: u64, words: &[ClauseWord]) -> TextAnsw
     if out.len() < three_digits(variables, clauses, 0) + 7 + bytes {
         return TextAnswer::Refused(Refusal::no_room());
     }
-    TextAnswer::Bytes(crate::stored::put_plain(out, variables, clauses, words))
+    TextAnswer::Bytes(crate::plain::put_list(out, variables, clauses, words))
 }
 
 // Writes what a comparison answers.

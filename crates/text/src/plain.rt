@@ -1,14 +1,14 @@
-// A clause list as OR clauses alone: its sizes, and writing one clause of it at the start of a buffer. Each writing function tells how many bytes it wrote.
+// A clause list as OR clauses alone: its sizes, and writing it at the start of a buffer. Each writing function tells how many bytes it wrote.
 
 ghost use Rattle.std.specs.Prelude.{◌≡◌, [], ◌∷◌, ◌++◌, ◌+◌, ◌≤◌, ◌<◌, neg_ℤ, length};
 ghost use Rattle.bits.specs.Lists.{Put};
 ghost use Rattle.checking.specs.Clauses.{OR, XOR, max_variables};
 ghost use Rattle.checking.specs.Satisfaction.{variable_of, LiteralsWithin};
 ghost use Rattle.checking.specs.Stored.{word_limit};
-ghost use Rattle.text.specs.Dimacs.{decimal, literal_text, literals_text, closing, clauses_text};
-ghost use Rattle.text.specs.Plain.{plain_clause};
+ghost use Rattle.text.specs.Dimacs.{decimal, literal_text, literals_text, closing, clauses_text, header_text};
+ghost use Rattle.text.specs.Plain.{plain_clause, plain_clauses};
 ghost use Rattle.text.specs.Compare.{max_list};
-ghost use Rattle.text.specs.private.Words.{plain_record, Plainable, StoresList, plain_sizes};
+ghost use Rattle.text.specs.private.Words.{plain_record, Plainable, StoresList, plain_sizes, stored_in};
 
 use crate::stored::Records;
 use checking::clauses::ClauseWord;
@@ -124,7 +124,7 @@ fn put_triple(out: &mut [u8], a: ClauseWord, b: ClauseWord, c: ClauseWord) -> us
 }
 
 // Writes a clause's plain clauses.
-pub(crate) fn put_record(out: &mut [u8], kind: ClauseWord, literals: &[ClauseWord]) -> usize
+fn put_record(out: &mut [u8], kind: ClauseWord, literals: &[ClauseWord]) -> usize
     requires plainable { Plainable kind literals.now }
     requires out_room { length (clauses_text (plain_record kind literals.now)) ≤ length out.old }
     ensures { Put result out.new (clauses_text (plain_record kind literals.now)) out.old }
@@ -136,4 +136,17 @@ pub(crate) fn put_record(out: &mut [u8], kind: ClauseWord, literals: &[ClauseWor
         return put_triple(out, literals[0], literals[1], literals[2]);
     }
     crate::dimacs::put_closed(out, literals)
+}
+
+// Writes the header and the clauses that words store, as OR clauses alone.
+pub(crate) fn put_list(out: &mut [u8], variables: u64, clauses: u64, words: &[ClauseWord]) -> usize
+    requires stores_list { StoresList words.now }
+    requires out_room { length (header_text variables clauses ++ clauses_text (plain_clauses (stored_in words.now))) ≤ length out.old }
+    ensures { Put result out.new (header_text variables clauses ++ clauses_text (plain_clauses (stored_in words.now))) out.old }
+{
+    let mut at = crate::dimacs::put_header(out, variables, clauses);
+    for record in (Records { words }) {
+        at += put_record(&mut out[at..], record.kind, record.literals);
+    }
+    at
 }

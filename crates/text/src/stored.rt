@@ -1,10 +1,9 @@
-// The clauses that words store, and writing them at the start of a buffer, as they are or as OR clauses alone. Each writing function tells how many bytes it wrote.
+// The clauses that words store, and writing them at the start of a buffer.
 
 ghost use Rattle.std.specs.Prelude.{◌++◌, ◌≤◌, length, IfSome};
 ghost use Rattle.std.specs.Iterator.{YieldsFirstBy, item_count};
 ghost use Rattle.bits.specs.Lists.{Put};
 ghost use Rattle.text.specs.Dimacs.{header_text, clauses_text};
-ghost use Rattle.text.specs.Plain.{plain_clauses};
 ghost use Rattle.text.specs.private.Words.{Plainable, StoresList, stored_in, clause_of};
 
 use checking::clauses::ClauseWord;
@@ -54,19 +53,6 @@ pub(crate) fn put_list(out: &mut [u8], variables: u64, clauses: u64, words: &[Cl
     let mut at = crate::dimacs::put_header(out, variables, clauses);
     for record in (Records { words }) {
         at += crate::dimacs::put_clause(&mut out[at..], record.kind, record.literals);
-    }
-    at
-}
-
-// Writes the header and the clauses that words store, as OR clauses alone.
-pub(crate) fn put_plain(out: &mut [u8], variables: u64, clauses: u64, words: &[ClauseWord]) -> usize
-    requires stores_list { StoresList words.now }
-    requires out_room { length (header_text variables clauses ++ clauses_text (plain_clauses (stored_in words.now))) ≤ length out.old }
-    ensures { Put result out.new (header_text variables clauses ++ clauses_text (plain_clauses (stored_in words.now))) out.old }
-{
-    let mut at = crate::dimacs::put_header(out, variables, clauses);
-    for record in (Records { words }) {
-        at += crate::plain::put_record(&mut out[at..], record.kind, record.literals);
     }
     at
 }

@@ -168,6 +168,9 @@ pub pair_text : (a b : ℤ) → (literals_text (a ∷ b ∷ []) ++ closing) ++ (
 unfolding clauses_text negations
 pair_text a b = simp append-nil
 
+pub pair_length : (a b : ℤ) → length (clauses_text (plain_clause (XOR (a ∷ b ∷ [])))) ≡ length (literals_text (a ∷ b ∷ [])) + length (literals_text (neg_ℤ a ∷ neg_ℤ b ∷ [])) + 4
+pair_length a b = sym (ap length (pair_text a b)) ∙ simp length-append (omega arith)
+
 pub triple_text : (a b c : ℤ) → (((literals_text (a ∷ b ∷ c ∷ []) ++ closing) ++ (literals_text (a ∷ neg_ℤ b ∷ neg_ℤ c ∷ []) ++ closing)) ++ (literals_text (neg_ℤ a ∷ b ∷ neg_ℤ c ∷ []) ++ closing)) ++ (literals_text (neg_ℤ a ∷ neg_ℤ b ∷ c ∷ []) ++ closing) ≡ clauses_text (plain_clause (XOR (a ∷ b ∷ c ∷ [])))
 unfolding clauses_text negations
 triple_text a b c = simp (append_assoc, append-nil)
@@ -200,7 +203,7 @@ abbrev pub twice : ℤ → ℕ
 twice l = length (literal_text l) + length (literal_text (neg_ℤ l))
 
 pub pair_long : (a b : ℤ) → length (clauses_text (plain_clause (XOR (a ∷ b ∷ [])))) ≡ twice a + twice b + 8
-pair_long a b = sym (ap length (pair_text a b)) ∙ simp length-append (omega (arith, pair_list))
+pair_long a b = pair_length a b ∙ omega (arith, pair_list)
 
 pub triple_long : (a b c : ℤ) → length (clauses_text (plain_clause (XOR (a ∷ b ∷ c ∷ [])))) ≡ 2 * (twice a + twice b + twice c) + 20
 triple_long a b c = triple_length a b c ∙ omega (arith, triple_list)

@@ -1,11 +1,11 @@
--- `text::stored::put_plain` meets its contract. Assumes nothing.
+-- `text::plain::put_list` meets its contract. Assumes nothing.
 use mathlib.Core.Path.{subst}
 use lib.IntN.{ℤ}
 use borrow.Author.Rules.{rules}
 use Rattle.text.specs.private.Words.{Plainable}
 use Rattle.text.proofs.put.Laws.{filling_room, filling_on, filling_done}
 use Rattle.text.proofs.stored.Laws.{plain_text_step, no_text, no_plain}
-use Rattle.text.proofs.stored.put_plain.Goals as goal
+use Rattle.text.proofs.plain.put_list.Goals as goal
 
 pub put_record-at-requires : goal.put_record-at-requires
 put_record-at-requires c =

@@ -1,10 +1,10 @@
--- `text::stored::put_plain` meets its contract. The loop's invariant: the header and the clauses that were passed stand at the buffer's start. Assumes nothing.
+-- `text::plain::put_list` meets its contract. The loop's invariant: the header and the clauses that were passed stand at the buffer's start. Assumes nothing.
 use mathlib.Core.List.{◌++◌}
 use Rattle.text.specs.Dimacs.{header_text, clauses_text}
 use Rattle.text.specs.Plain.{plain_clauses}
 use Rattle.text.specs.private.Words.{stored_in}
 use Rattle.text.proofs.put.Laws.{Filling}
-use Rattle.text.proofs.stored.put_plain.Given as goal
+use Rattle.text.proofs.plain.put_list.Given as goal
 
 abbrev pub invariant-loop-record : goal.invariant-loop-record
 invariant-loop-record l =
