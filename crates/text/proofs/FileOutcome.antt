@@ -1,12 +1,10 @@
 -- The laws of what is answered to two files. Assumes nothing.
-use mathlib.Core.Path.{◌≡◌, refl, ap, subst}
+use mathlib.Core.Path.{◌≡◌, refl, sym, ap, ap₂, subst}
 use mathlib.Core.Bool.{Bool, true, false}
 use Prim.Native.Nat.{ℕ}
 use native.Mathlib.Omega.{arith}
 use Rattle.bits.proofs.Bools.{cond-true, cond-false}
-use Rattle.circuit.specs.declared.refusal.Refusal.{Refusal}
 use Rattle.circuit.specs.Outcome.{Outcome, served, refused}
-use Rattle.circuit.specs.Refusal.{refusal}
 use Rattle.text.specs.FileOutcome.{FileOutcome, answered, refused_at, of_both, of_file}
 
 -- an outcome is a value or a refusal, and not both
@@ -23,10 +21,6 @@ same_at {A} F {u} {v} {w} {x} {y} {z} e f =
     let q : v ≡ y = cc in
     let r : w ≡ z = cc in
     subst (F x y) r (subst (λ (k : ℕ). F x k w) q (subst (λ (k : ℕ). F k v w) p f))
-
--- a refusal in document 01's numbers
-pub why_at : {A : Type 0} {r : Refusal} {number place : ℕ} (file : ℕ) → r ≡ refusal number place → ◌≡◌ {A = FileOutcome A} (refused_at r.number file r.place) (refused_at number file place)
-why_at file e = ap (λ (r : Refusal). refused_at r.number file r.place) e
 
 -- a test
 module _ {A : Type 0} (test : Bool) (number : ℕ) (more : FileOutcome A) where
@@ -52,3 +46,16 @@ pub file_passed : {A B : Type 0} (file : ℕ) (o : Outcome A) (more : A → File
     → (a : A) × (o ≡ served a) × (more a ≡ answered b)
 file_passed file (served a) more b e = (a, refl, e)
 file_passed file (refused number place) more b e = absurd (not_refused e)
+
+-- what is said of a file as it is
+pub said : {A : Type 0} (file : ℕ) (o : Outcome A) (a : A) → answered a ≡ of_file file o answered → o ≡ served a
+said file (served b) a e = ap served (sym (unanswered e))
+said file (refused number place) a e = absurd (not_refused (sym e))
+
+pub said_wrong : {A : Type 0} (file : ℕ) (o : Outcome A) (number f place : ℕ) → refused_at number f place ≡ of_file file o answered → (f ≡ file) × (o ≡ refused number place)
+said_wrong file (served b) number f place e = absurd (not_refused e)
+said_wrong file (refused m q) number f place e =
+    let x : number ≡ m = cc in
+    let y : f ≡ file = cc in
+    let z : place ≡ q = cc in
+    (y, ap₂ refused (sym x) (sym z))

@@ -2,55 +2,23 @@
 use mathlib.Core.Path.{◌≡◌, refl, ap, ◌∙◌}
 use mathlib.Core.Bool.{Bool, true, ◌&&◌}
 use mathlib.Core.List.{List}
-use Prim.Native.Nat.{ℕ, ◌≤◌, ◌<◌}
+use Prim.Native.Nat.{ℕ, ◌≤◌}
 use lib.IntN.{ℤ}
 use lib.Dec.{leb}
 use lib.ListN.{length}
-use borrow.Author.Tests.{le-leb, lt-leb, leb-true}
+use borrow.Author.Tests.{le-leb, leb-true}
 use Rattle.bits.proofs.Bools.{and_parts, both}
-use Rattle.circuit.specs.declared.refusal.Refusal.{Refusal}
 use Rattle.circuit.specs.Outcome.{Outcome, served, refused, demand, Yields}
-use Rattle.circuit.specs.Refusal.{refusal, no_room}
-use Rattle.circuit.proofs.Promises.{demand_met, demand_failed, told, why}
-use Rattle.text.specs.declared.comparison.ComparedAnswer.{ComparedAnswer}
+use Rattle.circuit.specs.Refusal.{no_room}
+use Rattle.circuit.proofs.Promises.{demand_met}
+use Rattle.std.proofs.Common.{Result}
+use Rattle.text.specs.declared.comparison.Compared.{Compared}
+use Rattle.text.specs.declared.refused.FileRefusal.{FileRefusal}
 use Rattle.text.specs.Answers.{fit_outcome, fit_buffer, WritesWhere}
 use Rattle.text.specs.Compare.{max_list, file_words, miter_words, comparison, compared_text, compare_text, Rooms, RoomsFit, compare_outcome, compare_buffer}
 use Rattle.text.specs.private.Comparing.{of_compared, SaysCompared}
 use Rattle.text.proofs.answer.Laws.{fit_told}
 use Rattle.text.proofs.Writes.{two_tests, writes_where}
-
-module _ (first second : List ℕ) (lent : Rooms) (out : List ℕ) where
-  -- where the outcome is known
-  refused_told : (r : Refusal) → r ≡ refusal no_room 0 → compare_outcome first second lent (length out) ≡ refused no_room 0
-      → Yields (refused r.number r.place) out (compare_outcome first second lent (length out)) (compare_buffer first second lent out)
-  unfolding compare_buffer
-  refused_told r e f = told (compare_text first second) out _ out (compare_outcome first second lent (length out)) (refused no_room 0) (why e) f refl
-
-  module _ (r : Refusal) (e : r ≡ refusal no_room 0) where
-    pub first_short : lent.first < file_words → Yields (refused r.number r.place) out (compare_outcome first second lent (length out)) (compare_buffer first second lent out)
-    unfolding compare_outcome
-    first_short h = refused_told r e (demand_failed _ _ _ _ (lt-leb file_words lent.first h))
-
-    module _ (good : file_words ≤ lent.first) where
-      pub second_short : lent.second < file_words → Yields (refused r.number r.place) out (compare_outcome first second lent (length out)) (compare_buffer first second lent out)
-      unfolding compare_outcome
-      second_short h = refused_told r e (demand_met _ _ _ _ (le-leb file_words lent.first good) ∙ demand_failed _ _ _ _ (lt-leb file_words lent.second h))
-
-      module _ (good-2 : file_words ≤ lent.second) where
-        pub miter_short : lent.miter < miter_words → Yields (refused r.number r.place) out (compare_outcome first second lent (length out)) (compare_buffer first second lent out)
-        unfolding compare_outcome
-        miter_short h =
-            refused_told r e
-            (demand_met _ _ _ _ (le-leb file_words lent.first good) ∙ demand_met _ _ _ _ (le-leb file_words lent.second good-2)
-            ∙ demand_failed _ _ _ _ (lt-leb miter_words lent.miter h))
-
-        pub clauses_short : miter_words ≤ lent.miter → lent.clauses < max_list
-            → Yields (refused r.number r.place) out (compare_outcome first second lent (length out)) (compare_buffer first second lent out)
-        unfolding compare_outcome
-        clauses_short good-3 h =
-            refused_told r e
-            (demand_met _ _ _ _ (le-leb file_words lent.first good) ∙ demand_met _ _ _ _ (le-leb file_words lent.second good-2)
-            ∙ demand_met _ _ _ _ (le-leb miter_words lent.miter good-3) ∙ demand_failed _ _ _ _ (lt-leb max_list lent.clauses h))
 
 -- every room is long enough
 module _ (first second : List ℕ) (lent : Rooms) (good : file_words ≤ lent.first) (good-2 : file_words ≤ lent.second) (good-3 : miter_words ≤ lent.miter) (good-4 : max_list ≤ lent.clauses) where
@@ -60,7 +28,7 @@ module _ (first second : List ℕ) (lent : Rooms) (good : file_words ≤ lent.fi
       demand_met _ _ _ _ (le-leb file_words lent.first good) ∙ demand_met _ _ _ _ (le-leb file_words lent.second good-2)
       ∙ demand_met _ _ _ _ (le-leb miter_words lent.miter good-3) ∙ demand_met _ _ _ _ (le-leb max_list lent.clauses good-4)
 
-  pub compared_told : (answer : ComparedAnswer) (clauses : List ℤ) → SaysCompared answer clauses (comparison first second) → (r : Outcome ℕ) (last out : List ℕ)
+  pub compared_told : (answer : Result Compared FileRefusal) (clauses : List ℤ) → SaysCompared answer clauses (comparison first second) → (r : Outcome ℕ) (last out : List ℕ)
       → Yields r last (fit_outcome (compared_text (of_compared answer clauses)) (length out)) (fit_buffer (compared_text (of_compared answer clauses)) out)
       → Yields r last (compare_outcome first second lent (length out)) (compare_buffer first second lent out)
   unfolding compare_buffer compare_text

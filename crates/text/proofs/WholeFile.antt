@@ -18,6 +18,12 @@ use Rattle.circuit.specs.FileLaws.{FileCascade, ReadAs}
 use Rattle.circuit.proofs.Promises.{reader, read_as, demand_met, demand_failed, demanded, then_served, then_refused, then_both, wrong_refused, fails_refused}
 use Rattle.text.specs.WholeFile.{line_after_end, whole_file, WholeRefused}
 
+-- what was read is inside the text
+pub taken_within : (text : List ℕ) (c : Reading) → reading text ≡ served c → c.taken ≤ length text
+taken_within text c e =
+    let g = (read_as text c).0 e in
+    omega (arith, g.bytes, ap length g.starts, length-append (text_of c.lines c.gates) g.rest)
+
 -- ---- by what its reading gives
 
 module _ (text : List ℕ) where

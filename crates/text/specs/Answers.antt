@@ -1,14 +1,8 @@
--- The answer of the calls that write a text, in document 01's numbers and values, and what they owe.
+-- What the calls that write a text answer, and what they owe.
 use Rattle.std.specs.Prelude.{◌≡◌, ◌↔◌, List, ℕ, nat_le, length}
 use Rattle.bits.specs.Lists.{over}
 use Rattle.circuit.specs.Outcome.{Outcome, served, refused, demand, written, Untouched}
 use Rattle.circuit.specs.Refusal.{no_room}
-use Rattle.text.specs.declared.TextAnswer.{TextAnswer}
-use Rattle.text.specs.declared.TextAnswer.TheVariants as text
-
-abbrev pub of_text : TextAnswer → Outcome ℕ
-of_text (text.Bytes k) = served k
-of_text (text.Refused r) = refused r.number r.place
 
 -- a text is written where it fits: 10 where the buffer is shorter
 unfoldable pub fit_outcome : List ℕ → ℕ → Outcome ℕ

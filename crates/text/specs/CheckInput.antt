@@ -6,6 +6,7 @@ use Rattle.circuit.specs.Outcome.{Outcome, demand, written}
 use Rattle.circuit.specs.Refusal.{bad_state, no_room}
 use Rattle.circuit.specs.Run.{run}
 use Rattle.circuit.specs.Text.{tab, line_feed, digit}
+use Rattle.text.specs.declared.input.Outputs.{Outputs}
 use Rattle.text.specs.Dimacs.{then_read}
 use Rattle.text.specs.FileOutcome.{FileOutcome, answered, refused_at, further, answer_text}
 use Rattle.text.specs.Compare.{file_words, CascadePair, files_of, differ_word}
@@ -28,11 +29,6 @@ state_read (suc n) [] = none
 state_read (suc n) (b ∷ bs) = cond (nat_le 48 b && nat_le b 49) (then_read (λ (x : ℕ). (b - 48) + 2 * x) (state_read n bs)) none
 
 -- the outputs of both cascades on n lines
-pub record Outputs : Type 0 where
-  pub lines : ℕ
-  pub first : ℕ
-  pub second : ℕ
-
 abbrev pub outputs : ℕ → ℕ → ℕ → Outputs
 outputs n first second = record { lines = n; first = first; second = second }
 

@@ -1,13 +1,33 @@
 -- What a program answers to two files: a value, or a refusal that says of which file it is; and the text of a refusal.
-use Rattle.std.specs.Prelude.{Bool, cond, List, [], ◌∷◌, ◌++◌, ℕ}
+use Rattle.std.specs.Prelude.{Bool, cond, List, [], ◌∷◌, ◌++◌, ℕ, Result, Ok, Err}
 use Rattle.circuit.specs.Outcome.{Outcome, served, refused}
 use Rattle.circuit.specs.Text.{tab, line_feed}
+use Rattle.circuit.specs.Refusal.{refusal_number, refusal_place}
+use Rattle.text.specs.declared.refused.File.{File}
+use Rattle.text.specs.declared.refused.File.TheVariants.{Both, First, Second}
+use Rattle.text.specs.declared.refused.FileRefusal.{FileRefusal}
 use Rattle.text.specs.Dimacs.{decimal}
 
 -- a value; or a refusal's number, file (1, 2, or 0 for both) and place
 pub data FileOutcome (A : Type 0) : Type 0 where
   answered : A → FileOutcome A
   refused_at : ℕ → ℕ → ℕ → FileOutcome A
+
+-- the number of a file
+abbrev pub file_number : File → ℕ
+file_number Both = 0
+file_number First = 1
+file_number Second = 2
+
+-- a result in these numbers
+abbrev pub answer_of : {A : Type 0} → Result A FileRefusal → FileOutcome A
+answer_of (Ok a) = answered a
+answer_of (Err r) = refused_at (refusal_number r.why) (file_number r.file) (refusal_place r.why)
+
+-- the same with the value as f gives it
+abbrev pub map_answer : {A B : Type 0} → (A → B) → FileOutcome A → FileOutcome B
+map_answer f (answered a) = answered (f a)
+map_answer f (refused_at number file place) = refused_at number file place
 
 -- goes on where the test holds, and is else refused, with file and place 0
 abbrev pub of_both : {A : Type 0} → Bool → ℕ → FileOutcome A → FileOutcome A
@@ -39,3 +59,7 @@ refusal_text number file place = refused_word ++ (tab ∷ numbers_text number fi
 abbrev pub answer_text : {A : Type 0} → (A → List ℕ) → FileOutcome A → List ℕ
 answer_text text (answered a) = text a
 answer_text text (refused_at number file place) = refusal_text number file place
+
+-- the text of a refusal that was answered
+abbrev pub refused_text : FileRefusal → List ℕ
+refused_text r = refusal_text (refusal_number r.why) (file_number r.file) (refusal_place r.why)

@@ -3,3 +3,4 @@ pub mod Words
 pub mod Lists
 pub mod Comparing
 pub mod Checking
+pub mod Files

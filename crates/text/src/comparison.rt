@@ -4,26 +4,22 @@ ghost use Rattle.std.specs.Prelude.{◌*◌, ◌^◌, ◌≤◌, length, take};
 ghost use Rattle.circuit.specs.Words.{gates_of};
 ghost use Rattle.checking.specs.Reduce.{reduce_gates};
 ghost use Rattle.checking.specs.Compare.{max_sweep_lines, lowest_from};
-ghost use Rattle.text.specs.private.Lists.{FileWords};
 ghost use Rattle.text.specs.Compare.{max_list, file_words, miter_words, gates_left, swept_as, list_as, compared, comparison};
 ghost use Rattle.text.specs.private.Comparing.{MiterWords, MiterCascade, LeftIn, SaysCompared, SaysAny};
 
-use crate::pair::FilesAnswer;
-use checking::clauses::{ClauseWord, EmitAnswer, Totals};
-use checking::compare::DifferenceAnswer;
-use checking::reduce::ReduceAnswer;
+use crate::pair::PairRead;
+use crate::refused::{File, FileRefusal};
+use checking::clauses::{ClauseWord, Totals};
 use circuit::gate::Gate;
 use circuit::refusal::Refusal;
-use circuit::words::CountAnswer;
 
-// Equal, by the reduction or by the sweep; a state on which two cascades differ, and their outputs; the totals of a clause list that stands in the lent room; or a refusal with its file.
-#[derive(Clone, Copy)]
-pub enum ComparedAnswer {
+// Equal, by the reduction or by the sweep; a state on which two cascades differ, and their outputs; or the totals of a clause list that stands in the lent room.
+#[derive(Clone, Copy, Debug, PartialEq, Eq)]
+pub(crate) enum Compared {
     Reduction,
     Sweep,
     Differ { state: u64, first: u64, second: u64 },
     Clauses(Totals),
-    Refused { why: Refusal, file: u64 },
 }
 
 // Reduces the gates at the room's start; how many are left.
@@ -33,88 +29,78 @@ fn reduce_gates(n: u64, gates: usize, room: &mut [u64]) -> usize
 {
     let end = Gate::WORDS * gates;
     match checking::reduce::reduce(n, &mut room[..end]) {
-        ReduceAnswer::Reduced(r) => r.gates,
-        ReduceAnswer::Refused(_) => gates,
+        Ok(reduction) => reduction.gates,
+        Err(_) => gates,
     }
 }
 
 // The gates that the full reduction of the miter leaves, at the room's start; how many.
-fn reduce_miter(n: u64, a: &[u64], b: &[u64], room: &mut [u64]) -> usize
-    requires first_words { FileWords n a.now }
-    requires second_words { FileWords n b.now }
-    requires miter_room { miter_words ≤ length room.old }
-    ensures { LeftIn n result room.new (gates_left (gates_of a.now) (gates_of b.now)) }
+fn reduce_miter(pair: PairRead, room: &mut [u64]) -> usize
+    requires { miter_words ≤ length room.old }
+    ensures { LeftIn pair.entry.first.lines result room.new (gates_left (gates_of pair.entry.first.words.now) (gates_of pair.entry.second.words.now)) }
 {
-    match checking::miter::miter(n, a, n, b, room) {
-        CountAnswer::Gates(gates) => reduce_gates(n, gates, room),
-        CountAnswer::Refused(_) => 0,
+    let PairRead { first, second } = pair;
+    match checking::miter::miter(first.lines, first.words, second.lines, second.words, room) {
+        Ok(gates) => reduce_gates(first.lines, gates, room),
+        Err(_) => 0,
     }
 }
 
 // Two cascades of at most 16 lines, by the lowest state on which they differ.
-fn sweep(n: u64, a: &[u64], b: &[u64]) -> ComparedAnswer
-    requires first_words { FileWords n a.now }
-    requires second_words { FileWords n b.now }
-    requires few_lines { n ≤ max_sweep_lines }
-    ensures { SaysAny result (swept_as (gates_of a.now) (gates_of b.now) (lowest_from (gates_of a.now) (gates_of b.now) 0 (2 ^ n))) }
+fn sweep(pair: PairRead) -> Compared
+    requires { pair.first.lines ≤ max_sweep_lines }
+    ensures { SaysAny result (swept_as (gates_of pair.entry.first.words.now) (gates_of pair.entry.second.words.now) (lowest_from (gates_of pair.entry.first.words.now) (gates_of pair.entry.second.words.now) 0 (2 ^ pair.entry.first.lines))) }
 {
-    match checking::compare::first_difference(n, a, n, b) {
-        DifferenceAnswer::State(state) => ComparedAnswer::Differ {
+    let PairRead { first, second } = pair;
+    match checking::compare::first_difference(first.lines, first.words, second.lines, second.words) {
+        Ok(Some(state)) => Compared::Differ {
             state,
-            first: circuit::run::run_tested(a, state),
-            second: circuit::run::run_tested(b, state),
+            first: circuit::run::run_tested(first.words, state),
+            second: circuit::run::run_tested(second.words, state),
         },
-        DifferenceAnswer::Nothing => ComparedAnswer::Sweep,
-        DifferenceAnswer::Refused(why) => ComparedAnswer::Refused { why, file: 0 },
+        Ok(None) => Compared::Sweep,
+        // Two cascades of few lines are never refused.
+        Err(_) => Compared::Sweep,
     }
 }
 
 // The clause list of gates, in the room; else 10.
-fn list_gates(n: u64, words: &[u64], clauses: &mut [ClauseWord]) -> ComparedAnswer
+fn list_gates(n: u64, words: &[u64], clauses: &mut [ClauseWord]) -> Result<Compared, FileRefusal>
     requires miter_cascade { MiterCascade n words.now }
     requires clause_room { max_list ≤ length clauses.old }
     ensures { SaysCompared result clauses.new (list_as n (gates_of words.now)) }
 {
-    match checking::clauses::emit(n, words, clauses) {
-        EmitAnswer::Refused(why) => ComparedAnswer::Refused { why, file: 0 },
-        EmitAnswer::Totals(totals) => {
-            if (crate::MAX_LIST as u64) < totals.words {
-                return ComparedAnswer::Refused {
-                    why: Refusal::no_room(),
-                    file: 0,
-                };
-            }
-            ComparedAnswer::Clauses(totals)
-        }
+    let totals = File::Both.of(checking::clauses::emit(n, words, clauses))?;
+    if (crate::MAX_LIST as u64) < totals.words {
+        return Err(FileRefusal::both(Refusal::NoRoom));
     }
+    Ok(Compared::Clauses(totals))
 }
 
 // Compares two cascades; the miter and what the reduction leaves of it stand in `room`.
 fn compare_pair(
-    n: u64,
-    a: &[u64],
-    b: &[u64],
+    pair: PairRead,
     room: &mut [u64],
     clauses: &mut [ClauseWord],
-) -> ComparedAnswer
-    requires first_words { FileWords n a.now }
-    requires second_words { FileWords n b.now }
+) -> Result<Compared, FileRefusal>
     requires miter_room { miter_words ≤ length room.old }
     requires clause_room { max_list ≤ length clauses.old }
-    ensures { SaysCompared result clauses.new (compared n (gates_of a.now) (gates_of b.now)) }
+    ensures { SaysCompared result clauses.new (compared pair.entry.first.lines (gates_of pair.entry.first.words.now) (gates_of pair.entry.second.words.now)) }
 {
-    let left = reduce_miter(n, a, b, room);
+    let left = reduce_miter(pair, room);
     if left == 0 {
-        return ComparedAnswer::Reduction;
+        return Ok(Compared::Reduction);
     }
-    if n <= Gate::MAX_SWEEP_LINES {
-        return sweep(n, a, b);
+    let lines = pair.first.lines;
+    if lines <= Gate::MAX_SWEEP_LINES {
+        return Ok(sweep(pair));
     }
     let end = Gate::WORDS * left;
-    list_gates(n, &room[..end], clauses)
+    list_gates(lines, &room[..end], clauses)
 }
 
 // Compares two files.
+#[tactic(auto, unfolding(crate::specs::Compare::comparison))]
 pub(crate) fn compare_files(
     first: &[u8],
     second: &[u8],
@@ -122,19 +108,12 @@ pub(crate) fn compare_files(
     b: &mut [u64],
     room: &mut [u64],
     clauses: &mut [ClauseWord],
-) -> ComparedAnswer
+) -> Result<Compared, FileRefusal>
     requires first_room { file_words ≤ length a.old }
     requires second_room { file_words ≤ length b.old }
     requires miter_room { miter_words ≤ length room.old }
     requires clause_room { max_list ≤ length clauses.old }
     ensures { SaysCompared result clauses.new (comparison first.now second.now) }
 {
-    match crate::pair::read_files(first, second, a, b) {
-        FilesAnswer::Refused { why, file } => ComparedAnswer::Refused { why, file },
-        FilesAnswer::Cascades {
-            lines,
-            first: p,
-            second: q,
-        } => compare_pair(lines, &a[..p], &b[..q], room, clauses),
-    }
+    compare_pair(PairRead::read(first, second, a, b)?, room, clauses)
 }

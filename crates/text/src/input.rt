@@ -3,49 +3,43 @@
 ghost use Rattle.std.specs.Prelude.{cond, ◌≡◌, [], ◌∷◌, ◌++◌, ◌+◌, ◌*◌, ◌≤◌, ◌<◌, ◌==◌, length};
 ghost use Rattle.bits.specs.Lists.{Put};
 ghost use Rattle.circuit.specs.Gate.{max_lines};
-ghost use Rattle.circuit.specs.Outcome.{Yields};
+ghost use Rattle.circuit.specs.Outcome.{outcome_of, Yields};
 ghost use Rattle.circuit.specs.Text.{tab, line_feed};
 ghost use Rattle.circuit.specs.Words.{gates_of};
-ghost use Rattle.text.specs.Answers.{of_text, fit_outcome, fit_buffer};
+ghost use Rattle.text.specs.Answers.{fit_outcome, fit_buffer};
 ghost use Rattle.text.specs.Compare.{file_words, differ_word};
 ghost use Rattle.text.specs.CheckInput.{state_text, state_read, agree_word, outputs_text, checked_on, checked, checked_text};
-ghost use Rattle.text.specs.private.Lists.{FileWords};
-ghost use Rattle.text.specs.private.Checking.{of_state, of_checked, CheckedReady, SaysChecked};
+ghost use Rattle.text.specs.FileOutcome.{answer_of};
+ghost use Rattle.text.specs.private.Checking.{of_state, CheckedReady, SaysChecked};
 
-use crate::TextAnswer;
-use crate::pair::FilesAnswer;
+use crate::pair::PairRead;
+use crate::refused::FileRefusal;
 use circuit::refusal::Refusal;
 
-// The state that a text spells, or nothing.
-#[derive(Clone, Copy)]
-pub enum StateAnswer {
-    State(u64),
-    Nothing,
-}
-
-// The lines of two cascades and their outputs on a state; or a refusal with its file.
-#[derive(Clone, Copy)]
-pub enum CheckedAnswer {
-    Outputs { lines: u64, first: u64, second: u64 },
-    Refused { why: Refusal, file: u64 },
+// The lines of two cascades, and their outputs on a state.
+#[derive(Clone, Copy, Debug, PartialEq, Eq)]
+pub(crate) struct Outputs {
+    pub lines: u64,
+    pub first: u64,
+    pub second: u64,
 }
 
 // The state of n lines that a text spells, from its last character back.
-fn read_state(n: u64, text: &[u8]) -> StateAnswer
+fn read_state(n: u64, text: &[u8]) -> Option<u64>
     requires { n ≤ max_lines }
     ensures { of_state result ≡ state_read n text.now }
 {
     if text.len() as u64 != n {
-        return StateAnswer::Nothing;
+        return None;
     }
     let mut x = 0;
     for b in text.iter().rev() {
         if *b < b'0' || b'1' < *b {
-            return StateAnswer::Nothing;
+            return None;
         }
         x = 2 * x + u64::from(*b - b'0');
     }
-    StateAnswer::State(x)
+    Some(x)
 }
 
 // Writes a state of n lines.
@@ -95,69 +89,59 @@ fn put_checked(out: &mut [u8], n: u64, first: u64, second: u64) -> usize
 }
 
 // Writes the same where it fits.
-fn fit_outputs(out: &mut [u8], n: u64, first: u64, second: u64) -> TextAnswer
+#[tactic(auto, unfolding(crate::specs::Answers::fit_outcome, crate::specs::Answers::fit_buffer))]
+fn fit_outputs(out: &mut [u8], n: u64, first: u64, second: u64) -> Result<usize, Refusal>
     requires { n ≤ max_lines }
-    ensures { Yields (of_text result) out.new (fit_outcome (outputs_text n first second) (length out.old)) (fit_buffer (outputs_text n first second) out.old) }
+    ensures { Yields (outcome_of result) out.new (fit_outcome (outputs_text n first second) (length out.old)) (fit_buffer (outputs_text n first second) out.old) }
 {
     let size = 2 * n + 8 + (first != second) as u64;
     if (out.len() as u64) < size {
-        return TextAnswer::Refused(Refusal::no_room());
+        return Err(Refusal::NoRoom);
     }
-    TextAnswer::Bytes(put_checked(out, n, first, second))
+    Ok(put_checked(out, n, first, second))
 }
 
 // The outputs of two cascades on the state that a text spells; else 9.
-fn check_pair(n: u64, a: &[u64], b: &[u64], state: &[u8]) -> CheckedAnswer
-    requires first_words { FileWords n a.now }
-    requires second_words { FileWords n b.now }
-    ensures { SaysChecked result (checked_on n (gates_of a.now) (gates_of b.now) (state_read n state.now)) }
+fn check_pair(pair: PairRead, state: &[u8]) -> Result<Outputs, FileRefusal>
+    ensures { SaysChecked result (checked_on pair.entry.first.lines (gates_of pair.entry.first.words.now) (gates_of pair.entry.second.words.now) (state_read pair.entry.first.lines state.now)) }
 {
-    match read_state(n, state) {
-        StateAnswer::State(x) => CheckedAnswer::Outputs {
-            lines: n,
-            first: circuit::run::run_tested(a, x),
-            second: circuit::run::run_tested(b, x),
-        },
-        StateAnswer::Nothing => CheckedAnswer::Refused {
-            why: Refusal::bad_state(0),
-            file: 0,
-        },
+    let PairRead { first, second } = pair;
+    match read_state(first.lines, state) {
+        Some(x) => Ok(Outputs {
+            lines: first.lines,
+            first: circuit::run::run_tested(first.words, x),
+            second: circuit::run::run_tested(second.words, x),
+        }),
+        None => Err(FileRefusal::both(Refusal::BadState(0))),
     }
 }
 
 // The outputs of the cascades of two files on the state that a text spells; else what is wrong.
+#[tactic(auto, unfolding(crate::specs::CheckInput::checked))]
 pub(crate) fn check_files(
     first: &[u8],
     second: &[u8],
     state: &[u8],
     a: &mut [u64],
     b: &mut [u64],
-) -> CheckedAnswer
+) -> Result<Outputs, FileRefusal>
     requires first_room { file_words ≤ length a.old }
     requires second_room { file_words ≤ length b.old }
     ensures { SaysChecked result (checked first.now second.now state.now) }
 {
-    match crate::pair::read_files(first, second, a, b) {
-        FilesAnswer::Refused { why, file } => CheckedAnswer::Refused { why, file },
-        FilesAnswer::Cascades {
-            lines,
-            first: p,
-            second: q,
-        } => check_pair(lines, &a[..p], &b[..q], state),
-    }
+    check_pair(PairRead::read(first, second, a, b)?, state)
 }
 
 // Writes what the check answers.
-pub(crate) fn fit_checked(out: &mut [u8], answer: CheckedAnswer) -> TextAnswer
+pub(crate) fn fit_checked(
+    out: &mut [u8],
+    answer: Result<Outputs, FileRefusal>,
+) -> Result<usize, Refusal>
     requires { CheckedReady answer }
-    ensures { Yields (of_text result) out.new (fit_outcome (checked_text (of_checked answer)) (length out.old)) (fit_buffer (checked_text (of_checked answer)) out.old) }
+    ensures { Yields (outcome_of result) out.new (fit_outcome (checked_text (answer_of answer)) (length out.old)) (fit_buffer (checked_text (answer_of answer)) out.old) }
 {
     match answer {
-        CheckedAnswer::Outputs {
-            lines,
-            first,
-            second,
-        } => fit_outputs(out, lines, first, second),
-        CheckedAnswer::Refused { why, file } => crate::answer::fit_refusal(out, why, file),
+        Ok(outputs) => fit_outputs(out, outputs.lines, outputs.first, outputs.second),
+        Err(r) => crate::answer::fit_refusal(out, r),
     }
 }

@@ -5,7 +5,8 @@ ghost use Rattle.text.specs.Tomiter.{WritesText};
 ghost use Rattle.std.specs.Prelude.{◌≡◌, length};
 ghost use Rattle.text.specs.Compare.{rooms, RoomShort, compare_outcome, compare_buffer};
 ghost use Rattle.text.specs.CheckInput.{InputRoomShort, input_outcome, input_buffer};
-ghost use Rattle.text.specs.Answers.{of_text, Serves};
+ghost use Rattle.circuit.specs.Outcome.{outcome_of};
+ghost use Rattle.text.specs.Answers.{Serves};
 ghost use Rattle.text.specs.Laws.{Laws};
 
 use checking::clauses::ClauseWord;
@@ -20,14 +21,8 @@ mod pair;
 mod plain;
 mod program;
 mod put;
+mod refused;
 mod stored;
-
-// The number of bytes that were written, or a refusal.
-#[derive(Clone, Copy)]
-pub enum TextAnswer {
-    Bytes(usize),
-    Refused(Refusal),
-}
 
 // The bytes of the longest input and of the longest text.
 pub const MAX_INPUT: usize = 65536;
@@ -49,23 +44,23 @@ pub const MAX_COMPARED: usize = 4194322;
 pub const MAX_CHECKED: usize = 137;
 
 // What the program writes for an input of two cascade files, at the buffer's start; else 10.
-pub fn tomiter(input: &[u8], out: &mut [u8]) -> TextAnswer
-    ensures { WritesText input.now out.old (of_text result) out.new }
+pub fn tomiter(input: &[u8], out: &mut [u8]) -> Result<usize, Refusal>
+    ensures { WritesText input.now out.old (outcome_of result) out.new }
 {
     if MAX_TEXT <= out.len() {
-        return TextAnswer::Bytes(crate::program::put_text(out, input));
+        return Ok(crate::program::put_text(out, input));
     }
     let mut text = [0u8; MAX_TEXT];
     let size = crate::program::put_text(&mut text, input);
     if out.len() < size {
-        return TextAnswer::Refused(Refusal::no_room());
+        return Err(Refusal::NoRoom);
     }
-    bits::put(out, &text[..size]);
-    TextAnswer::Bytes(size)
+    Ok(bits::put(out, &text[..size]))
 }
 
 // Compares the cascades of two files and writes the verdict, or clauses for a solver, at the start of `out`; else 10.
 // The words of the cascades, of their miter and of its clauses stand in the rooms that follow; what these hold afterwards is no answer, and where one is too short they are as they were.
+#[tactic(auto, unfolding(crate::specs::Compare::compare_outcome, crate::specs::Compare::compare_buffer))]
 pub fn compare(
     first: &[u8],
     second: &[u8],
@@ -74,20 +69,20 @@ pub fn compare(
     b: &mut [u64],
     miter: &mut [u64],
     clauses: &mut [ClauseWord],
-) -> TextAnswer
-    ensures { Serves (of_text result) out.new (compare_outcome first.now second.now (rooms (length a.old) (length b.old) (length miter.old) (length clauses.old)) (length out.old)) (compare_buffer first.now second.now (rooms (length a.old) (length b.old) (length miter.old) (length clauses.old)) out.old) (RoomShort (rooms (length a.old) (length b.old) (length miter.old) (length clauses.old))) ((a.new ≡ a.old) × (b.new ≡ b.old) × (miter.new ≡ miter.old) × (clauses.new ≡ clauses.old)) }
+) -> Result<usize, Refusal>
+    ensures { Serves (outcome_of result) out.new (compare_outcome first.now second.now (rooms (length a.old) (length b.old) (length miter.old) (length clauses.old)) (length out.old)) (compare_buffer first.now second.now (rooms (length a.old) (length b.old) (length miter.old) (length clauses.old)) out.old) (RoomShort (rooms (length a.old) (length b.old) (length miter.old) (length clauses.old))) ((a.new ≡ a.old) × (b.new ≡ b.old) × (miter.new ≡ miter.old) × (clauses.new ≡ clauses.old)) }
 {
     if a.len() < FILE_WORDS {
-        return TextAnswer::Refused(Refusal::no_room());
+        return Err(Refusal::NoRoom);
     }
     if b.len() < FILE_WORDS {
-        return TextAnswer::Refused(Refusal::no_room());
+        return Err(Refusal::NoRoom);
     }
     if miter.len() < MITER_WORDS {
-        return TextAnswer::Refused(Refusal::no_room());
+        return Err(Refusal::NoRoom);
     }
     if clauses.len() < MAX_LIST {
-        return TextAnswer::Refused(Refusal::no_room());
+        return Err(Refusal::NoRoom);
     }
     let answer = crate::comparison::compare_files(first, second, a, b, miter, clauses);
     crate::answer::fit_answer(out, answer, clauses)
@@ -95,6 +90,7 @@ pub fn compare(
 
 // Gives an input, a character 0 or 1 for each line, to the cascades of two files, and writes `differ` or `agree` and both outputs at the start of `out`; else 10.
 // The words of the cascades stand in the rooms that follow; what these hold afterwards is no answer, and where one is too short they are as they were.
+#[tactic(auto, unfolding(crate::specs::CheckInput::input_outcome, crate::specs::CheckInput::input_buffer))]
 pub fn check_input(
     first: &[u8],
     second: &[u8],
@@ -102,14 +98,14 @@ pub fn check_input(
     out: &mut [u8],
     a: &mut [u64],
     b: &mut [u64],
-) -> TextAnswer
-    ensures { Serves (of_text result) out.new (input_outcome first.now second.now state.now (length a.old) (length b.old) (length out.old)) (input_buffer first.now second.now state.now (length a.old) (length b.old) out.old) (InputRoomShort (length a.old) (length b.old)) ((a.new ≡ a.old) × (b.new ≡ b.old)) }
+) -> Result<usize, Refusal>
+    ensures { Serves (outcome_of result) out.new (input_outcome first.now second.now state.now (length a.old) (length b.old) (length out.old)) (input_buffer first.now second.now state.now (length a.old) (length b.old) out.old) (InputRoomShort (length a.old) (length b.old)) ((a.new ≡ a.old) × (b.new ≡ b.old)) }
 {
     if a.len() < FILE_WORDS {
-        return TextAnswer::Refused(Refusal::no_room());
+        return Err(Refusal::NoRoom);
     }
     if b.len() < FILE_WORDS {
-        return TextAnswer::Refused(Refusal::no_room());
+        return Err(Refusal::NoRoom);
     }
     let answer = crate::input::check_files(first, second, state, a, b);
     crate::input::fit_checked(out, answer)

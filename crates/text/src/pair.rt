@@ -1,107 +1,109 @@
-// Two cascade files, each to its last byte.
+// Cascade files: the cascade at the start of a text, of a whole file, and of two files.
 
-ghost use Rattle.std.specs.Prelude.{◌≤◌, length, take};
-ghost use Rattle.circuit.specs.Words.{gates_of};
-ghost use Rattle.text.specs.WholeFile.{whole_file};
-ghost use Rattle.text.specs.Compare.{file_words, second_file, files_of};
-ghost use Rattle.text.specs.private.Comparing.{InRoom, SaysWhole, SaysFiles};
+ghost use Rattle.std.specs.Prelude.{◌≡◌, ◌/◌, ◌≤◌, length};
+ghost use Rattle.circuit.specs.Gate.{max_gates};
+ghost use Rattle.circuit.specs.Words.{Cascade};
 
-use circuit::file::ReadAnswer;
+use crate::refused::{File, FileRefusal};
 use circuit::gate::Gate;
 use circuit::refusal::Refusal;
 
-// The lines of a cascade and the number of its words, which stand in the lent room; or a refusal.
+// A cascade that was read, whose words stand in a lent room.
 #[derive(Clone, Copy)]
-pub enum WholeAnswer {
-    Cascade { lines: u64, words: usize },
-    Refused(Refusal),
+pub(crate) struct CascadeRead<'a> {
+    pub lines: u64,
+    pub words: &'a [u64],
+    ghost cascade: { Cascade lines words.now max_gates (length words.now / 3) },
 }
 
-// The lines of two cascades and the number of each one's words, which stand in the lent rooms; or a refusal with its file, 1, 2, or 0 for both.
+// The same, and the bytes that it took.
 #[derive(Clone, Copy)]
-pub enum FilesAnswer {
-    Cascades {
-        lines: u64,
-        first: usize,
-        second: usize,
-    },
-    Refused {
-        why: Refusal,
-        file: u64,
-    },
+pub(crate) struct StartRead<'a> {
+    pub cascade: CascadeRead<'a>,
+    pub taken: usize,
 }
 
-// The cascade of a file, which has no byte after its `end`.
-pub(crate) fn read_whole(text: &[u8], room: &mut [u64]) -> WholeAnswer
-    requires { file_words ≤ length room.old }
-    ensures { SaysWhole result room.new (length text.now) (whole_file text.now) }
-{
-    match circuit::file::read(text, room) {
-        ReadAnswer::Refused(why) => WholeAnswer::Refused(why),
-        ReadAnswer::Cascade {
-            header,
-            gates,
-            taken,
-        } => {
-            if taken != text.len() {
-                return WholeAnswer::Refused(Refusal::wrong_form(gates as u64 + 2));
-            }
-            let words = Gate::WORDS * gates;
-            WholeAnswer::Cascade {
-                lines: header.lines,
-                words,
-            }
+// The cascades of two files, on as many lines.
+#[derive(Clone, Copy)]
+pub(crate) struct PairRead<'a> {
+    pub first: CascadeRead<'a>,
+    pub second: CascadeRead<'a>,
+    ghost same_lines: { first.lines ≡ second.lines },
+}
+
+impl<'a> StartRead<'a> {
+    ghost use Rattle.std.specs.Prelude.{◌≡◌, ◌≤◌, length};
+    ghost use Rattle.circuit.specs.Outcome.{outcome_of, map_served};
+    ghost use Rattle.circuit.specs.File.{reading};
+    ghost use Rattle.text.specs.Compare.{file_words};
+    ghost use Rattle.text.specs.private.Files.{reading_of};
+
+    // The cascade at the start of a text; else what is wrong with it.
+    pub(crate) fn read(text: &[u8], room: &'a mut [u64]) -> Result<StartRead<'a>, Refusal>
+        requires { file_words ≤ length room.old }
+        ensures { map_served reading_of (outcome_of result) ≡ reading text.now }
+    {
+        let counts = circuit::file::read(text, room)?;
+        Ok(StartRead {
+            cascade: CascadeRead {
+                lines: counts.lines,
+                words: &room[..Gate::WORDS * counts.gates],
+            },
+            taken: counts.taken,
+        })
+    }
+}
+
+impl<'a> CascadeRead<'a> {
+    ghost use Rattle.std.specs.Prelude.{◌≡◌, ◌≤◌, length};
+    ghost use Rattle.circuit.specs.Outcome.{outcome_of, map_served};
+    ghost use Rattle.text.specs.Compare.{file_words};
+    ghost use Rattle.text.specs.WholeFile.{whole_file};
+    ghost use Rattle.text.specs.private.Files.{whole_of};
+
+    // The cascade of a file, which has no byte after its `end`.
+    pub(crate) fn read(text: &[u8], room: &'a mut [u64]) -> Result<CascadeRead<'a>, Refusal>
+        requires { file_words ≤ length room.old }
+        ensures { map_served (whole_of (length text.now)) (outcome_of result) ≡ whole_file text.now }
+    {
+        let start = StartRead::read(text, room)?;
+        if start.taken != text.len() {
+            let gates = start.cascade.words.len() / Gate::WORDS;
+            return Err(Refusal::WrongForm(gates as u64 + 2));
         }
+        Ok(start.cascade)
     }
 }
 
-// The second file's cascade beside the first one's, which stands in its room; else what is wrong with that file, or 8.
-fn read_second(lines: u64, words: usize, second: &[u8], a: &[u64], b: &mut [u64]) -> FilesAnswer
-    requires in_room { InRoom lines words a.now }
-    requires second_room { file_words ≤ length b.old }
-    ensures { SaysFiles result a.now b.new (second_file lines (gates_of (take words a.now)) second.now) }
-{
-    match read_whole(second, b) {
-        WholeAnswer::Refused(why) => FilesAnswer::Refused { why, file: 2 },
-        WholeAnswer::Cascade {
-            lines: other,
-            words: count,
-        } => {
-            if lines != other {
-                return FilesAnswer::Refused {
-                    why: Refusal::line_counts_differ(),
-                    file: 0,
-                };
-            }
-            FilesAnswer::Cascades {
-                lines,
-                first: words,
-                second: count,
-            }
+impl<'a> PairRead<'a> {
+    ghost use Rattle.std.specs.Prelude.{◌≡◌, ◌≤◌, length};
+    ghost use Rattle.text.specs.Compare.{file_words, files_of};
+    ghost use Rattle.text.specs.FileOutcome.{answer_of, map_answer};
+    ghost use Rattle.text.specs.private.Files.{pair_of};
+
+    // The cascades of two files; else what is wrong with them.
+    #[tactic(auto, unfolding(crate::specs::Compare::files_of, crate::specs::Compare::second_file))]
+    pub(crate) fn read(
+        first: &[u8],
+        second: &[u8],
+        a: &'a mut [u64],
+        b: &'a mut [u64],
+    ) -> Result<PairRead<'a>, FileRefusal>
+        requires first_room { file_words ≤ length a.old }
+        requires second_room { file_words ≤ length b.old }
+        ensures { map_answer pair_of (answer_of result) ≡ files_of first.now second.now }
+    {
+        if crate::MAX_FILE < first.len() {
+            return Err(FileRefusal::both(Refusal::NoRoom));
         }
-    }
-}
-
-// The cascades of two files; else what is wrong with them.
-pub(crate) fn read_files(first: &[u8], second: &[u8], a: &mut [u64], b: &mut [u64]) -> FilesAnswer
-    requires first_room { file_words ≤ length a.old }
-    requires second_room { file_words ≤ length b.old }
-    ensures { SaysFiles result a.new b.new (files_of first.now second.now) }
-{
-    if crate::MAX_FILE < first.len() {
-        return FilesAnswer::Refused {
-            why: Refusal::no_room(),
-            file: 0,
-        };
-    }
-    if crate::MAX_FILE < second.len() {
-        return FilesAnswer::Refused {
-            why: Refusal::no_room(),
-            file: 0,
-        };
-    }
-    match read_whole(first, a) {
-        WholeAnswer::Refused(why) => FilesAnswer::Refused { why, file: 1 },
-        WholeAnswer::Cascade { lines, words } => read_second(lines, words, second, a, b),
+        if crate::MAX_FILE < second.len() {
+            return Err(FileRefusal::both(Refusal::NoRoom));
+        }
+        let first = File::First.of(CascadeRead::read(first, a))?;
+        let second = File::Second.of(CascadeRead::read(second, b))?;
+        if first.lines != second.lines {
+            return Err(FileRefusal::both(Refusal::LineCountsDiffer));
+        }
+        Ok(PairRead { first, second })
     }
 }

@@ -4,7 +4,6 @@ ghost use Rattle.std.specs.Prelude.{◌≤◌, length};
 ghost use Rattle.bits.specs.Lists.{Put};
 ghost use Rattle.text.specs.Tomiter.{max_text, tomiter_text};
 
-use crate::list::ListAnswer;
 use checking::clauses::ClauseWord;
 
 // The words of the clause buffer.
@@ -17,12 +16,16 @@ pub(crate) fn put_text(out: &mut [u8], input: &[u8]) -> usize
 {
     let mut clauses: [ClauseWord; CLAUSE_WORDS] = [0; CLAUSE_WORDS];
     match crate::list::list(input, &mut clauses) {
-        ListAnswer::Refused { why, file } => {
-            crate::put::put_three(out, b"refused\t", why.number, file, why.place)
-        }
-        ListAnswer::Listed(totals) => {
+        Ok(totals) => {
             let end = totals.words as usize;
             crate::stored::put_list(out, totals.variables, totals.clauses, &clauses[..end])
         }
+        Err(r) => crate::put::put_three(
+            out,
+            b"refused\t",
+            r.why.number(),
+            r.file.number(),
+            r.why.place(),
+        ),
     }
 }

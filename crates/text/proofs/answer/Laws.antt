@@ -6,11 +6,10 @@ use native.Mathlib.Omega.{arith}
 use lib.ListN.{length, length-append}
 use borrow.Author.Tests.{le-leb, lt-leb}
 use Rattle.bits.specs.Lists.{Put}
-use Rattle.circuit.specs.declared.refusal.Refusal.{Refusal}
 use Rattle.circuit.specs.Outcome.{Outcome, served, refused, written, Yields}
-use Rattle.circuit.specs.Refusal.{refusal, no_room}
+use Rattle.circuit.specs.Refusal.{no_room}
 use Rattle.circuit.specs.Text.{tab, line_feed}
-use Rattle.circuit.proofs.Promises.{demand_met, demand_failed, told, why}
+use Rattle.circuit.proofs.Promises.{demand_met, demand_failed, told}
 use Rattle.text.specs.Dimacs.{blank, decimal, header_text}
 use Rattle.text.specs.FileOutcome.{refused_word, numbers_text, refusal_text}
 use Rattle.text.specs.Answers.{fit_outcome, fit_buffer}
@@ -28,9 +27,9 @@ unfolding fit_outcome
 fit_short text room h = demand_failed _ _ _ _ (lt-leb (length text) room h)
 
 module _ (text out : List ℕ) where
-  pub fit_refused : (r : Refusal) → r ≡ refusal no_room 0 → length out < length text → Yields (refused r.number r.place) out (fit_outcome text (length out)) (fit_buffer text out)
+  pub fit_refused : length out < length text → Yields (refused no_room 0) out (fit_outcome text (length out)) (fit_buffer text out)
   unfolding fit_buffer
-  fit_refused r e h = told text out _ out (fit_outcome text (length out)) (refused no_room 0) (why e) (fit_short text (length out) h) refl
+  fit_refused h = told text out _ out (fit_outcome text (length out)) (refused no_room 0) refl (fit_short text (length out) h) refl
 
   pub fit_put : (k : ℕ) (last : List ℕ) → Put k last text out → length text ≤ length out → Yields (served k) last (fit_outcome text (length out)) (fit_buffer text out)
   unfolding fit_buffer

@@ -10,10 +10,11 @@ use lib.Seq.{length-take-le, take-append-le}
 use borrow.Author.Tests.{eq-eqb, ne_eqb, le-leb, lt-leb, leb-false}
 use Rattle.bits.proofs.Bools.{either, cond-true, cond-false}
 use Rattle.circuit.specs.declared.gate.Gate.{Gate}
-use Rattle.circuit.specs.declared.refusal.Refusal.{Refusal}
+use Rattle.std.proofs.Common.{Result, Ok, Err}
+use Rattle.circuit.specs.declared.refusal.Refusal.TheVariants.{NoRoom}
 use Rattle.circuit.specs.Gate.{max_miter_gates}
 use Rattle.circuit.specs.Outcome.{Outcome, served, refused}
-use Rattle.circuit.specs.Refusal.{refusal, no_room}
+use Rattle.circuit.specs.Refusal.{no_room, refusal_number, refusal_place}
 use Rattle.circuit.specs.Words.{gates_of, Cascade}
 use Rattle.circuit.proofs.Promises.{never, demand_met, demand_failed, gates_length, served_pair}
 use Rattle.checking.specs.declared.clauses.Totals.{Totals}
@@ -23,14 +24,15 @@ use Rattle.checking.specs.Clauses.{Clause, clauses_of}
 use Rattle.checking.specs.Stored.{stored}
 use Rattle.checking.specs.Emit.{emit_outcome, emit_buffer}
 use Rattle.checking.proofs.Promises.{reduce_laws, difference_made, emit_cascade}
-use Rattle.text.specs.declared.comparison.ComparedAnswer.{ComparedAnswer}
-use Rattle.text.specs.declared.comparison.ComparedAnswer.TheVariants as answer
-use Rattle.text.specs.declared.pair.FilesAnswer.TheVariants as files
+use Rattle.text.specs.declared.comparison.Compared.{Compared}
+use Rattle.text.specs.declared.comparison.Compared.TheVariants.{Clauses}
+use Rattle.text.specs.declared.refused.FileRefusal.{FileRefusal}
+use Rattle.text.specs.declared.refused.File.TheVariants.{Both}
 use Rattle.text.specs.private.Lists.{FileWords, ListStands}
 use Rattle.text.specs.Formula.{formula_of}
-use Rattle.text.specs.FileOutcome.{FileOutcome, answered, refused_at}
-use Rattle.text.specs.Compare.{max_list, Comparison, reduced, unsolved, gates_left, swept_as, list_as, compared, files_of, compared_files, comparison}
-use Rattle.text.specs.private.Comparing.{MiterWords, MiterCascade, LeftIn, SaysFiles, SaysCompared, SaysAny}
+use Rattle.text.specs.FileOutcome.{FileOutcome, answered, refused_at, file_number}
+use Rattle.text.specs.Compare.{max_list, Comparison, reduced, unsolved, gates_left, swept_as, list_as, compared}
+use Rattle.text.specs.private.Comparing.{MiterWords, MiterCascade, LeftIn, SaysCompared, SaysAny}
 use Rattle.text.proofs.FileOutcome.{both_met, both_failed}
 use Rattle.text.proofs.list.Laws.{emit_stands}
 use Rattle.text.proofs.stored.Laws.{stored_in_lem}
@@ -74,17 +76,17 @@ module _ (n gates : ℕ) (room : List ℕ) (m : MiterWords n gates room) where
 
 -- ---- the sweep
 
-module _ (n : ℕ) (a b : List ℕ) (wa : FileWords n a) (wb : FileWords n b) (few : n ≤ max_sweep_lines) where
-  difference_is : difference_outcome n a n b ≡ served (lowest_from (gates_of a) (gates_of b) 0 (2 ^ n))
-  difference_is = difference_made n a n b _ (served_pair n a n b (record { first = wa.count; second = wb.count }) (record { first_good = wa.cascade; second_good = wb.cascade; lines = refl })) few
+module _ (n m : ℕ) (a b : List ℕ) (wa : FileWords n a) (wb : FileWords m b) (same : n ≡ m) (few : n ≤ max_sweep_lines) where
+  difference_is : difference_outcome n a m b ≡ served (lowest_from (gates_of a) (gates_of b) 0 (2 ^ n))
+  difference_is = difference_made n a m b _ (served_pair n a m b (record { first = wa.count; second = wb.count }) (record { first_good = wa.cascade; second_good = wb.cascade; lines = same })) few
 
-  pub swept_as_lem : (r : ComparedAnswer) (d : Difference) (o : Outcome Difference) → o ≡ served d → o ≡ difference_outcome n a n b
-      → ((clauses : List ℤ) → SaysCompared r clauses (answered (swept_as (gates_of a) (gates_of b) d))) → SaysAny r (swept_as (gates_of a) (gates_of b) (lowest_from (gates_of a) (gates_of b) 0 (2 ^ n)))
+  pub swept_as_lem : (r : Compared) (d : Difference) (o : Outcome Difference) → o ≡ served d → o ≡ difference_outcome n a m b
+      → ((clauses : List ℤ) → SaysCompared (Ok r) clauses (answered (swept_as (gates_of a) (gates_of b) d))) → SaysAny r (swept_as (gates_of a) (gates_of b) (lowest_from (gates_of a) (gates_of b) 0 (2 ^ n)))
   swept_as_lem r d o e f s =
       let g : d ≡ lowest_from (gates_of a) (gates_of b) 0 (2 ^ n) = let h = sym e ∙ f ∙ difference_is in cc in
-      record { says = λ clauses. subst (λ (x : Difference). SaysCompared r clauses (answered (swept_as (gates_of a) (gates_of b) x))) g (s clauses) }
+      record { says = λ clauses. subst (λ (x : Difference). SaysCompared (Ok r) clauses (answered (swept_as (gates_of a) (gates_of b) x))) g (s clauses) }
 
-  pub never_refused : {P : Type 0} (o : Outcome Difference) (number place : ℕ) → o ≡ refused number place → o ≡ difference_outcome n a n b → P
+  pub never_refused : {P : Type 0} (o : Outcome Difference) (number place : ℕ) → o ≡ refused number place → o ≡ difference_outcome n a m b → P
   never_refused o number place e f = absurd (never difference_is (sym f ∙ e))
 
 -- ---- the clause list
@@ -105,23 +107,23 @@ module _ (n : ℕ) (ws : List ℕ) (m : MiterCascade n ws) where
   list_fits h = both_met (leb (length (stored cs)) max_list) _ _ (le-leb (length (stored cs)) max_list h)
 
   -- a refusal says the refusal that it is
-  says_long : (why : Refusal) (clauses : List ℤ) → ◌≡◌ {A = Outcome ℕ} (refused why.number why.place) (refused no_room 0) → max_list < length (stored cs)
-      → SaysCompared (answer.Refused why 0) clauses (list_as n gs)
-  says_long why clauses e h =
-      let x : why.number ≡ no_room = cc in
-      let y : why.place ≡ 0 = cc in
-      record { is = ap₂ (λ (number place : ℕ). refused_at number 0 place) x y ∙ sym (list_long h); ready = tt }
+  says_long : (r : FileRefusal) → file_number r.file ≡ 0 → (clauses : List ℤ) → ◌≡◌ {A = Outcome ℕ} (refused (refusal_number r.why) (refusal_place r.why)) (refused no_room 0) → max_list < length (stored cs)
+      → SaysCompared (Err r) clauses (list_as n gs)
+  says_long r z clauses e h =
+      let x : (refusal_number r.why) ≡ no_room = cc in
+      let y : (refusal_place r.why) ≡ 0 = cc in
+      record { is = ap₂ (λ (number place : ℕ). refused_at number (file_number r.file) place) x y ∙ ap (λ (file : ℕ). refused_at no_room file 0) z ∙ sym (list_long h); ready = tt }
 
-  pub list_refused : (why : Refusal) (clauses : List ℤ) (room : ℕ) → max_list ≤ room → emit_outcome n ws room ≡ refused why.number why.place
-      → SaysCompared (answer.Refused why 0) clauses (list_as n gs)
-  list_refused why clauses room h e =
+  pub list_refused : (r : FileRefusal) → file_number r.file ≡ 0 → (clauses : List ℤ) (room : ℕ) → max_list ≤ room → emit_outcome n ws room ≡ refused (refusal_number r.why) (refusal_place r.why)
+      → SaysCompared (Err r) clauses (list_as n gs)
+  list_refused r z clauses room h e =
       either (leb (length (stored cs)) room)
       (λ t. absurd (never (emit_cascade n ws m.count m.cascade room ∙ demand_met _ _ _ _ t) e))
       (λ t.
       let f = sym e ∙ emit_cascade n ws m.count m.cascade room ∙ demand_failed _ _ _ _ t in
-      let x : why.number ≡ no_room = cc in
-      let y : why.place ≡ 0 = cc in
-      says_long why clauses (ap₂ refused x y) (omega (arith, leb-false (length (stored cs)) room t)))
+      let x : (refusal_number r.why) ≡ no_room = cc in
+      let y : (refusal_place r.why) ≡ 0 = cc in
+      says_long r z clauses (ap₂ refused x y) (omega (arith, leb-false (length (stored cs)) room t)))
 
   module _ (t : Totals) (buffer out : List ℤ) (o : emit_outcome n ws (length out) ≡ served t) (b : buffer ≡ emit_buffer n ws out) where
     st : ListStands t buffer (formula_of n gs)
@@ -130,10 +132,10 @@ module _ (n : ℕ) (ws : List ℕ) (m : MiterCascade n ws) where
     words_are : t.words ≡ length (stored cs)
     words_are = sym (length-take-le t.words buffer st.inside) ∙ ap length st.words
 
-    pub list_over : (why : Refusal) (clauses : List ℤ) → max_list < t.words → why ≡ refusal no_room 0 → SaysCompared (answer.Refused why 0) clauses (list_as n gs)
-    list_over why clauses h e = says_long why clauses (ap (λ (r : Refusal). refused r.number r.place) e) (omega (arith, words_are))
+    pub list_over : (clauses : List ℤ) → max_list < t.words → SaysCompared (Err (record { why = NoRoom; file = Both })) clauses (list_as n gs)
+    list_over clauses h = says_long (record { why = NoRoom; file = Both }) refl clauses refl (omega (arith, words_are))
 
-    pub list_listed : t.words ≤ max_list → SaysCompared (answer.Clauses t) buffer (list_as n gs)
+    pub list_listed : t.words ≤ max_list → SaysCompared (Ok (Clauses t)) buffer (list_as n gs)
     list_listed h =
         record {
           is =
@@ -168,18 +170,5 @@ module _ (n : ℕ) (a b : List Gate) (k : ℕ) (room : List ℕ) (l : LeftIn n k
     by_clauses h = cond-false (eqb (length (gates_left a b)) 0) _ _ (ne_eqb _ _ (λ e. some (sym left_count ∙ e))) ∙ cond-false (leb n max_sweep_lines) _ _ (lt-leb n max_sweep_lines h)
 
 -- the same comparison, said in another way
-pub says_as : (r : ComparedAnswer) (clauses : List ℤ) (x y : FileOutcome Comparison) → x ≡ y → SaysCompared r clauses y → SaysCompared r clauses x
+pub says_as : (r : Result Compared FileRefusal) (clauses : List ℤ) (x y : FileOutcome Comparison) → x ≡ y → SaysCompared r clauses y → SaysCompared r clauses x
 says_as r clauses x y e s = subst (SaysCompared r clauses) (sym e) s
-
--- ---- two files
-
-module _ (first second : List ℕ) where
-  pub refused_as : (why : Refusal) (file : ℕ) (clauses : List ℤ) (a b : List ℕ) → SaysFiles (files.Refused why file) a b (files_of first second)
-      → SaysCompared (answer.Refused why file) clauses (comparison first second)
-  unfolding comparison
-  refused_as why file clauses a b s = record { is = ap compared_files s.is; ready = tt }
-
-  pub compared_as : (n i j : ℕ) (a b : List ℕ) → SaysFiles (files.Cascades n i j) a b (files_of first second) → (r : ComparedAnswer) (clauses : List ℤ)
-      → SaysCompared r clauses (compared n (gates_of (take i a)) (gates_of (take j b))) → SaysCompared r clauses (comparison first second)
-  unfolding comparison
-  compared_as n i j a b s r clauses t = says_as r clauses _ _ (sym (ap compared_files s.is)) t

@@ -15,21 +15,18 @@ use borrow.Author.Tests.{le-leb, lt-leb, eq-eqb, ne_eqb}
 use Rattle.bits.specs.Lists.{over, Put}
 use Rattle.bits.proofs.Bools.{both, and_second, cond-true, cond-false}
 use Rattle.bits.proofs.Lists.{over_prefix}
-use Rattle.circuit.specs.declared.refusal.Refusal.{Refusal}
-use Rattle.circuit.specs.Outcome.{Outcome, refused, Yields}
-use Rattle.circuit.specs.Refusal.{refusal, no_room}
-use Rattle.circuit.proofs.Promises.{demand_met, demand_failed, told, why}
+use Rattle.circuit.specs.Outcome.{Outcome, Yields}
+use Rattle.circuit.proofs.Promises.{demand_met}
 use Rattle.circuit.specs.Words.{gates_of}
 use Rattle.circuit.specs.Text.{tab, line_feed, digit}
 use Rattle.text.specs.Dimacs.{then_read}
-use Rattle.text.specs.declared.pair.FilesAnswer.TheVariants as files
-use Rattle.text.specs.declared.input.CheckedAnswer.{CheckedAnswer}
-use Rattle.text.specs.declared.input.CheckedAnswer.TheVariants as answer
+use Rattle.std.proofs.Common.{Result}
+use Rattle.text.specs.declared.input.Outputs.{Outputs}
+use Rattle.text.specs.declared.refused.FileRefusal.{FileRefusal}
 use Rattle.text.specs.Answers.{fit_outcome, fit_buffer}
-use Rattle.text.specs.FileOutcome.{FileOutcome}
-use Rattle.text.specs.Compare.{file_words, CascadePair, files_of, differ_word}
-use Rattle.text.specs.private.Comparing.{SaysFiles}
-use Rattle.text.specs.private.Checking.{of_checked, SaysChecked}
+use Rattle.text.specs.FileOutcome.{answer_of}
+use Rattle.text.specs.Compare.{file_words, differ_word}
+use Rattle.text.specs.private.Checking.{SaysChecked}
 use Rattle.text.specs.CheckInput.{state_text, state_read, agree_word, outputs_text, checked_on, checked_files, checked, checked_text, check_text, input_outcome, input_buffer}
 use Rattle.text.proofs.answer.Laws.{fit_told}
 
@@ -207,43 +204,19 @@ size_by false = refl
 pub size_is : (n first second : ℕ) → length (outputs_text n first second) ≡ 2 * n + 8 + bool_byte (not (eqb first second))
 size_is n first second = omega (arith, (parts n first second).sum, size_by (eqb first second))
 
--- ---- an answer that is known
-
-module _ (first second state : List ℕ) where
-  pub refused_checked : (why : Refusal) (file : ℕ) (a b : List ℕ) → SaysFiles (files.Refused why file) a b (files_of first second) → SaysChecked (answer.Refused why file) (checked first second state)
-  unfolding checked
-  refused_checked why file a b s = record { is = ap (λ (f : FileOutcome CascadePair). checked_files f state) s.is; ready = tt }
-
-  pub said_checked : (n i j : ℕ) (a b : List ℕ) → SaysFiles (files.Cascades n i j) a b (files_of first second) → (r : CheckedAnswer)
-      → SaysChecked r (checked_on n (gates_of (take i a)) (gates_of (take j b)) (state_read n state)) → SaysChecked r (checked first second state)
-  unfolding checked
-  said_checked n i j a b s r t = subst (SaysChecked r) (ap (λ (f : FileOutcome CascadePair). checked_files f state) s.is) t
-
 -- ---- the call, by the rooms that are lent
 
 module _ (first second state : List ℕ) (room_a room_b : ℕ) (out : List ℕ) where
   abbrev outcome : Outcome ℕ
   outcome = input_outcome first second state room_a room_b (length out)
 
-  refused_told : (r : Refusal) → r ≡ refusal no_room 0 → outcome ≡ refused no_room 0 → Yields (refused r.number r.place) out outcome (input_buffer first second state room_a room_b out)
-  unfolding input_buffer
-  refused_told r e f = told (check_text first second state) out _ out outcome (refused no_room 0) (why e) f refl
-
-  pub first_short : (r : Refusal) → r ≡ refusal no_room 0 → room_a < file_words → Yields (refused r.number r.place) out outcome (input_buffer first second state room_a room_b out)
-  unfolding input_outcome
-  first_short r e h = refused_told r e (demand_failed _ _ _ _ (lt-leb file_words room_a h))
-
   module _ (good : file_words ≤ room_a) where
-    pub second_short : (r : Refusal) → r ≡ refusal no_room 0 → room_b < file_words → Yields (refused r.number r.place) out outcome (input_buffer first second state room_a room_b out)
-    unfolding input_outcome
-    second_short r e h = refused_told r e (demand_met _ _ _ _ (le-leb file_words room_a good) ∙ demand_failed _ _ _ _ (lt-leb file_words room_b h))
-
     module _ (good-2 : file_words ≤ room_b) where
       pub rooms_good : outcome ≡ fit_outcome (check_text first second state) (length out)
       unfolding input_outcome
       rooms_good = demand_met _ _ _ _ (le-leb file_words room_a good) ∙ demand_met _ _ _ _ (le-leb file_words room_b good-2)
 
-      pub checked_told : (x : CheckedAnswer) → SaysChecked x (checked first second state) → (r : Outcome ℕ) (last : List ℕ)
-          → Yields r last (fit_outcome (checked_text (of_checked x)) (length out)) (fit_buffer (checked_text (of_checked x)) out) → Yields r last outcome (input_buffer first second state room_a room_b out)
+      pub checked_told : (x : Result Outputs FileRefusal) → SaysChecked x (checked first second state) → (r : Outcome ℕ) (last : List ℕ)
+          → Yields r last (fit_outcome (checked_text (answer_of x)) (length out)) (fit_buffer (checked_text (answer_of x)) out) → Yields r last outcome (input_buffer first second state room_a room_b out)
       unfolding input_buffer check_text
       checked_told x s r last y = fit_told _ (check_text first second state) out outcome r last (ap checked_text s.is) rooms_good y

@@ -2,7 +2,7 @@
 use mathlib.Core.Path.{◌≡◌, refl, sym, ap, ap₂, subst, ◌∙◌}
 use mathlib.Core.Bool.{true, false}
 use mathlib.Core.List.{List, []}
-use Prim.Native.Nat.{ℕ, ◌+◌, ◌*◌, ◌≤◌, ◌<◌}
+use Prim.Native.Nat.{ℕ, ◌+◌, ◌*◌, ◌/◌, ◌≤◌, ◌<◌}
 use native.Mathlib.Omega.{arith}
 use lib.Dec.{eqb, leb}
 use lib.IntN.{ℤ}
@@ -13,10 +13,9 @@ use Rattle.bits.specs.Lists.{over}
 use Rattle.bits.proofs.Bools.{either}
 use Rattle.bits.proofs.Lists.{over_length}
 use Rattle.circuit.specs.declared.gate.Gate.{Gate}
-use Rattle.circuit.specs.declared.refusal.Refusal.{Refusal}
 use Rattle.circuit.specs.Gate.{max_gates, max_miter_gates}
 use Rattle.circuit.specs.Outcome.{Outcome, served, refused, demand, before, then, fails}
-use Rattle.circuit.specs.Refusal.{line_counts_differ, no_room}
+use Rattle.circuit.specs.Refusal.{line_counts_differ, no_room, refusal_number, refusal_place}
 use Rattle.circuit.specs.Words.{gates_of, words_of, Cascade}
 use Rattle.circuit.proofs.Promises.{never, demand_met, demand_failed, gates_length, gates_words, words_length, pair_refused, reader, read_served, read_refused, read_leaves}
 use Rattle.circuit.specs.Text.{text_of}
@@ -29,30 +28,36 @@ use Rattle.checking.specs.Clauses.{Clause, clauses_of, variables_of}
 use Rattle.checking.specs.Stored.{stored}
 use Rattle.checking.specs.Sizes.{totals}
 use Rattle.checking.specs.Emit.{emit_outcome, emit_buffer}
-use Rattle.checking.specs.Check.{calls_of, checked_outcome, clauses_left}
+use Rattle.checking.specs.Check.{checked_outcome, clauses_left}
 use Rattle.checking.proofs.Promises.{miter_laws, miter_refused, uncalled_refused, uncalled_served, uncalled_clauses, emit_laws, emit_cascade}
-use Rattle.text.specs.declared.list.ListAnswer.{ListAnswer}
-use Rattle.text.specs.declared.list.ListAnswer.TheVariants as list
+use Rattle.std.proofs.Common.{Result, Ok, Err}
+use Rattle.text.specs.declared.refused.FileRefusal.{FileRefusal}
 use Rattle.text.specs.WholeFile.{whole_file}
 use Rattle.text.specs.Formula.{Formula, formula_of}
-use Rattle.text.specs.FileOutcome.{FileOutcome, answered, refused_at}
+use Rattle.text.specs.FileOutcome.{FileOutcome, answered, refused_at, of_file, file_number, answer_of}
 use Rattle.text.specs.Tomiter.{max_input, max_words, list_verdict, pair_verdict, second_verdict, verdict}
 use Rattle.text.specs.Compare.{file_words, miter_words}
 use Rattle.text.specs.private.Lists.{FileWords, ListStands, Delivers}
-use Rattle.text.proofs.FileOutcome.{both_met, both_failed, file_served, file_refused}
+use Rattle.text.proofs.FileOutcome.{both_met, both_failed, file_served, file_refused, said, said_wrong}
 use Rattle.text.proofs.plain.Short.{list_short, list_within}
 
 -- the same verdict, said in another way
-pub says_as : (r : ListAnswer) (buffer : List ℤ) (v w : FileOutcome Formula) → v ≡ w → Delivers r buffer w → Delivers r buffer v
+pub says_as : (r : Result Totals FileRefusal) (buffer : List ℤ) (v w : FileOutcome Formula) → v ≡ w → Delivers r buffer w → Delivers r buffer v
 says_as r buffer v w e s = subst (Delivers r buffer) (sym e) s
 
 -- a refusal says the verdict that it is
-pub says_refusal : {A : Type 0} (why : Refusal) (file : ℕ) (buffer : List ℤ) (v : FileOutcome Formula) (number place : ℕ) → v ≡ refused_at number file place
-    → ◌≡◌ {A = Outcome A} (refused why.number why.place) (refused number place) → Delivers (list.Refused why file) buffer v
-says_refusal why file buffer v number place e f =
-    let n : why.number ≡ number = cc in
-    let p : why.place ≡ place = cc in
-    says_as (list.Refused why file) buffer v _ e (n, refl, p)
+pub says_refusal : {A : Type 0} (r : FileRefusal) (buffer : List ℤ) (v : FileOutcome Formula) (number file place : ℕ) → v ≡ refused_at number file place → file_number r.file ≡ file
+    → ◌≡◌ {A = Outcome A} (refused (refusal_number r.why) (refusal_place r.why)) (refused number place) → Delivers (Err r) buffer v
+says_refusal r buffer v number file place e z f =
+    let n : refusal_number r.why ≡ number = cc in
+    let p : refusal_place r.why ≡ place = cc in
+    says_as (Err r) buffer v _ e (n, z, p)
+
+-- what was said of a file
+pub says_file : {A : Type 0} (r : FileRefusal) (file : ℕ) (o : Outcome A) (buffer : List ℤ) (v : FileOutcome Formula)
+    → refused_at (refusal_number r.why) (file_number r.file) (refusal_place r.why) ≡ of_file file o answered
+    → ((number place : ℕ) → o ≡ refused number place → v ≡ refused_at number file place) → Delivers (Err r) buffer v
+says_file r file o buffer v e f = let (z, g) = said_wrong file o _ _ _ e in says_as (Err r) buffer v _ (f _ _ g) (refl, z, refl)
 
 -- ---- the clause list
 
@@ -94,16 +99,16 @@ module _ (n : ℕ) (ws : List ℕ) (k : ℕ) (c : Cascade n ws max_miter_gates k
     emit_at : emit_outcome n ws room ≡ demand (leb (length (stored cs)) max_words) no_room 0 (served (totals (variables_of n gs) (length cs) (length (stored cs))))
     emit_at = emit_cascade n ws k c room ∙ ap (λ (m : ℕ). demand (leb (length (stored cs)) m) no_room 0 (served (totals (variables_of n gs) (length cs) (length (stored cs))))) long
 
-    pub list_bad : (why : Refusal) (buffer : List ℤ) → emit_outcome n ws room ≡ refused why.number why.place → Delivers (list.Refused why 0) buffer (list_verdict n gs)
-    list_bad why buffer e =
+    pub list_bad : (r : FileRefusal) → file_number r.file ≡ 0 → (buffer : List ℤ) → emit_outcome n ws room ≡ refused (refusal_number r.why) (refusal_place r.why) → Delivers (Err r) buffer (list_verdict n gs)
+    list_bad r z buffer e =
         either (leb (length (stored cs)) max_words)
         (λ t. absurd (never (emit_at ∙ demand_met _ _ _ _ t) e))
-        (λ t. says_refusal why 0 buffer (list_verdict n gs) no_room 0 (list_over t) (sym e ∙ emit_at ∙ demand_failed _ _ _ _ t))
+        (λ t. says_refusal r buffer (list_verdict n gs) no_room 0 0 (list_over t) z (sym e ∙ emit_at ∙ demand_failed _ _ _ _ t))
 
-    pub list_good : (t : Totals) (buffer out : List ℤ) → length out ≡ room → emit_outcome n ws (length out) ≡ served t → buffer ≡ emit_buffer n ws out → Delivers (list.Listed t) buffer (list_verdict n gs)
+    pub list_good : (t : Totals) (buffer out : List ℤ) → length out ≡ room → emit_outcome n ws (length out) ≡ served t → buffer ≡ emit_buffer n ws out → Delivers (Ok t) buffer (list_verdict n gs)
     list_good t buffer out size o b =
         either (leb (length (stored cs)) max_words)
-        (λ x. says_as (list.Listed t) buffer _ _ (list_fits x) (emit_stands t buffer out o b))
+        (λ x. says_as (Ok t) buffer _ _ (list_fits x) (emit_stands t buffer out o b))
         (λ x. absurd (never (ap (emit_outcome n ws) (sym size) ∙ o) (emit_at ∙ demand_failed _ _ _ _ x)))
 
 -- ---- two cascades
@@ -137,7 +142,7 @@ module _ (na : ℕ) (a : List ℕ) (nb : ℕ) (b : List ℕ) (wa : FileWords na 
   pair_listed e = both_met (eqb na nb) _ _ (eq-eqb na nb e)
 
   -- by the miter's clauses, after no call
-  module _ (work : List ℕ) (lent : length work ≡ room) (out : List ℤ) (size : length out ≡ max_words) (o : Outcome Totals) (told : o ≡ checked_outcome na a nb b (calls_of []) work (length out)) where
+  module _ (work : List ℕ) (lent : length work ≡ room) (out : List ℤ) (size : length out ≡ max_words) (o : Outcome Totals) (told : o ≡ checked_outcome na a nb b [] work (length out)) where
     module _ (e : na ≡ nb) where
       served_at : miter_outcome na a nb b (length work) ≡ served (wa.count + wb.count)
       served_at = ap (miter_outcome na a nb b) lent ∙ miter_made e
@@ -157,25 +162,31 @@ module _ (na : ℕ) (a : List ℕ) (nb : ℕ) (b : List ℕ) (wa : FileWords na 
     refused_at_lem : (na ≡ nb → ⊥) → o ≡ refused line_counts_differ 0
     refused_at_lem h = told ∙ uncalled_refused na a nb b work line_counts_differ 0 (length out) (ap (miter_outcome na a nb b) lent ∙ miter_differs h)
 
-    pub pair_bad : (why : Refusal) (buffer : List ℤ) → o ≡ refused why.number why.place → Delivers (list.Refused why 0) buffer (pair_verdict na (gates_of a) nb (gates_of b))
-    pair_bad why buffer r =
+    pub pair_bad : (r : FileRefusal) → file_number r.file ≡ 0 → (buffer : List ℤ) → o ≡ refused (refusal_number r.why) (refusal_place r.why) → Delivers (Err r) buffer (pair_verdict na (gates_of a) nb (gates_of b))
+    pair_bad r z buffer f =
         either (eqb na nb)
         (λ t.
         let e = eqb-true na nb t in
-        says_as (list.Refused why 0) buffer _ _ (verdict_is e) (list_bad na (miter e) _ (stands e) (length out) size why buffer (emitted e ∙ r)))
+        says_as (Err r) buffer _ _ (verdict_is e) (list_bad na (miter e) _ (stands e) (length out) size r z buffer (emitted e ∙ f)))
         (λ t.
         let h = eqb-false na nb t in
-        says_refusal why 0 buffer _ line_counts_differ 0 (pair_differs h) (sym r ∙ refused_at_lem h))
+        says_refusal r buffer _ line_counts_differ 0 0 (pair_differs h) z (sym f ∙ refused_at_lem h))
 
-    pub pair_good : (t : Totals) (buffer : List ℤ) → o ≡ served t → buffer ≡ clauses_left (miter_outcome na a nb b (length work)) na a nb b (calls_of []) work out
-        → Delivers (list.Listed t) buffer (pair_verdict na (gates_of a) nb (gates_of b))
+    pub pair_good : (t : Totals) (buffer : List ℤ) → o ≡ served t → buffer ≡ clauses_left (miter_outcome na a nb b (length work)) na a nb b [] work out
+        → Delivers (Ok t) buffer (pair_verdict na (gates_of a) nb (gates_of b))
     pair_good t buffer s is =
         either (eqb na nb)
         (λ x.
         let e = eqb-true na nb x in
-        says_as (list.Listed t) buffer _ _ (verdict_is e)
+        says_as (Ok t) buffer _ _ (verdict_is e)
         (list_good na (miter e) _ (stands e) (length out) size t buffer out refl (emitted e ∙ s) (is ∙ uncalled_clauses na a nb b work (wa.count + wb.count) (served_at e) out)))
         (λ x. absurd (never s (refused_at_lem (eqb-false na nb x))))
+
+    -- by what was said of both files
+    pub pair_delivers : (r : Result Totals FileRefusal) (buffer : List ℤ) → answer_of r ≡ of_file 0 o answered
+        → buffer ≡ clauses_left (miter_outcome na a nb b (length work)) na a nb b [] work out → Delivers r buffer (pair_verdict na (gates_of a) nb (gates_of b))
+    pair_delivers (Ok t) buffer e is = pair_good t buffer (said 0 o t e) is
+    pair_delivers (Err r) buffer e is = let (z, f) = said_wrong 0 o _ _ _ e in pair_bad r z buffer f
 
   pub mitered : (gates : ℕ) (buffer out : List ℕ) → length out ≡ room → miter_outcome na a nb b (length out) ≡ served gates → buffer ≡ miter_buffer na a nb b out → miter_words ≤ length buffer
       → Mitered na a nb b buffer gates
@@ -194,6 +205,13 @@ module _ (na : ℕ) (a : List ℕ) (nb : ℕ) (b : List ℕ) (wa : FileWords na 
       }
 
 -- ---- a file
+
+-- its words tell the count
+pub own_count : (n : ℕ) (ws : List ℕ) → FileWords n ws → Cascade n ws max_gates (length ws / 3)
+own_count n ws w = let c = w.cascade in let e : w.count ≡ length ws / 3 = omega (arith, c.size) in subst (Cascade n ws max_gates) e c
+
+pub own_words : (n : ℕ) (ws : List ℕ) → Cascade n ws max_gates (length ws / 3) → FileWords n ws
+own_words n ws c = record { count = length ws / 3; cascade = c }
 
 -- a file that was read: its cascade, the words in the buffer, and the bytes that were taken
 pub record FileRead (text : List ℕ) (lines gates taken : ℕ) (buffer : List ℕ) : Type 0 where

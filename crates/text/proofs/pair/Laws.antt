@@ -6,35 +6,13 @@ use lib.Dec.{eqb, leb}
 use lib.ListN.{length}
 use borrow.Author.Tests.{eq-eqb, ne_eqb, le-leb, lt-leb}
 use Rattle.circuit.specs.declared.gate.Gate.{Gate}
-use Rattle.circuit.specs.declared.refusal.Refusal.{Refusal}
 use Rattle.circuit.specs.Outcome.{Outcome, served, refused}
-use Rattle.circuit.specs.Refusal.{refusal, line_counts_differ, no_room}
+use Rattle.circuit.specs.Refusal.{line_counts_differ, no_room}
 use Rattle.circuit.specs.File.{Reading}
-use Rattle.text.specs.declared.pair.WholeAnswer.{WholeAnswer}
-use Rattle.text.specs.declared.pair.WholeAnswer.TheVariants as whole
-use Rattle.text.specs.declared.pair.FilesAnswer.TheVariants as files
 use Rattle.text.specs.WholeFile.{whole_file}
 use Rattle.text.specs.FileOutcome.{FileOutcome, answered, refused_at}
-use Rattle.text.specs.Compare.{max_file, CascadePair, cascades, second_file, files_of}
-use Rattle.text.specs.private.Comparing.{SaysWhole, SaysFiles}
-use Rattle.text.proofs.FileOutcome.{why_at, both_met, both_failed, file_served, file_refused}
-use Rattle.text.proofs.WholeFile.{whole_good}
-use Rattle.text.proofs.list.Laws.{FileRead}
-
--- ---- a file
-
-module _ (text : List ℕ) where
-  pub says_bad : (r : Refusal) (room : List ℕ) (bytes : ℕ) → whole_file text ≡ refused r.number r.place → SaysWhole (whole.Refused r) room bytes (whole_file text)
-  says_bad r room bytes e = record { is = sym e; ready = tt }
-
-  pub says_good : (lines gates taken : ℕ) (room : List ℕ) → FileRead text lines gates taken room → taken ≡ length text → SaysWhole (whole.Cascade lines (3 * gates)) room (length text) (whole_file text)
-  says_good lines gates taken room w h =
-      record {
-        is =
-            ap₂ (λ (gs : List Gate) (t : ℕ). served (record { lines = lines; gates = gs; taken = t })) w.gates_are (sym h)
-            ∙ sym (whole_good text _ w.is h);
-        ready = record { inside = w.inside; words = w.words };
-      }
+use Rattle.text.specs.Compare.{max_file, cascades, second_file, files_of}
+use Rattle.text.proofs.FileOutcome.{both_met, both_failed, file_served, file_refused}
 
 -- ---- the second file
 
@@ -79,11 +57,3 @@ module _ (first second : List ℕ) where
           both_met (leb (length first) max_file) _ _ (le-leb (length first) max_file short)
           ∙ both_met (leb (length second) max_file) _ _ (le-leb (length second) max_file short-2)
           ∙ file_served 1 (whole_file first) _ c e
-
--- a refusal says what is wrong
-pub says_wrong : (r : Refusal) (file : ℕ) (a b : List ℕ) (f : FileOutcome CascadePair) (number place : ℕ) → r ≡ refusal number place → f ≡ refused_at number file place → SaysFiles (files.Refused r file) a b f
-says_wrong r file a b f number place e g = record { is = why_at file e ∙ sym g; ready = tt }
-
--- what an answer says, where it is known
-pub told_whole : (r s : WholeAnswer) (room : List ℕ) (bytes : ℕ) (o : Outcome Reading) → SaysWhole r room bytes o → r ≡ s → SaysWhole s room bytes o
-told_whole r s room bytes o t e = subst (λ (x : WholeAnswer). SaysWhole x room bytes o) e t

@@ -7,12 +7,13 @@ use native.Mathlib.Omega.{arith}
 use lib.ListN.{length, take, drop}
 use lib.Seq.{take_at}
 use Rattle.bits.specs.Lists.{Put}
-use Rattle.circuit.specs.declared.refusal.Refusal.{Refusal}
+use Rattle.circuit.specs.Refusal.{refusal_place}
 use Rattle.checking.specs.declared.clauses.Totals.{Totals}
-use Rattle.text.specs.declared.list.ListAnswer.TheVariants as list
+use Rattle.std.proofs.Common.{Ok, Err}
+use Rattle.text.specs.declared.refused.FileRefusal.{FileRefusal}
 use Rattle.text.specs.Dimacs.{clauses_text, header_text, dimacs_of}
 use Rattle.text.specs.Formula.{Formula}
-use Rattle.text.specs.FileOutcome.{FileOutcome, answered, refused_at, refusal_text}
+use Rattle.text.specs.FileOutcome.{FileOutcome, answered, refused_at, refusal_text, refused_text}
 use Rattle.text.specs.private.Words.{stored_in, StoresList}
 use Rattle.text.specs.Tomiter.{verdict_text}
 use Rattle.text.specs.private.Lists.{Delivers}
@@ -20,11 +21,10 @@ use Rattle.text.specs.Compare.{max_list}
 use Rattle.text.proofs.stored.Laws.{stored_in_lem}
 use Rattle.text.proofs.plain.Short.{stands_stored}
 
-pub refusal_text_lem : (why : Refusal) (file : ℕ) (buffer : List ℤ) (v : FileOutcome Formula) → Delivers (list.Refused why file) buffer v
-    → refusal_text why.number file why.place ≡ verdict_text v
-refusal_text_lem why file buffer (answered f) s = absurd s
-refusal_text_lem why file buffer (refused_at number f place) (a, b, c) =
-    ap₂ (λ (x y : ℕ). refusal_text x y why.place) a b ∙ ap (refusal_text number f) c
+pub refusal_text_lem : (r : FileRefusal) (buffer : List ℤ) (v : FileOutcome Formula) → Delivers (Err r) buffer v → refused_text r ≡ verdict_text v
+refusal_text_lem r buffer (answered f) s = absurd s
+refusal_text_lem r buffer (refused_at number file place) (a, b, c) =
+    ap₂ (λ (x y : ℕ). refusal_text x y (refusal_place r.why)) a b ∙ ap (refusal_text number file) c
 
 -- the buffer's first words store the clauses of the text
 pub record Written (t : Totals) (buffer : List ℤ) (bytes : List ℕ) : Type 0 where
@@ -32,7 +32,7 @@ pub record Written (t : Totals) (buffer : List ℤ) (bytes : List ℕ) : Type 0 
   pub stores : StoresList (take t.words buffer)
   pub text : header_text t.variables t.clauses ++ clauses_text (stored_in (take t.words buffer)) ≡ bytes
 
-pub list_text : (t : Totals) (buffer : List ℤ) (v : FileOutcome Formula) → length buffer ≤ max_list → Delivers (list.Listed t) buffer v → Written t buffer (verdict_text v)
+pub list_text : (t : Totals) (buffer : List ℤ) (v : FileOutcome Formula) → length buffer ≤ max_list → Delivers (Ok t) buffer v → Written t buffer (verdict_text v)
 unfolding dimacs_of
 list_text t buffer (answered f) few s =
     record {

@@ -1,26 +1,21 @@
 -- For the contracts of the functions that check one input: what their answers say.
-use Rattle.std.specs.Prelude.{◌≡◌, ℕ, ◌≤◌}
+use Rattle.std.specs.Prelude.{◌≡◌, ℕ, ◌≤◌, Some, None, Result, Ok, Err}
+use Rattle.std.specs.declared.option.Option.{Option as Found}
 use Rattle.std.proofs.Math.Option.{Option, none, some}
 use Rattle.circuit.specs.Gate.{max_lines}
-use Rattle.text.specs.declared.input.StateAnswer.{StateAnswer}
-use Rattle.text.specs.declared.input.StateAnswer.TheVariants as state
-use Rattle.text.specs.declared.input.CheckedAnswer.{CheckedAnswer}
-use Rattle.text.specs.declared.input.CheckedAnswer.TheVariants as answer
-use Rattle.text.specs.FileOutcome.{FileOutcome, answered, refused_at}
-use Rattle.text.specs.CheckInput.{Outputs, outputs}
+use Rattle.text.specs.declared.input.Outputs.{Outputs}
+use Rattle.text.specs.declared.refused.FileRefusal.{FileRefusal}
+use Rattle.text.specs.FileOutcome.{FileOutcome, answer_of}
 
-abbrev pub of_state : StateAnswer → Option ℕ
-of_state (state.State x) = some x
-of_state state.Nothing = none
+abbrev pub of_state : Found ℕ → Option ℕ
+of_state (Some x) = some x
+of_state None = none
 
-abbrev pub of_checked : CheckedAnswer → FileOutcome Outputs
-of_checked (answer.Outputs lines first second) = answered (outputs lines first second)
-of_checked (answer.Refused why file) = refused_at why.number file why.place
+-- the lines that were answered are few
+abbrev pub CheckedReady : Result Outputs FileRefusal → Type 0
+CheckedReady (Ok outputs) = outputs.lines ≤ max_lines
+CheckedReady (Err r) = Unit {0}
 
-abbrev pub CheckedReady : CheckedAnswer → Type 0
-CheckedReady (answer.Outputs lines first second) = lines ≤ max_lines
-CheckedReady (answer.Refused why file) = Unit {0}
-
-pub record SaysChecked (r : CheckedAnswer) (c : FileOutcome Outputs) : Type 0 where
-  pub is : of_checked r ≡ c
+pub record SaysChecked (r : Result Outputs FileRefusal) (c : FileOutcome Outputs) : Type 0 where
+  pub is : answer_of r ≡ c
   pub ready : CheckedReady r

@@ -1,15 +1,15 @@
 -- For the contracts of the functions that fill the clause buffer.
-use Rattle.std.specs.Prelude.{◌≡◌, List, ℕ, ◌≤◌, ℤ, length, take}
+use Rattle.std.specs.Prelude.{◌≡◌, List, ℕ, ◌≤◌, ℤ, length, take, Result, Ok, Err}
 use Rattle.circuit.specs.Gate.{max_gates}
 use Rattle.circuit.specs.Words.{Cascade}
 use Rattle.checking.specs.declared.clauses.Totals.{Totals}
 use Rattle.checking.specs.Clauses.{max_variables}
 use Rattle.checking.specs.Satisfaction.{ClausesWithin}
 use Rattle.checking.specs.Stored.{stored}
-use Rattle.text.specs.declared.list.ListAnswer.{ListAnswer}
-use Rattle.text.specs.declared.list.ListAnswer.TheVariants as list
+use Rattle.circuit.specs.Refusal.{refusal_number, refusal_place}
+use Rattle.text.specs.declared.refused.FileRefusal.{FileRefusal}
 use Rattle.text.specs.Formula.{Formula}
-use Rattle.text.specs.FileOutcome.{FileOutcome, answered, refused_at}
+use Rattle.text.specs.FileOutcome.{FileOutcome, answered, refused_at, file_number}
 use Rattle.text.specs.private.Words.{AllShort}
 
 -- the words of a cascade on n lines that a file can hold
@@ -27,8 +27,8 @@ pub record ListStands (t : Totals) (buffer : List ℤ) (f : Formula) : Type 0 wh
   pub within : ClausesWithin max_variables f.clauses
 
 -- an answer and the clause buffer say a verdict
-abbrev pub Delivers : ListAnswer → List ℤ → FileOutcome Formula → Type 0
-Delivers (list.Listed t) buffer (answered f) = ListStands t buffer f
-Delivers (list.Listed t) buffer (refused_at number file place) = ⊥
-Delivers (list.Refused why f) buffer (answered l) = ⊥
-Delivers (list.Refused why f) buffer (refused_at number file place) = (why.number ≡ number) × (f ≡ file) × (why.place ≡ place)
+abbrev pub Delivers : Result Totals FileRefusal → List ℤ → FileOutcome Formula → Type 0
+Delivers (Ok t) buffer (answered f) = ListStands t buffer f
+Delivers (Ok t) buffer (refused_at number file place) = ⊥
+Delivers (Err r) buffer (answered f) = ⊥
+Delivers (Err r) buffer (refused_at number file place) = (refusal_number r.why ≡ number) × (file_number r.file ≡ file) × (refusal_place r.why ≡ place)

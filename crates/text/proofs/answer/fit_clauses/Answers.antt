@@ -39,9 +39,6 @@ long c =
 pub overflow_add-three_digits-2 : goal.overflow_add-three_digits-2
 overflow_add-three_digits-2 c = let t = sizing_start _ c.requires in omega (arith, bytes_are (goal.at.overflow_add-three_digits-2 c).After-list_sizes-sizes, t.bytes_few)
 
-pub returns-then-out-three_digits : goal.returns-then-out-three_digits
-returns-then-out-three_digits c = fit_refused (dimacs_of c.args.variables (plain_clauses (stored_in c.args.words.now))) c.args.out.now c.no_room.result c.no_room.ensures (omega (arith, long (goal.at.returns-then-out-three_digits c).After-list_sizes-sizes, c.three_digits.ensures.count, c.if-out-three_digits.true))
-
 pub put_list-requires : goal.put_list-requires
 put_list-requires c =
     record {
@@ -51,3 +48,6 @@ put_list-requires c =
 
 pub returns : goal.returns
 returns c = fit_put (dimacs_of c.args.variables (plain_clauses (stored_in c.args.words.now))) c.args.out.now _ _ (put_as _ _ _ _ _ (text_is (goal.at.returns c).After-list_sizes-sizes) c.put_list.ensures) (omega (arith, long (goal.at.returns c).After-list_sizes-sizes, c.three_digits.ensures.count, c.if-out-three_digits.false))
+
+pub returns-then-out-three_digits : goal.returns-then-out-three_digits
+returns-then-out-three_digits c = fit_refused (dimacs_of c.args.variables (plain_clauses (stored_in c.args.words.now))) c.args.out.now (omega (arith, long (goal.at.returns-then-out-three_digits c).After-list_sizes-sizes, c.three_digits.ensures.count, c.if-out-three_digits.true))

@@ -1,19 +1,20 @@
 -- `text::comparison::list_gates` meets its contract. Assumes nothing.
-use mathlib.Core.Path.{sym, ap, ◌∙◌}
-use native.Mathlib.Omega.{arith}
-use lib.ListN.{length}
-use Rattle.checking.specs.Emit.{of_emit}
+use Rattle.std.proofs.Common.{length, sym, ◌∙◌, arith}
+use Rattle.std.proofs.lemmas.Result.{err_from_is_err_and}
+use Rattle.text.proofs.FileOutcome.{said, said_wrong}
 use Rattle.text.proofs.comparison.Laws.{list_refused, list_over, list_listed}
 use Rattle.text.proofs.comparison.list_gates.Goals as goal
 
+pub returns-in_err-totals : goal.returns-in_err-totals
+returns-in_err-totals c =
+    let p = err_from_is_err_and c.from_residual.result c.from_residual.ensures.1 in
+    let (z, e) = said_wrong 0 _ _ _ _ c.in_err-totals.ensures in
+    rw (p.1, p.2) (list_refused _ _ c.requires.miter_cascade c.in_err-totals.field-0.0 z _ (length c.args.clauses.now) c.requires.clause_room (sym c.emit.ensures.answer ∙ e))
+
 pub returns-then-totals : goal.returns-then-totals
 returns-then-totals c =
-    list_over _ _ c.requires.miter_cascade c.in-Totals.totals _ _ (sym c.emit.ensures.answer ∙ ap of_emit c.in-Totals.is) c.emit.ensures.buffer c.no_room.result _ (omega arith) c.no_room.ensures
+    rw c.both.ensures (list_over _ _ c.requires.miter_cascade c.in_ok-totals.totals _ _ (sym c.emit.ensures.answer ∙ said 0 _ _ c.in_ok-totals.ensures) c.emit.ensures.buffer _ (omega arith))
 
-pub returns-in-Refused : goal.returns-in-Refused
-returns-in-Refused c =
-    list_refused _ _ c.requires.miter_cascade c.in-Refused.why _ (length c.args.clauses.now) c.requires.clause_room (sym c.emit.ensures.answer ∙ ap of_emit c.in-Refused.is)
-
-pub returns-else-totals : goal.returns-else-totals
-returns-else-totals c =
-    list_listed _ _ c.requires.miter_cascade c.in-Totals.totals _ _ (sym c.emit.ensures.answer ∙ ap of_emit c.in-Totals.is) c.emit.ensures.buffer (omega arith)
+pub returns : goal.returns
+returns c =
+    list_listed _ _ c.requires.miter_cascade c.in_ok-totals.totals _ _ (sym c.emit.ensures.answer ∙ said 0 _ _ c.in_ok-totals.ensures) c.emit.ensures.buffer (omega arith)

@@ -1,30 +1,28 @@
 -- `text::comparison::reduce_miter` meets its contract. Assumes nothing.
-use mathlib.Core.Path.{refl, sym, ap, subst, ◌∙◌}
-use mathlib.Core.List.{List}
-use native.Mathlib.Omega.{arith}
-use lib.ListN.{length}
+use Rattle.std.proofs.Common.{List, length, refl, sym, ap, subst, arith}
 use Rattle.circuit.specs.declared.gate.Gate.{Gate}
-use Rattle.circuit.specs.Words.{of_count}
 use Rattle.circuit.proofs.Promises.{never}
 use Rattle.checking.specs.Reduce.{reduce_gates}
 use Rattle.text.specs.private.Comparing.{LeftIn}
-use Rattle.text.proofs.list.Laws.{Mitered, miter_made, mitered}
+use Rattle.text.proofs.list.Laws.{Mitered, miter_made, mitered, own_words}
 use Rattle.text.proofs.comparison.reduce_miter.Goals as goal
-use Rattle.text.proofs.comparison.reduce_miter.Goals.{In-Gates}
+use Rattle.text.proofs.comparison.reduce_miter.Goals.{In-Ok}
 
 -- the miter was made
-made : (c : In-Gates) → Mitered c.args.n c.args.a.now c.args.n c.args.b.now c.miter.new.out c.in-Gates.gates
+made : (c : In-Ok) → let p = c.args.pair in Mitered p.first.lines p.first.words.now p.second.lines p.second.words.now c.miter.new.out c.in-Ok.gates
 made c =
-    mitered _ _ _ _ c.requires.first_words c.requires.second_words (length c.args.room.now) c.requires.miter_room c.in-Gates.gates c.miter.new.out _ refl (sym c.miter.ensures.answer ∙ ap of_count c.in-Gates.is) c.miter.ensures.buffer (omega (arith, c.requires.miter_room, c.miter.auto.out))
+    let p = c.args.pair in
+    mitered _ _ _ _ (own_words _ _ p.first.cascade) (own_words _ _ p.second.cascade) (length c.args.room.now) c.requires c.in-Ok.gates c.miter.new.out _ refl (sym c.in-Ok.ensures.answer) c.in-Ok.ensures.buffer (omega (arith, c.requires, c.miter.auto.out))
 
 pub reduce_gates-requires : goal.reduce_gates-requires
-reduce_gates-requires c = let g = made (goal.at.reduce_gates-requires c).In-Gates in record { inside = g.inside; cascade = g.cascade }
+reduce_gates-requires c = let g = made (goal.at.reduce_gates-requires c).In-Ok in record { inside = g.inside; cascade = g.cascade }
 
-pub returns-in-Gates : goal.returns-in-Gates
-returns-in-Gates c =
-    let g = made (goal.at.returns-in-Gates c).In-Gates in
+pub returns-in-Ok : goal.returns-in-Ok
+returns-in-Ok c =
+    let g = made (goal.at.returns-in-Ok c).In-Ok in
     subst (LeftIn _ _ _) (ap (λ (gs : List Gate). (reduce_gates gs).left) g.gates_are) c.reduce_gates.ensures
 
-pub returns-in-Refused : goal.returns-in-Refused
-returns-in-Refused c =
-    absurd (never (miter_made _ _ _ _ c.requires.first_words c.requires.second_words (length c.args.room.now) c.requires.miter_room refl) (sym c.miter.ensures.answer ∙ ap of_count c.in-Refused.is))
+pub returns-in-Err : goal.returns-in-Err
+returns-in-Err c =
+    let p = c.args.pair in
+    absurd (never (miter_made _ _ _ _ (own_words _ _ p.first.cascade) (own_words _ _ p.second.cascade) (length c.args.room.now) c.requires p.same_lines) (sym c.in-Err.ensures.answer))

@@ -1,61 +1,57 @@
 -- `text::list::list` meets its contract. Assumes nothing.
-use mathlib.Core.Path.{refl, sym, ap, ap₂, ◌∙◌}
-use mathlib.Core.List.{List}
-use Prim.Native.Nat.{ℕ}
-use native.Mathlib.Omega.{arith}
-use lib.Seq.{length-take-le}
-use Rattle.circuit.specs.declared.gate.Gate.{Gate}
-use Rattle.circuit.specs.Refusal.{no_room}
-use Rattle.circuit.proofs.Promises.{why}
+use Rattle.std.proofs.Common.{◌≡◌, ◌≤◌, ◌∙◌, ℕ, length, drop, sym, refl, ap, rules}
+use Rattle.std.proofs.lemmas.Result.{err_from_is_err_and}
 use Rattle.bits.proofs.Lists.{rest_lent}
-use Rattle.circuit.specs.File.{of_read}
-use Rattle.text.specs.Tomiter.{second_verdict}
-use Rattle.text.specs.Compare.{file_words}
-use Rattle.text.proofs.list.Laws.{says_as, says_refusal, FileRead, file_bad, file_read, input_long, first_bad, first_good}
-use borrow.Author.Rules.{rules}
+use Rattle.circuit.specs.declared.refusal.Refusal.TheVariants.{NoRoom}
+use Rattle.circuit.specs.Outcome.{served, map_served}
+use Rattle.circuit.specs.Refusal.{no_room}
+use Rattle.circuit.specs.Words.{gates_of}
+use Rattle.circuit.specs.File.{reading}
+use Rattle.text.specs.declared.refused.File.TheVariants.{Both}
+use Rattle.text.specs.private.Files.{reading_of, whole_of}
+use Rattle.text.specs.WholeFile.{whole_file}
+use Rattle.text.proofs.FileOutcome.{said}
+use Rattle.text.proofs.WholeFile.{taken_within}
+use Rattle.text.proofs.list.Laws.{says_as, says_refusal, says_file, input_long, first_bad, first_good, verdict_refused, verdict_served}
 use Rattle.text.proofs.list.list.Goals as goal
-use Rattle.text.proofs.list.list.Goals.{In-Cascade}
+use Rattle.text.proofs.list.list.Goals.{In_ok-first}
 
 -- the first file was read
-whole : (c : In-Cascade)
-    → FileRead c.args.input.now c.in-Cascade.header.lines c.in-Cascade.gates c.in-Cascade.taken c.read.new.out
-whole c =
-    file_read _ file_words (omega arith) _ _ _ c.read.new.out _ refl (sym c.read.ensures.answer ∙ ap of_read c.in-Cascade.is) c.read.ensures.buffer
+first : (c : In_ok-first) → reading c.args.input.now ≡ served (reading_of c.in_ok-first.first)
+first c = sym c.read.ensures ∙ ap (map_served reading_of) (said 1 _ _ c.in_ok-first.ensures)
+
+inside : (c : In_ok-first) → c.in_ok-first.first.taken ≤ length c.args.input.now
+inside c = taken_within _ _ (sym c.read.ensures ∙ ap (map_served reading_of) (said 1 _ _ c.in_ok-first.ensures))
 
 pub returns-then-input-gt-MAX_INPUT : goal.returns-then-input-gt-MAX_INPUT
 returns-then-input-gt-MAX_INPUT c =
-    says_refusal {A = ℕ} c.no_room.result 0 c.args.clauses.now _ no_room 0 (input_long _ c.if-input-gt-MAX_INPUT.true) (why c.no_room.ensures)
+    rw c.both.ensures (says_refusal {A = ℕ} (record { why = NoRoom; file = Both }) c.args.clauses.now _ no_room 0 0 (input_long _ c.if-input-gt-MAX_INPUT.true) refl refl)
 
-pub overflow_mul-end : goal.overflow_mul-end
-overflow_mul-end c = omega (arith, (whole (goal.at.overflow_mul-end c).In-Cascade).few)
+pub returns-in_err-first : goal.returns-in_err-first
+returns-in_err-first c =
+    let p = err_from_is_err_and c.from_residual.result c.from_residual.ensures.1 in
+    rw (p.1, p.2) (says_file c.in_err-first.field-0.0 1 _ c.args.clauses.now _ c.in_err-first.ensures (λ number place e. first_bad _ c.if-input-gt-MAX_INPUT.false number place (sym c.read.ensures ∙ ap (map_served reading_of) e)))
 
-pub slice_bounds-a-end : goal.slice_bounds-a-end
-slice_bounds-a-end c = (whole (goal.at.slice_bounds-a-end c).In-Cascade).inside
+pub slice_bounds-read-count : goal.slice_bounds-read-count
+slice_bounds-read-count c = inside (goal.at.slice_bounds-read-count c).In_ok-first
 
-pub slice_bounds-list_second-end : goal.slice_bounds-list_second-end
-slice_bounds-list_second-end c = sym (length-take-le _ _ (whole (goal.at.slice_bounds-list_second-end c).In-Cascade).inside)
+pub slice_bounds-read-start : goal.slice_bounds-read-start
+slice_bounds-read-start c = let h = inside (goal.at.slice_bounds-read-start c).In_ok-first in search rules
 
-pub slice_bounds-list_second-count : goal.slice_bounds-list_second-count
-slice_bounds-list_second-count c = (whole (goal.at.slice_bounds-list_second-count c).In-Cascade).within
+pub returns-in_err-second : goal.returns-in_err-second
+returns-in_err-second c =
+    let p = err_from_is_err_and c.from_residual-in_err-second.result c.from_residual-in_err-second.ensures.1 in
+    let f = c.in_ok-first.first in
+    let rest = rest_lent c.args.input.now f.taken in
+    rw (p.1, p.2) (says_file c.in_err-second.field-0.0 2 _ c.args.clauses.now _ c.in_err-second.ensures (λ number place e.
+    first_good _ c.if-input-gt-MAX_INPUT.false _ (first (goal.at.returns-in_err-second c).In_ok-first)
+    ∙ verdict_refused f.cascade.lines (gates_of f.cascade.words.now) (drop f.taken c.args.input.now) number place
+    (ap whole_file (sym rest) ∙ sym c.read-2.ensures ∙ ap (map_served (whole_of _)) e)))
 
-pub slice_bounds-list_second-start : goal.slice_bounds-list_second-start
-slice_bounds-list_second-start c = let h = (whole (goal.at.slice_bounds-list_second-start c).In-Cascade).within in search rules
-
-pub list_second-requires : goal.list_second-requires
-list_second-requires c =
-    record {
-      first_words = (whole (goal.at.list_second-requires c).In-Cascade).words;
-      clause_room = c.requires;
-    }
-
-pub returns-in-Refused : goal.returns-in-Refused
-returns-in-Refused c =
-    says_refusal {A = ℕ} c.in-Refused.why 1 c.args.clauses.now _ c.in-Refused.why.number c.in-Refused.why.place
-    (first_bad _ c.if-input-gt-MAX_INPUT.false c.in-Refused.why.number c.in-Refused.why.place (file_bad _ file_words (omega arith) c.in-Refused.why.number c.in-Refused.why.place (sym c.read.ensures.answer ∙ ap of_read c.in-Refused.is))) refl
-
-pub returns-in-Cascade : goal.returns-in-Cascade
-returns-in-Cascade c =
-    let w = whole (goal.at.returns-in-Cascade c).In-Cascade in
-    says_as c.list_second.result c.list_second.new.clauses _ _
-    (first_good _ c.if-input-gt-MAX_INPUT.false _ w.is
-    ∙ ap₂ (λ (gs : List Gate) (l : List ℕ). second_verdict c.in-Cascade.header.lines gs l) (sym w.gates_are) (sym (rest_lent c.args.input.now c.in-Cascade.taken))) c.list_second.ensures
+pub returns : goal.returns
+returns c =
+    let f = c.in_ok-first.first in
+    let rest = rest_lent c.args.input.now f.taken in
+    says_as _ _ _ _ (first_good _ c.if-input-gt-MAX_INPUT.false _ (first (goal.at.returns c).In_ok-first)
+    ∙ verdict_served f.cascade.lines (gates_of f.cascade.words.now) (drop f.taken c.args.input.now) (whole_of _ c.in_ok-second.second)
+    (ap whole_file (sym rest) ∙ sym c.read-2.ensures ∙ ap (map_served (whole_of _)) (said 2 _ _ c.in_ok-second.ensures))) c.list_pair.ensures

@@ -1,0 +1,25 @@
+-- `text::pair::CascadeRead::read` meets its contract. Assumes nothing.
+use Rattle.std.proofs.Common.{◌≡◌, ℕ, ◌+◌, ◌/◌, length, sym, ap, ◌∙◌, arith}
+use Rattle.std.proofs.lemmas.Result.{err_from_is_err_and}
+use Rattle.circuit.specs.Outcome.{refused, served}
+use Rattle.circuit.specs.Refusal.{wrong_form}
+use Rattle.circuit.specs.Words.{gates_of}
+use Rattle.circuit.proofs.Promises.{gates_length}
+use Rattle.text.proofs.WholeFile.{whole_bad, whole_after, whole_good}
+use Rattle.text.proofs.pair.CascadeRead.read.Goals as goal
+
+pub returns-in_err-start : goal.returns-in_err-start
+returns-in_err-start c =
+    let p = err_from_is_err_and c.from_residual.result c.from_residual.ensures.1 in
+    rw (p.1, p.2) (sym (whole_bad c.args.text.now _ _ (sym c.in_err-start.ensures)))
+
+pub returns-then-start-text : goal.returns-then-start-text
+returns-then-start-text c =
+    ap (λ (k : ℕ). refused wrong_form (k + 2)) (sym (gates_length c.in_ok-start.start.cascade.words.now))
+    ∙ sym (whole_after c.args.text.now _ (sym c.in_ok-start.ensures) c.if-start-text.true)
+
+pub returns : goal.returns
+returns c =
+    let s = c.in_ok-start.start.cascade in
+    ap (λ (k : ℕ). served (record { lines = s.lines; gates = gates_of s.words.now; taken = k })) (sym c.if-start-text.false)
+    ∙ sym (whole_good c.args.text.now _ (sym c.in_ok-start.ensures) c.if-start-text.false)
