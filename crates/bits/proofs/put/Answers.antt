@@ -1,6 +1,5 @@
 -- `bits::put` meets its contract.
-use Rattle.std.proofs.Common.{take, set, ap₂, ◌∙◌, arith}
-use Rattle.bits.specs.Lists.{over}
+use Rattle.std.proofs.Common.{set, ap₂, ◌∙◌, arith}
 use Rattle.bits.proofs.Lists.{over_prefix}
 use Rattle.bits.proofs.put.Goals as goal
 
