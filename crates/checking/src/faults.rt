@@ -4,10 +4,9 @@ ghost use Rattle.std.specs.Prelude.{◌≡◌, ◌-◌, ◌*◌, ◌/◌, ◌^�
 ghost use Rattle.bits.specs.Lists.{over};
 ghost use Rattle.circuit.specs.Gate.{max_lines, valid};
 ghost use Rattle.circuit.specs.Outcome.{Yields};
-ghost use Rattle.circuit.specs.Refusal.{bad_state, agreeing_state};
 ghost use Rattle.circuit.specs.Words.{gates_of, all_valid, of_count};
 ghost use Rattle.checking.specs.Compare.{outputs_differ};
-ghost use Rattle.checking.specs.Faults.{is_free, missing_control, gate_masks, mask_where, masks_from, each_from, fault_check, fault_outcome, fault_buffer};
+ghost use Rattle.checking.specs.Faults.{is_free, missing_control, gate_masks, mask_where, masks_from, fault_check, fault_outcome, fault_buffer};
 ghost use Rattle.checking.specs.private.Narrowing.{kept, narrowed, narrowed_by};
 ghost use Rattle.checking.specs.private.Tested.{Tested};
 
