@@ -1,4 +1,4 @@
--- The laws of a number with exactly one digit: it is a power of two, and has no digit in common with the number before it. Assumes nothing.
+-- The laws of a number with exactly one digit, which is a power of two, and of the digits that a number shares with the one before it. Assumes nothing.
 use mathlib.Core.Path.{◌≡◌, refl, ap, ap₂, ◌∙◌}
 use Prim.Native.Nat.{ℕ, zero, suc, ◌+◌, ◌-◌, ◌*◌, ◌/◌, ◌%◌, ◌^◌, ◌<◌, min}
 use native.Mathlib.Omega.{arith}
@@ -6,8 +6,8 @@ use lib.Dec.{eqb}
 use lib.Arith.{bin_ind}
 use lib.Bits.{bit_and, and_step, and_self}
 use lib.Count.{ones, ones_step, ones-ones}
-use borrow.Author.Tests.{eqb-true, eqb-false, eq-eqb}
-use Rattle.bits.proofs.Bools.{either, same_test}
+use borrow.Author.Tests.{eqb-true, eqb-false}
+use Rattle.bits.proofs.Bools.{either}
 
 pub ones_zero : ones 0 ≡ 0
 ones_zero = ones-ones 0
@@ -52,36 +52,3 @@ module _ (x : ℕ) (some : 0 < x) where
       let m : min (x % 2) ((x - 1) % 2) ≡ 0 = omega arith in
       let r : bit_and (x / 2) (x / 2 - 1) * 2 + 0 ≡ bit_and (x / 2) (x / 2 - 1) * 2 = omega arith in
       and_step x (x - 1) ∙ ap₂ (λ (y d : ℕ). bit_and (x / 2) y * 2 + d) h m ∙ r
-
-record Lower (x : ℕ) : Type 0 where
-  one : bit_and x (x - 1) ≡ 0 → ones x ≡ 1
-  none : ones x ≡ 1 → bit_and x (x - 1) ≡ 0
-
-lower : (x : ℕ) → 0 < x → Lower x
-lower =
-    bin_ind (λ (x : ℕ). 0 < x → Lower x) (λ h. absurd (omega arith))
-    (λ x ih h.
-    let s = ones_step x in
-    either (eqb (x % 2) 1)
-    (λ t.
-    let o : x % 2 ≡ 1 = eqb-true _ _ t in
-    let e = odd_lower x h o in
-    record {
-      one = λ z. let q : x / 2 ≡ 0 = omega arith in let w : ones (x / 2) ≡ 0 = ap ones q ∙ ones_zero in omega arith;
-      none = λ z. let q : x / 2 ≡ 0 = ones_none (x / 2) (omega arith) in omega arith;
-    })
-    (λ t.
-    let f = eqb-false (x % 2) 1 t in
-    let o : x % 2 ≡ 0 = omega arith in
-    let e = even_lower x h o in
-    let l = ih (omega arith) in
-    record {
-      one = λ z. let w : ones (x / 2) ≡ 1 = l.one (omega arith) in omega arith;
-      none = λ z. let w : bit_and (x / 2) (x / 2 - 1) ≡ 0 = l.none (omega arith) in omega arith;
-    }))
-
--- exactly one digit, by one test
-pub single_test : (x : ℕ) → 0 < x → eqb (bit_and x (x - 1)) 0 ≡ eqb (ones x) 1
-single_test x h =
-    let l = lower x h in
-    same_test _ _ (λ t. eq-eqb _ _ (l.one (eqb-true _ _ t))) (λ t. eq-eqb _ _ (l.none (eqb-true _ _ t)))

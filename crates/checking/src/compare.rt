@@ -1,18 +1,18 @@
 // Two cascades compared: the first difference, the check of one input, and the one with fewer gates.
 
-ghost use Rattle.std.specs.Prelude.{◌≡◌, true};
-ghost use Rattle.circuit.specs.Gate.{max_lines};
-ghost use Rattle.circuit.specs.Words.{gates_of, all_valid, pair_outcome};
+ghost use Rattle.std.specs.Prelude.{◌≡◌};
 ghost use Rattle.circuit.specs.Outcome.{outcome_of, map_served};
+ghost use Rattle.circuit.specs.Words.{gates_of, pair_outcome};
 ghost use Rattle.checking.specs.Compare.{lowest_from, outputs_differ, Sweeps, Picks, differs_outcome, pick_outcome, of_difference, of_refusal};
+ghost use Rattle.checking.specs.private.Tested.{Tested};
 
 use circuit::gate::Gate;
 use circuit::refusal::Refusal;
 
 // Whether two cascades, which were tested, give different outputs on a state.
 pub(crate) fn outputs_differ(a: &[u64], b: &[u64], state: u64) -> bool
-    requires first_valid { all_valid max_lines (gates_of a.now) ≡ true }
-    requires second_valid { all_valid max_lines (gates_of b.now) ≡ true }
+    requires first_valid { Tested a.now }
+    requires second_valid { Tested b.now }
     ensures { result ≡ outputs_differ (gates_of a.now) (gates_of b.now) state }
 {
     circuit::run::run_tested(a, state) != circuit::run::run_tested(b, state)
@@ -20,8 +20,8 @@ pub(crate) fn outputs_differ(a: &[u64], b: &[u64], state: u64) -> bool
 
 // The lowest of the states below `count` on which two cascades differ.
 fn lowest_difference(a: &[u64], b: &[u64], count: u64) -> Option<u64>
-    requires first_valid { all_valid max_lines (gates_of a.now) ≡ true }
-    requires second_valid { all_valid max_lines (gates_of b.now) ≡ true }
+    requires first_valid { Tested a.now }
+    requires second_valid { Tested b.now }
     ensures { of_difference result ≡ lowest_from (gates_of a.now) (gates_of b.now) 0 count }
 {
     (0..count).find(|x| outputs_differ(a, b, *x))

@@ -1,9 +1,8 @@
 // The clauses of a cascade, in clause words: its gates, its lines, and the OR of all d.
 
 ghost use Rattle.std.specs.Prelude.{◌≡◌, ◌+◌, ◌<◌, ◌≤◌, length};
-ghost use Rattle.bits.specs.Lists.{over};
+ghost use Rattle.bits.specs.Lists.{over, Put};
 ghost use Rattle.circuit.specs.Gate.{max_lines};
-ghost use Rattle.circuit.specs.Outcome.{Yields};
 ghost use Rattle.circuit.specs.Words.{gates_of};
 ghost use Rattle.checking.specs.Clauses.{input_of, new_variable, clauses_of};
 ghost use Rattle.checking.specs.Stored.{stored, word_limit};
@@ -13,6 +12,8 @@ use crate::clauses::ClauseWord;
 use circuit::gate::Gate;
 
 // Words written and variables numbered so far.
+// Below, n, the current variables and `used` are three parameters: one record (`Ready`, `LinesReady`, `GatesReady`)
+// says what holds of all three, so a struct of them would make no contract shorter.
 #[derive(Clone, Copy)]
 pub(crate) struct Front {
     at: usize,
@@ -62,7 +63,7 @@ fn put_gates(n: u64, words: &[u64], current: &mut [u64], out: &mut [ClauseWord])
 // The clause of a line's d at the buffer's start; how many words.
 fn put_difference(hit: bool, d: u64, a: u64, b: u64, out: &mut [ClauseWord]) -> usize
     requires { LineReady hit d a b (length out.old) }
-    ensures { Yields result out.new (length (line_stored hit d a b)) (over (line_stored hit d a b) out.old) }
+    ensures { Put result out.new (line_stored hit d a b) out.old }
 {
     let not_d = crate::emitter::literal(d, false);
     if hit {
@@ -76,7 +77,7 @@ fn put_difference(hit: bool, d: u64, a: u64, b: u64, out: &mut [ClauseWord]) -> 
 // The clauses of the lines at the buffer's start; a line is hit where its last variable is no input.
 fn put_differences(n: u64, current: &[u64], used: u64, out: &mut [ClauseWord]) -> usize
     requires { LinesReady n current.now used (length out.old) }
-    ensures { Yields result out.new (length (lines_stored n current.now used)) (over (lines_stored n current.now used) out.old) }
+    ensures { Put result out.new (lines_stored n current.now used) out.old }
 {
     let mut at = 0;
     for k in 0..n {
@@ -106,9 +107,7 @@ pub(crate) fn put_list(n: u64, words: &[u64], out: &mut [ClauseWord])
 {
     let mut current = [0; 64];
     set_inputs(n, &mut current);
-    let front = put_gates(n, words, &mut current, out);
-    let at = front.at;
-    let used = front.used;
+    let Front { at, used } = put_gates(n, words, &mut current, out);
     let end = at + put_differences(n, &current, used, &mut out[at..]);
     put_last(n, used, &mut out[end..]);
 }

@@ -1,11 +1,10 @@
 // The clauses of one gate, in clause words.
 
-ghost use Rattle.std.specs.Prelude.{◌≡◌, ◌+◌, ◌*◌, ◌<◌, ◌≤◌, true, [], ◌∷◌, length, pos};
-ghost use Rattle.bits.specs.Lists.{over};
+ghost use Rattle.std.specs.Prelude.{◌≡◌, ◌*◌, ◌<◌, ◌≤◌, true, length, pos, bit_or};
+ghost use Rattle.bits.specs.Lists.{over, Put};
 ghost use Rattle.circuit.specs.Gate.{max_lines, valid, control_count};
-ghost use Rattle.circuit.specs.Outcome.{Yields};
 ghost use Rattle.checking.specs.Stored.{word_limit};
-ghost use Rattle.checking.specs.private.Emitter.{literal_word, literals_in, controls_stored, Currents, Lines, Many, many_stored, gate_stored, Ready};
+ghost use Rattle.checking.specs.private.Emitter.{literal_word, literals_in, controls_stored, Currents, Lines, gate_stored, Ready};
 
 use crate::clauses::ClauseWord;
 use circuit::gate::Gate;
@@ -30,25 +29,20 @@ pub(crate) fn literal(variable: u64, positive: bool) -> ClauseWord
     -v
 }
 
-// Of the controls on k lines, by rising line, every -c and then every OR (-p, c), at the buffer's start.
-fn put_controls(
-    positive: u64,
-    lines: u64,
-    k: usize,
-    n: u64,
-    current: &[u64],
-    p: u64,
-    out: &mut [ClauseWord],
-)
+// Of the k controls of a gate, by rising line, every -c and then every OR (-p, c), at the buffer's start.
+fn put_controls(g: Gate, k: usize, n: u64, current: &[u64], p: u64, out: &mut [ClauseWord])
     requires currents { Currents n current.now }
-    requires lines { Lines lines k n }
+    requires lines { Lines (bit_or g.positive g.negative) k n }
     requires fits_word { p < word_limit }
     requires out_room { 5 * k ≤ length out.old }
-    ensures { out.new ≡ over (controls_stored p (literals_in current.now positive lines n)) out.old }
+    ensures { out.new ≡ over (controls_stored p (literals_in current.now g.positive (bit_or g.positive g.negative) n)) out.old }
 {
+    let positive = g.positive;
+    let negative = g.negative;
     let not_p = literal(p, false);
-    let mut left = lines;
+    let mut left = positive | negative;
     let mut i = 0;
+    // A while: its turns go by the bits of the mask, and no range or slice has them.
     while left != 0 {
         let line = circuit::gate::lowest(left);
         let v = current[line as usize];
@@ -61,26 +55,20 @@ fn put_controls(
     }
 }
 
-// The clauses of k controls, two or more, with p = used + 1 and w = used + 2: OR (p, then every -c),
-// every OR (-p, c), XOR (-w, v, p).
-fn put_many(
-    positive: u64,
-    lines: u64,
-    k: u64,
-    n: u64,
-    current: &[u64],
-    used: u64,
-    v: u64,
-    out: &mut [ClauseWord],
-) -> usize
-    requires currents { Currents n current.now }
-    requires many { Many lines k n used v (length out.old) }
-    ensures { Yields result out.new (5 * k + 8) (over (many_stored current.now used v positive lines n) out.old) }
+// The clauses of a gate with k controls, two or more, at the buffer's start, with p = used + 1 and w = used + 2:
+// OR (p, then every -c), every OR (-p, c), XOR (-w, v, p); how many words.
+fn put_many(g: Gate, k: u64, n: u64, current: &[u64], used: u64, out: &mut [ClauseWord]) -> usize
+    requires ready { Ready n used current.now g (length out.old) }
+    requires count { k ≡ control_count g }
+    requires many { 2 ≤ k }
+    ensures { Put result out.new (gate_stored used current.now g) out.old }
 {
+    let target = g.target;
+    let v = current[target as usize];
     let p = used + 1;
     let controls = k as usize;
     bits::put(out, &[0, number(k + 1), literal(p, true)]);
-    put_controls(positive, lines, controls, n, current, p, &mut out[3..]);
+    put_controls(g, controls, n, current, p, &mut out[3..]);
     let end = 3 + 5 * controls;
     end + bits::put(
         &mut out[end..],
@@ -114,21 +102,20 @@ pub(crate) fn control_count(g: Gate) -> u64
 // The gate's clauses at the buffer's start, with `used` variables numbered so far; how many words.
 pub(crate) fn put_gate(g: Gate, n: u64, current: &[u64], used: u64, out: &mut [ClauseWord]) -> usize
     requires { Ready n used current.now g (length out.old) }
-    ensures { Yields result out.new (length (gate_stored used current.now g)) (over (gate_stored used current.now g) out.old) }
+    ensures { Put result out.new (gate_stored used current.now g) out.old }
 {
-    let positive = g.positive;
-    let negative = g.negative;
-    let lines = positive | negative;
-    let target = g.target;
-    let v = current[target as usize];
     let k = control_count(g);
     if 2 <= k {
-        return put_many(positive, lines, k, n, current, used, v, out);
+        return put_many(g, k, n, current, used, out);
     }
+    let positive = g.positive;
+    let negative = g.negative;
+    let target = g.target;
+    let v = current[target as usize];
     if k == 0 {
         return bits::put(out, &[1, 2, literal(used + 1, true), literal(v, true)]);
     }
-    let line = circuit::gate::lowest(lines);
+    let line = circuit::gate::lowest(positive | negative);
     let c = literal(current[line as usize], circuit::gate::has(positive, line));
     bits::put(out, &[1, 3, literal(used + 1, false), literal(v, true), c])
 }

@@ -4,11 +4,11 @@ ghost use Rattle.std.specs.Prelude.{◌≡◌, ◌-◌, ◌*◌, ◌/◌, ◌^�
 ghost use Rattle.bits.specs.Lists.{over};
 ghost use Rattle.circuit.specs.Gate.{max_lines, valid};
 ghost use Rattle.circuit.specs.Outcome.{outcome_of, Yields};
-ghost use Rattle.circuit.specs.Refusal.{bad_state, agreeing_state};
 ghost use Rattle.circuit.specs.Words.{gates_of, all_valid};
 ghost use Rattle.checking.specs.Compare.{outputs_differ};
-ghost use Rattle.checking.specs.Faults.{is_free, missing_control, gate_masks, mask_where, masks_from, each_from, fault_check, fault_outcome, fault_buffer};
+ghost use Rattle.checking.specs.Faults.{is_free, missing_control, gate_masks, mask_where, masks_from, fault_check, fault_outcome, fault_buffer};
 ghost use Rattle.checking.specs.private.Narrowing.{kept, narrowed, narrowed_by};
+ghost use Rattle.checking.specs.private.Tested.{Tested};
 
 use circuit::gate::Gate;
 use circuit::refusal::Refusal;
@@ -71,7 +71,7 @@ fn start_masks(n: u64, words: &[u64], out: &mut [u64])
 
 // The masks after one state more.
 fn narrow(words: &[u64], state: u64, out: &mut [u64])
-    requires valid_gates { all_valid max_lines (gates_of words.now) ≡ true }
+    requires valid_gates { Tested words.now }
     requires mask_room { gate_masks * (length words.now / 3) ≤ length out.old }
     ensures { out.new ≡ narrowed (gates_of words.now) state out.old }
 {
@@ -87,7 +87,7 @@ fn narrow(words: &[u64], state: u64, out: &mut [u64])
 
 // The masks after all states.
 fn narrow_all(words: &[u64], states: &[u64], out: &mut [u64])
-    requires valid_gates { all_valid max_lines (gates_of words.now) ≡ true }
+    requires valid_gates { Tested words.now }
     requires mask_room { gate_masks * (length words.now / 3) ≤ length out.old }
     ensures { out.new ≡ narrowed_by (gates_of words.now) states.now out.old }
 {
@@ -105,8 +105,8 @@ fn first_outside(n: u64, states: &[u64]) -> Option<usize>
 
 // The first state on which the cascades agree.
 fn first_agreeing(a: &[u64], b: &[u64], states: &[u64]) -> Option<usize>
-    requires first_valid { all_valid max_lines (gates_of a.now) ≡ true }
-    requires second_valid { all_valid max_lines (gates_of b.now) ≡ true }
+    requires first_valid { Tested a.now }
+    requires second_valid { Tested b.now }
     ensures { result ≡ position (λ x. not (outputs_differ (gates_of a.now) (gates_of b.now) x)) states.now }
 {
     states

@@ -1,11 +1,11 @@
 // The full reduction: steps until none.
 
-ghost use Rattle.std.specs.Prelude.{◌≡◌, ◌%◌, true, length};
+ghost use Rattle.std.specs.Prelude.{◌≡◌, ◌%◌, length};
 ghost use Rattle.circuit.specs.Outcome.{outcome_of, map_served, Yields};
-ghost use Rattle.circuit.specs.Gate.{max_lines};
-ghost use Rattle.circuit.specs.Words.{gates_of, all_valid};
+ghost use Rattle.circuit.specs.Words.{gates_of};
 ghost use Rattle.checking.specs.Step.{filled};
 ghost use Rattle.checking.specs.Reduce.{reduce_gates, numbered, reduce_outcome, reduce_buffer, of_reduction};
+ghost use Rattle.checking.specs.private.Tested.{Tested};
 
 use crate::step::Kind;
 use circuit::gate::Gate;
@@ -22,7 +22,7 @@ pub struct Reduction {
 // Makes steps on the words of gates until there is none.
 fn reduce_gates(words: &mut [u64]) -> Reduction
     requires whole_gates { length words.old % 3 ≡ 0 }
-    requires valid_gates { all_valid max_lines (gates_of words.old) ≡ true }
+    requires valid_gates { Tested words.old }
     ensures { Yields (of_reduction result) words.new (numbered (reduce_gates (gates_of words.old))) (filled (reduce_gates (gates_of words.old)).left (length words.old)) }
 {
     let mut gates = words.len() / Gate::WORDS;

@@ -1,12 +1,13 @@
 // The reduction step: two gates that match, with gates between them that the first may pass.
 
-ghost use Rattle.std.specs.Prelude.{◌≡◌, ◌+◌, ◌*◌, ◌/◌, ◌%◌, ◌<◌, ◌≤◌, true, [], ◌∷◌, ◌++◌, length, take, drop, replicate};
+ghost use Rattle.std.specs.Prelude.{◌≡◌, ◌+◌, ◌*◌, ◌/◌, ◌%◌, ◌<◌, ◌≤◌, [], ◌∷◌, ◌++◌, length, take, drop, replicate};
 ghost use Rattle.circuit.specs.Outcome.{outcome_of, map_served, Yields};
 ghost use Rattle.circuit.specs.Gate.{max_lines};
-ghost use Rattle.circuit.specs.Words.{gates_of, gate_at, all_valid};
+ghost use Rattle.circuit.specs.Words.{gates_of, gate_at};
 ghost use Rattle.checking.specs.Match.{may_pass, match_of, of_matched};
 ghost use Rattle.checking.specs.Step.{scan_from, search_from, replaced, filled, step_gates, with_count, step_words, step_outcome, step_buffer, of_stepped, of_step};
 ghost use Rattle.checking.specs.private.StepCode.{of_search, from_gate, FoundAt};
+ghost use Rattle.checking.specs.private.Tested.{Tested};
 
 use circuit::gate::Gate;
 use circuit::refusal::Refusal;
@@ -96,7 +97,7 @@ pub fn match_gates(g: Gate, h: Gate) -> Option<Match>
 // The first gate after gate i that it matches, where it may pass those between.
 fn scan_after(words: &[u64], i: usize) -> Option<Found>
     requires gate_inside { i < length words.now / 3 }
-    requires valid_gates { all_valid max_lines (gates_of words.now) ≡ true }
+    requires valid_gates { Tested words.now }
     ensures { of_search result ≡ from_gate i (scan_from (i + 1) (gate_at words.now i) (gates_of (drop (3 * (i + 1)) words.now))) }
 {
     let g = circuit::words::gate_at(words, i);
@@ -114,7 +115,7 @@ fn scan_after(words: &[u64], i: usize) -> Option<Found>
 
 // The lowest i, then the lowest j above it, of two gates that match.
 pub(crate) fn search_gates(words: &[u64]) -> Option<Found>
-    requires { all_valid max_lines (gates_of words.now) ≡ true }
+    requires { Tested words.now }
     ensures { of_search result ≡ search_from 0 (gates_of words.now) }
 {
     for i in 0..words.len() / Gate::WORDS {

@@ -1,9 +1,9 @@
 -- What the one-gate emitter writes, and what it is given.
-use Rattle.std.specs.Prelude.{◌≡◌, ℕ, suc, ◌+◌, ◌*◌, ◌^◌, ◌<◌, ◌≤◌, Bool, true, cond, List, ◌++◌, map, length, ℤ, neg_ℤ, slice_index}
+use Rattle.std.specs.Prelude.{◌≡◌, ℕ, ◌+◌, ◌^◌, ◌<◌, ◌≤◌, Bool, true, cond, List, ◌++◌, map, length, ℤ, neg_ℤ, slice_index}
 use Rattle.bits.specs.Digits.{bit, lines_in}
 use Rattle.circuit.specs.declared.gate.Gate.{Gate}
 use Rattle.circuit.specs.Gate.{max_lines, valid, control_count}
-use Rattle.checking.specs.Clauses.{plus, minus, implied, many_clauses, clauses_of_gate}
+use Rattle.checking.specs.Clauses.{plus, minus, implied, clauses_of_gate}
 use Rattle.checking.specs.Stored.{stored, word_limit}
 use Rattle.checking.specs.Sizes.{gate_sizes}
 
@@ -40,17 +40,6 @@ pub record Currents (n : ℕ) (current : List ℕ) : Type 0 where
 pub record Lines (lines k n : ℕ) : Type 0 where
   pub below : lines < 2 ^ n
   pub count : k ≡ length (lines_in lines n)
-
--- the clauses with a p, in words
-abbrev pub many_stored : List ℕ → ℕ → ℕ → ℕ → ℕ → ℕ → List ℤ
-many_stored current used v positive lines n = stored (many_clauses (suc used) (suc (suc used)) v (literals_in current positive lines n))
-
--- k controls, room for their words, and variables that fit a word
-pub record Many (lines k n used v room : ℕ) : Type 0 where
-  pub controls : Lines lines k n
-  pub few : used + 2 < word_limit
-  pub target : v < word_limit
-  pub enough : 5 * k + 8 ≤ room
 
 -- a gate on n lines, room for its words, and variables that fit a word
 pub record Ready (n used : ℕ) (current : List ℕ) (g : Gate) (room : ℕ) : Type 0 where

@@ -13,12 +13,12 @@ put_difference-at-requires c =
 
 pub loop-k-preserved : goal.loop-k-preserved
 loop-k-preserved c =
-    compared_next _ _ _ _ _ _ _ c.requires c.loop-k.invariant (omega arith) c.put_difference-at.new.out c.put_difference-at.result c.put_difference-at.ensures.answer c.put_difference-at.ensures.buffer
+    compared_next _ _ _ _ _ _ _ c.requires c.loop-k.invariant (omega arith) c.put_difference-at.new.out c.put_difference-at.result c.put_difference-at.ensures.count c.put_difference-at.ensures.buffer
 
 pub returns : goal.returns
 returns c =
     let all = compared_all _ _ _ _ _ c.loop-k.k c.loop-k.at (omega arith) c.loop-k.invariant in
     record {
-      answer = sym c.loop-k.invariant.place ∙ ap length (sym all);
+      count = sym c.loop-k.invariant.place ∙ ap length (sym all);
       buffer = c.loop-k.invariant.buffer ∙ ap (λ (f : List ℤ). over f c.args.out.now) (sym all);
     }

@@ -26,7 +26,7 @@ bounds-current-target c = omega (arith, target_below (goal.at.bounds-current-tar
 pub loop-i-preserved : goal.loop-i-preserved
 loop-i-preserved c =
     emitted_next _ _ _ _ _ _ _ _ _ c.requires c.loop-i.invariant (omega arith) c.gate_at-g.result c.gate_at-g.ensures c.put_gate-at.new.out c.put_gate-at.result c.control_count-k.result c.new_variable-used.result
-    c.put_gate-at.ensures.answer c.put_gate-at.ensures.buffer c.control_count-k.ensures c.new_variable-used.ensures
+    c.put_gate-at.ensures.count c.put_gate-at.ensures.buffer c.control_count-k.ensures c.new_variable-used.ensures
 
 pub returns : goal.returns
 returns c =

@@ -1,5 +1,5 @@
 -- `checking::emission::put_last` meets its contract.
-use Rattle.std.proofs.Common.{◌≡◌, ◌+◌, ◌<◌, ℕ, ℤ, length, List, ap, ◌∙◌, arith, to_z, of_z}
+use Rattle.std.proofs.Common.{pos, [], ◌∷◌, sym, ◌≡◌, ◌+◌, ◌<◌, ℕ, ℤ, length, List, ap, ◌∙◌, arith, to_z, of_z}
 use Rattle.std.proofs.lemmas.Grind.{common_steps}
 use Rattle.bits.specs.Lists.{over}
 use Rattle.checking.specs.Clauses.{plus}
@@ -8,7 +8,11 @@ use Rattle.checking.proofs.lemmas.emission.Lines.{or_front, or_none, or_next, or
 use Rattle.checking.proofs.emission.put_last.Goals as goal
 
 pub loop-k-init : goal.loop-k-init
-loop-k-init c = let e = or_none c.args.n c.args.used c.args.out.now in grind (arith, common_steps)
+loop-k-init c =
+    let count : to_z word_width (of_z word_width c.number.result) ≡ pos c.args.n = grind (arith, common_steps) in
+    c.put.ensures.buffer
+    ∙ ap (λ (z : ℤ). over (pos 0 ∷ z ∷ []) c.args.out.now) count
+    ∙ sym (or_none c.args.n c.args.used c.args.out.now)
 
 pub loop-k-preserved : goal.loop-k-preserved
 loop-k-preserved c =

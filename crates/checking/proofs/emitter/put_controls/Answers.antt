@@ -1,5 +1,5 @@
 -- `checking::emitter::put_controls` meets its contract.
-use Rattle.std.proofs.Common.{◌≡◌, ◌+◌, ◌-◌, ◌*◌, ◌%◌, ◌<◌, [], ◌∷◌, not, length, take, drop, set, ℤ, pos, ap, ◌∙◌, arith, length-drop, length-take, length-set, to_z, of_z}
+use Rattle.std.proofs.Common.{◌≡◌, ◌+◌, ◌-◌, ◌*◌, ◌%◌, ◌<◌, Bool, [], ◌∷◌, not, length, take, drop, set, ℤ, pos, ap, ◌∙◌, arith, length-drop, length-take, length-set, to_z, of_z}
 use Rattle.std.proofs.lemmas.Grind.{common_steps}
 use Rattle.bits.specs.Digits.{bit}
 use Rattle.bits.specs.Lists.{over}
@@ -38,11 +38,13 @@ pub loop-left-preserved : goal.loop-left-preserved
 loop-left-preserved c =
     let line = c.lowest-line.result in
     let below : line % max_lines ≡ line = omega (arith, at (goal.at.loop-left-preserved c).After-lowest-line, c.requires.currents.lines) in
-    let sign : c.has-sign.result ≡ bit c.args.positive line = c.has-sign.ensures ∙ ap (bit c.args.positive) below in
+    let sign : c.has-sign.result ≡ bit c.args.g.positive line = c.has-sign.ensures ∙ ap (bit c.args.g.positive) below in
+    let v = by_line c.args.current.now line in
     let z : ℤ = to_z word_width (of_z word_width c.literal.result) in
-    let is : z ≡ literal_word (not (bit c.args.positive line)) (by_line c.args.current.now line) = grind (arith, common_steps) in
+    let negated : c.literal.result ≡ literal_word (not (bit c.args.g.positive line)) v = c.literal.ensures ∙ ap (λ (b : Bool). literal_word (not b) v) sign in
+    let is : z ≡ literal_word (not (bit c.args.g.positive line)) v = grind (arith, common_steps) in
     let o = set c.loop-left.out c.loop-left.i z in
-    let put : c.put.new.out ≡ over (pos 0 ∷ pos 2 ∷ minus c.args.p ∷ literal_at c.args.current.now c.args.positive line ∷ []) (take (length o - (c.args.k + 4 * c.loop-left.i)) (drop (c.args.k + 4 * c.loop-left.i) o)) = grind (arith, common_steps) in
+    let put : c.put.new.out ≡ over (pos 0 ∷ pos 2 ∷ minus c.args.p ∷ literal_at c.args.current.now c.args.g.positive line ∷ []) (take (length o - (c.args.k + 4 * c.loop-left.i)) (drop (c.args.k + 4 * c.loop-left.i) o)) = grind (arith, common_steps) in
     walk_on _ _ _ _ _ _ _ _ _ _ c.requires.currents.lines c.requires.lines c.requires.out_room c.loop-left.invariant c.loop-left-test.true line c.lowest-line.ensures c.put.new.out z is put c.put.auto.out
 
 pub returns : goal.returns

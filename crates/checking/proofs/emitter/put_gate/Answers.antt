@@ -4,7 +4,7 @@ use Rattle.std.proofs.lemmas.Grind.{common_steps}
 use Rattle.bits.specs.Digits.{bit}
 use Rattle.circuit.specs.Gate.{max_lines}
 use Rattle.circuit.proofs.Promises.{valid_more}
-use Rattle.checking.proofs.lemmas.emitter.Whole.{target_below, target_small, written_none, line_below, written_one, many_ready, written_many, words_many}
+use Rattle.checking.proofs.lemmas.emitter.Whole.{target_below, target_small, written_none, line_below, written_one}
 use Rattle.checking.proofs.emitter.put_gate.Goals as goal
 use Rattle.checking.proofs.emitter.put_gate.Goals.{After-lowest-line}
 
@@ -16,15 +16,6 @@ bounds-current-target c = omega (arith, target_below _ _ _ _ _ c.requires, c.req
 
 pub control_count-k-requires : goal.control_count-k-requires
 control_count-k-requires c = valid_more c.args.n max_lines c.args.g c.requires.currents.lines c.requires.gate
-
-pub put_many-requires-clause-many : goal.put_many-requires-clause-many
-put_many-requires-clause-many c = many_ready _ _ _ _ _ c.requires _ c.control_count-k.ensures c.if-k-ge2.true
-
-pub returns-then-k-ge2 : goal.returns-then-k-ge2
-returns-then-k-ge2 c =
-    let words = words_many _ _ _ _ _ c.requires _ c.control_count-k.ensures c.if-k-ge2.true in
-    let written = written_many _ _ _ _ _ c.requires _ c.control_count-k.ensures c.if-k-ge2.true in
-    grind (arith, common_steps)
 
 pub literal-requires-then-k-eq0 : goal.literal-requires-then-k-eq0
 literal-requires-then-k-eq0 c = target_small _ _ _ _ _ c.requires

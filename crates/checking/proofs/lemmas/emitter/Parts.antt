@@ -14,8 +14,8 @@ use Rattle.bits.proofs.Lists.{over_push, over_length, rest_lent, lent_over}
 use Rattle.bits.proofs.Lowest.{lowest_below, lines_on, lines_done}
 use Rattle.circuit.specs.Gate.{max_lines}
 use Rattle.checking.specs.Clauses.{Clause, OR, XOR, plus, minus, implied, many_clauses}
-use Rattle.checking.specs.Stored.{stored}
-use Rattle.checking.specs.private.Emitter.{literal_word, literal_at, literals_in, controls_stored, by_line, many_stored, Lines, Many}
+use Rattle.checking.specs.Stored.{stored, word_limit}
+use Rattle.checking.specs.private.Emitter.{literal_word, literal_at, literals_in, controls_stored, by_line, Lines}
 use Rattle.checking.proofs.lemmas.clauses.Reading.{stored_append}
 use Rattle.checking.proofs.lemmas.clauses.Sums.{implied_words}
 
@@ -166,6 +166,17 @@ pub lines_few : (lines k n : ℕ) → Lines lines k n → k ≤ n
 lines_few lines k n h = let e = h.count in omega (arith, lines_ones n lines h.below, ones-le n lines h.below)
 
 -- ---- the clauses with a p
+
+-- in words
+abbrev pub many_stored : List ℕ → ℕ → ℕ → ℕ → ℕ → ℕ → List ℤ
+many_stored current used v positive lines n = stored (many_clauses (suc used) (suc (suc used)) v (literals_in current positive lines n))
+
+-- k controls, room for their words, and variables that fit a word
+pub record Many (lines k n used v room : ℕ) : Type 0 where
+  pub controls : Lines lines k n
+  pub few : used + 2 < word_limit
+  pub target : v < word_limit
+  pub enough : 5 * k + 8 ≤ room
 
 -- two lent rests are filled one after the other
 filled : (k : ℕ) (head mid tail first o l₂ l₃ : List ℤ) → length head ≡ 3 → length mid ≡ 5 * k → 5 * k + 8 ≤ length first

@@ -14,7 +14,8 @@ use Rattle.checking.specs.declared.clauses.Totals.{Totals}
 use Rattle.checking.specs.Clauses.{plus, minus, literal_of, gate_clauses, many_clauses}
 use Rattle.checking.specs.Stored.{stored, word_limit}
 use Rattle.checking.specs.Sizes.{gate_sizes}
-use Rattle.checking.specs.private.Emitter.{by_line, literal_at, literals_in, gate_stored, many_stored, Many, Ready}
+use Rattle.checking.specs.private.Emitter.{by_line, literal_at, literals_in, gate_stored, Ready}
+use Rattle.checking.proofs.lemmas.emitter.Parts.{many_stored, Many}
 use Rattle.checking.proofs.lemmas.clauses.Sums.{many_words}
 use Rattle.checking.proofs.lemmas.clauses.Loop.{sizes_many}
 

@@ -111,9 +111,6 @@ module _ (first words : List ℕ) (gates pairs merges : ℕ) (s : Standing first
   pub lent_valid : all_valid max_lines (gates_of lent) ≡ true
   lent_valid = ap (all_valid max_lines) lent_gates ∙ s.good
 
-  pub lent_whole : length lent % 3 ≡ 0
-  lent_whole = let e : length lent ≡ 3 * gates = ap length lent_words ∙ words_length s.now ∙ ap (λ (k : ℕ). 3 * k) s.size in omega arith
-
   -- none: the reduction has ended
   ends : search_from 0 (gates_of lent) ≡ Search.nothing → step_gates s.now ≡ none
   unfolding step_gates
