@@ -33,7 +33,7 @@ fn number(text: &[u8], at: usize) -> Numeral
         };
     }
     Numeral {
-        value: (10 * (a - b'0') + (b - b'0')) as u64,
+        value: 10 * (a - b'0') as u64 + (b - b'0') as u64,
         next: at + 2,
     }
 }

@@ -61,7 +61,7 @@ fn stop(b: u8) -> bool
 fn sign(b: u8) -> bool
     ensures { result ≡ (b == plus_sign || b == minus_sign) }
 {
-    b == b'+' || b == b'-'
+    matches!(b, b'+' | b'-')
 }
 
 // How many digits a number below 100 has.
@@ -98,7 +98,7 @@ fn number(text: &[u8], at: usize) -> Option<Numeral>
         return None;
     }
     Some(Numeral {
-        value: (10 * (a - b'0') + (b - b'0')) as u64,
+        value: 10 * (a - b'0') as u64 + (b - b'0') as u64,
         next: at + 2,
     })
 }
