@@ -1,12 +1,12 @@
 -- Two gates: whether they may pass each other, how they match, and what remains, by document 01.
 use Rattle.std.specs.Prelude.{ℕ, ◌^◌, Bool, cond, ◌&&◌, List, [], ◌∷◌, ◌==◌, bit_and, bit_or, bit_xor, count_ones}
+use Rattle.std.specs.declared.option.Option.{Option}
+use Rattle.std.specs.declared.option.Option.TheVariants.{None, Some}
 use Rattle.circuit.specs.declared.gate.Gate.{Gate}
 use Rattle.checking.specs.declared.step.Kind as declared_kind
 use Rattle.checking.specs.declared.step.Kind.TheVariants as kind
 use Rattle.checking.specs.declared.step.Match as declared_match
 use Rattle.checking.specs.declared.step.Match.TheVariants as match
-use Rattle.checking.specs.declared.step.Verdict.{Verdict}
-use Rattle.checking.specs.declared.step.Verdict.TheVariants.{Apart, Matched}
 
 -- the control lines
 unfoldable pub control_lines : Gate → ℕ
@@ -90,6 +90,6 @@ of_match match.Cancel = Match.pair
 of_match (match.RemoveControl r) = Match.drop r
 of_match (match.InvertControl r) = Match.turn r
 
-abbrev pub of_verdict : Verdict → Compared
-of_verdict Apart = apart
-of_verdict (Matched m) = matched (of_match m)
+abbrev pub of_matched : Option declared_match.Match → Compared
+of_matched None = apart
+of_matched (Some m) = matched (of_match m)

@@ -26,7 +26,8 @@ fn make_call(call: Call, gates: usize, words: &mut [u64]) -> usize
     match call {
         Call::StepOn(n) => match crate::step::step(n, &mut words[..end]) {
             Ok(Some(stepped)) => stepped.gates,
-            _ => gates,
+            Ok(None) => gates,
+            Err(_) => gates,
         },
         Call::ReduceOn(n) => match crate::reduce::reduce(n, &mut words[..end]) {
             Ok(reduction) => reduction.gates,

@@ -24,12 +24,7 @@ fn lowest_difference(a: &[u64], b: &[u64], count: u64) -> Option<u64>
     requires second_valid { all_valid max_lines (gates_of b.now) ≡ true }
     ensures { of_difference result ≡ lowest_from (gates_of a.now) (gates_of b.now) 0 count }
 {
-    for x in 0..count {
-        if outputs_differ(a, b, x) {
-            return Some(x);
-        }
-    }
-    None
+    (0..count).find(|x| outputs_differ(a, b, *x))
 }
 
 // The lowest state on which two cascades of at most 16 lines differ (01: sweep), or none; else what is wrong with the pair, or 13.

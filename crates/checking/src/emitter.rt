@@ -84,7 +84,13 @@ fn put_many(
     let end = 3 + 5 * controls;
     end + bits::put(
         &mut out[end..],
-        &[1, 3, literal(p + 1, false), literal(v, true), literal(p, true)],
+        &[
+            1,
+            3,
+            literal(p + 1, false),
+            literal(v, true),
+            literal(p, true),
+        ],
     )
 }
 

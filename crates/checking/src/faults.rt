@@ -1,6 +1,6 @@
 // Faults: for each gate of a suspect the lines that may be a missing control.
 
-ghost use Rattle.std.specs.Prelude.{◌≡◌, ◌-◌, ◌*◌, ◌^◌, ◌≤◌, true, [], length, nat_lt};
+ghost use Rattle.std.specs.Prelude.{◌≡◌, ◌-◌, ◌*◌, ◌/◌, ◌^◌, ◌≤◌, true, not, [], length, nat_lt, position};
 ghost use Rattle.bits.specs.Lists.{over};
 ghost use Rattle.circuit.specs.Gate.{max_lines, valid};
 ghost use Rattle.circuit.specs.Outcome.{outcome_of, Yields};
@@ -58,93 +58,79 @@ fn kept_lines(g: Gate, state: u64, positive: bool) -> u64
 fn start_masks(n: u64, words: &[u64], out: &mut [u64])
     requires few_lines { n ≤ max_lines }
     requires valid_gates { all_valid n (gates_of words.now) ≡ true }
-    requires mask_room { gate_masks * length (gates_of words.now) ≤ length out.old }
+    requires mask_room { gate_masks * (length words.now / 3) ≤ length out.old }
     ensures { out.new ≡ over (masks_from n [] (gates_of words.now) []) out.old }
 {
-    let gates = words.len() / Gate::WORDS;
-    let mut i = 0;
-    while i < gates {
+    for i in 0..words.len() / Gate::WORDS {
         let free = free_lines(circuit::words::gate_at(words, i), n);
         let at = MASKS * i;
         out[at] = free;
         out[at + 1] = free;
-        i += 1;
     }
 }
 
 // The masks after one state more.
 fn narrow(words: &[u64], state: u64, out: &mut [u64])
     requires valid_gates { all_valid max_lines (gates_of words.now) ≡ true }
-    requires mask_room { gate_masks * length (gates_of words.now) ≤ length out.old }
+    requires mask_room { gate_masks * (length words.now / 3) ≤ length out.old }
     ensures { out.new ≡ narrowed (gates_of words.now) state out.old }
 {
-    let gates = words.len() / Gate::WORDS;
     let mut s = state;
-    let mut i = 0;
-    while i < gates {
+    for i in 0..words.len() / Gate::WORDS {
         let g = circuit::words::gate_at(words, i);
         let at = MASKS * i;
-        out[at] = out[at] & kept_lines(g, s, true);
-        out[at + 1] = out[at + 1] & kept_lines(g, s, false);
+        out[at] &= kept_lines(g, s, true);
+        out[at + 1] &= kept_lines(g, s, false);
         s = g.toggle(s);
-        i += 1;
     }
 }
 
 // The masks after all states.
 fn narrow_all(words: &[u64], states: &[u64], out: &mut [u64])
     requires valid_gates { all_valid max_lines (gates_of words.now) ≡ true }
-    requires mask_room { gate_masks * length (gates_of words.now) ≤ length out.old }
+    requires mask_room { gate_masks * (length words.now / 3) ≤ length out.old }
     ensures { out.new ≡ narrowed_by (gates_of words.now) states.now out.old }
 {
-    let mut i = 0;
-    while i < states.len() {
-        narrow(words, states[i], out);
-        i += 1;
+    for state in states {
+        narrow(words, *state, out);
     }
 }
 
-// The number of states, all below 2 ^ n; else 9 at the first that is not.
-fn check_states(n: u64, states: &[u64]) -> Result<usize, Refusal>
-    ensures { outcome_of result ≡ each_from (λ x. nat_lt x (2 ^ n)) bad_state 0 states.now }
+// The first state that is not below 2 ^ n.
+fn first_outside(n: u64, states: &[u64]) -> Option<usize>
+    ensures { result ≡ position (λ x. not (nat_lt x (2 ^ n))) states.now }
 {
-    let mut i = 0;
-    while i < states.len() {
-        if !circuit::gate::below(states[i], n) {
-            return Err(Refusal::BadState(i as u64));
-        }
-        i += 1;
-    }
-    Ok(i)
+    states.iter().position(|x| !circuit::gate::below(*x, n))
 }
 
-// The number of states, on all of which the cascades differ; else 12 at the first on which they agree.
-fn check_differing(a: &[u64], b: &[u64], states: &[u64]) -> Result<usize, Refusal>
+// The first state on which the cascades agree.
+fn first_agreeing(a: &[u64], b: &[u64], states: &[u64]) -> Option<usize>
     requires first_valid { all_valid max_lines (gates_of a.now) ≡ true }
     requires second_valid { all_valid max_lines (gates_of b.now) ≡ true }
-    ensures { outcome_of result ≡ each_from (outputs_differ (gates_of a.now) (gates_of b.now)) agreeing_state 0 states.now }
+    ensures { result ≡ position (λ x. not (outputs_differ (gates_of a.now) (gates_of b.now) x)) states.now }
 {
-    let mut i = 0;
-    while i < states.len() {
-        if !crate::compare::outputs_differ(a, b, states[i]) {
-            return Err(Refusal::AgreeingState(i as u64));
-        }
-        i += 1;
-    }
-    Ok(i)
+    states
+        .iter()
+        .position(|x| !crate::compare::outputs_differ(a, b, *x))
 }
 
 // The number of gates of the suspect; else what is wrong with the pair, 9 or 12.
+#[tactic(auto, unfolding(crate::specs::Faults::fault_check))]
 fn check_faults(na: u64, suspect: &[u64], nb: u64, reference: &[u64], states: &[u64]) -> Result<usize, Refusal>
     ensures { outcome_of result ≡ fault_check na suspect.now nb reference.now states.now }
 {
     let counts = circuit::words::check_pair(na, suspect, nb, reference)?;
-    check_states(na, states)?;
-    check_differing(suspect, reference, states)?;
+    if let Some(i) = first_outside(na, states) {
+        return Err(Refusal::BadState(i as u64));
+    }
+    if let Some(i) = first_agreeing(suspect, reference, states) {
+        return Err(Refusal::AgreeingState(i as u64));
+    }
     Ok(counts.first)
 }
 
 // The number of gates of the suspect, whose masks stand at the buffer's start; else what is wrong with the pair, 9, 12 or 10.
+#[tactic(auto, unfolding(crate::specs::Faults::fault_outcome, crate::specs::Faults::fault_buffer))]
 pub fn fault_masks(
     na: u64,
     suspect: &[u64],

@@ -7,15 +7,15 @@ ghost use Rattle.checking.specs.Miter.{miter_outcome, miter_buffer};
 use circuit::refusal::Refusal;
 
 // The number of gates of the miter, which stands at the buffer's start; else 2, 11, 6, 7 of either, 8 or 10.
+#[tactic(auto, unfolding(crate::specs::Miter::miter_outcome, crate::specs::Miter::miter_buffer))]
 pub fn miter(na: u64, a: &[u64], nb: u64, b: &[u64], out: &mut [u64]) -> Result<usize, Refusal>
     ensures { Yields (outcome_of result) out.new (miter_outcome na a.now nb b.now (length out.old)) (miter_buffer na a.now nb b.now out.old) }
 {
     let counts = circuit::words::check_pair(na, a, nb, b)?;
-    let at = a.len();
-    if out.len() < at + b.len() {
+    if out.len() < a.len() + b.len() {
         return Err(Refusal::NoRoom);
     }
-    bits::put(out, a);
+    let at = bits::put(out, a);
     circuit::inverse::put_inverse(b, &mut out[at..]);
     Ok(counts.first + counts.second)
 }

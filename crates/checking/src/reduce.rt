@@ -7,7 +7,7 @@ ghost use Rattle.circuit.specs.Words.{gates_of, all_valid};
 ghost use Rattle.checking.specs.Step.{filled};
 ghost use Rattle.checking.specs.Reduce.{reduce_gates, numbered, reduce_outcome, reduce_buffer, of_reduction};
 
-use crate::step::{Kind, Search};
+use crate::step::Kind;
 use circuit::gate::Gate;
 use circuit::refusal::Refusal;
 
@@ -28,33 +28,18 @@ fn reduce_gates(words: &mut [u64]) -> Reduction
     let mut gates = words.len() / Gate::WORDS;
     let mut pairs = 0;
     let mut merges = 0;
-    loop {
-        let end = Gate::WORDS * gates;
-        match crate::step::search_gates(&words[0..end]) {
-            Search::Nothing => {
-                return Reduction {
-                    gates,
-                    pairs,
-                    merges,
-                };
-            }
-            Search::At { i, j, by } => {
-                let s = crate::step::make_step(&mut words[0..end], i, j, by);
-                gates = s.gates;
-                let kind = s.kind;
-                match kind {
-                    Kind::Cancel => {
-                        pairs += 1;
-                    }
-                    Kind::RemoveControl => {
-                        merges += 1;
-                    }
-                    Kind::InvertControl => {
-                        merges += 1;
-                    }
-                }
-            }
+    while let Some(found) = crate::step::search_gates(&words[..Gate::WORDS * gates]) {
+        let s = crate::step::make_step(&mut words[..Gate::WORDS * gates], found);
+        gates = s.gates;
+        match s.kind {
+            Kind::Cancel => pairs += 1,
+            Kind::RemoveControl | Kind::InvertControl => merges += 1,
         }
+    }
+    Reduction {
+        gates,
+        pairs,
+        merges,
     }
 }
 

@@ -1,7 +1,7 @@
 -- The laws of a number in decimal. Assumes nothing.
 use mathlib.Core.Path.{◌≡◌, refl, sym, ap, ap₂, ◌∙◌}
 use mathlib.Core.List.{List, [], ◌∷◌, ◌++◌, append_assoc}
-use Prim.Native.Nat.{ℕ, zero, suc, ◌+◌, ◌/◌, ◌%◌, ◌^◌, ◌≤◌, ◌<◌}
+use Prim.Native.Nat.{ℕ, zero, suc, ◌+◌, ◌*◌, ◌/◌, ◌%◌, ◌^◌, ◌≤◌, ◌<◌}
 use native.Mathlib.Omega.{arith}
 use lib.Dec.{ltb}
 use lib.ListN.{length, length-append}
@@ -72,3 +72,13 @@ decimal_few (suc d) k h =
     (λ t. omega (arith, ap length (decimal_short k (ltb-true k 10 t))))
     (λ t.
     omega (arith, ap length (decimal_long k (ltb-false k 10 t)), length-append (decimal (k / 10)) (digit (k % 10) ∷ []), decimal_few d (k / 10) (omega arith)))
+
+tens : (m : ℕ) → 1 ≤ 10 ^ m
+tens zero = omega arith
+tens (suc m) = omega (arith, tens m)
+
+-- a number from 10 ^ m up, and below ten times as much, has m + 1 digits
+pub decimal_digits : (m k : ℕ) → 10 ^ m ≤ k → k < 10 * 10 ^ m → length (decimal k) ≡ m + 1
+decimal_digits zero k h l = ap length (decimal_short k (omega arith))
+decimal_digits (suc m) k h l =
+    omega (arith, ap length (decimal_long k (omega (arith, tens m))), length-append (decimal (k / 10)) (digit (k % 10) ∷ []), decimal_digits m (k / 10) (omega arith) (omega arith))

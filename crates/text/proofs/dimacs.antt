@@ -1,3 +1,3 @@
--- `Signed`: what the code makes of a clause word. `Loops`: what the loop over literals keeps, and the next of stored clauses.
+-- `Signed`: a clause word as it is passed on. `Loops`: the literals that are left.
 pub mod Signed
 pub mod Loops

@@ -1,4 +1,3 @@
--- The proofs of the functions for a clause list as OR clauses alone: `Short` on the clauses of a list, `Laws` on those of one record, `Sizing` on what the loop over the sizes keeps.
+-- The proofs of the functions for a clause list as OR clauses alone: `Short` on the clauses of a list, `Laws` on those of one record.
 pub mod Short
 pub mod Laws
-pub mod Sizing

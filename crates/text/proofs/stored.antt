@@ -1,3 +1,3 @@
--- `Records`: what is left of words that store clauses. `Listing`: what the loop over their text keeps.
-pub mod Records
-pub mod Listing
+-- `Laws` on the clauses that words store and their text, `Sizing` on what the loop over their sizes keeps.
+pub mod Laws
+pub mod Sizing

@@ -1,6 +1,6 @@
 // Writing a comparison's text at the start of a buffer where it fits: how many bytes it is, or 10.
 
-ghost use Rattle.std.specs.Prelude.{◌≡◌, ◌++◌, ◌+◌, length};
+ghost use Rattle.std.specs.Prelude.{◌≡◌, ◌++◌, ◌+◌, ◌≤◌, length};
 ghost use Rattle.circuit.specs.Outcome.{Yields};
 ghost use Rattle.text.specs.Answers.{of_text, fit_outcome, fit_buffer};
 ghost use Rattle.text.specs.Dimacs.{decimal, dimacs_of};
@@ -22,12 +22,13 @@ fn fit_text(out: &mut [u8], text: &[u8]) -> TextAnswer
     if out.len() < text.len() {
         return TextAnswer::Refused(Refusal::no_room());
     }
-    TextAnswer::Bytes(crate::put::put_word(out, text))
+    TextAnswer::Bytes(bits::put(out, text))
 }
 
 // The digits of three numbers.
 fn three_digits(a: u64, b: u64, c: u64) -> usize
-    ensures { result ≡ length (decimal a) + length (decimal b) + length (decimal c) }
+    ensures count { result ≡ length (decimal a) + length (decimal b) + length (decimal c) }
+    ensures few { result ≤ 60 }
 {
     crate::plain::digits(a) + crate::plain::digits(b) + crate::plain::digits(c)
 }
@@ -60,7 +61,7 @@ fn fit_clauses(out: &mut [u8], variables: u64, words: &[ClauseWord]) -> TextAnsw
     if out.len() < three_digits(variables, clauses, 0) + 7 + bytes {
         return TextAnswer::Refused(Refusal::no_room());
     }
-    TextAnswer::Bytes(crate::stored::put_list(out, variables, clauses, true, words))
+    TextAnswer::Bytes(crate::plain::put_list(out, variables, clauses, words))
 }
 
 // Writes what a comparison answers.

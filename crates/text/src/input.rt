@@ -39,17 +39,11 @@ fn read_state(n: u64, text: &[u8]) -> StateAnswer
         return StateAnswer::Nothing;
     }
     let mut x = 0;
-    let mut i = text.len();
-    while 0 < i {
-        i -= 1;
-        let b = text[i];
-        if b < 48 {
+    for b in text.iter().rev() {
+        if *b < b'0' || b'1' < *b {
             return StateAnswer::Nothing;
         }
-        if 49 < b {
-            return StateAnswer::Nothing;
-        }
-        x = 2 * x + (b as u64 - 48);
+        x = 2 * x + u64::from(*b - b'0');
     }
     StateAnswer::State(x)
 }
@@ -60,40 +54,21 @@ fn put_state(out: &mut [u8], n: u64, x: u64) -> usize
     ensures { Put result out.new (state_text n x) out.old }
 {
     let mut left = x;
-    let mut i = 0;
-    while (i as u64) < n {
-        out[i] = 48 + (left % 2) as u8;
+    for i in 0..n as usize {
+        out[i] = b'0' + (left % 2) as u8;
         left /= 2;
-        i += 1;
     }
-    i
+    n as usize
 }
 
 // Writes a tab and a state.
+#[tactic(auto, using(crate::proofs::put::Laws::then_put, crate::proofs::input::Laws::state_long))]
 fn put_output(out: &mut [u8], n: u64, x: u64) -> usize
     requires { n + 1 ≤ length out.old }
     ensures { Put result out.new (tab ∷ state_text n x) out.old }
 {
-    let at = crate::put::put_word(&mut out[0..], b"\t");
+    let at = bits::put(out, b"\t");
     at + put_state(&mut out[at..], n, x)
-}
-
-// Writes a tab, a state and an LF.
-fn put_line(out: &mut [u8], n: u64, x: u64) -> usize
-    requires { n + 2 ≤ length out.old }
-    ensures { Put result out.new ((tab ∷ state_text n x) ++ (line_feed ∷ [])) out.old }
-{
-    let at = put_output(&mut out[0..], n, x);
-    at + crate::put::put_word(&mut out[at..], b"\n")
-}
-
-// Writes two outputs, each after a tab, and an LF.
-fn put_outputs(out: &mut [u8], n: u64, first: u64, second: u64) -> usize
-    requires { 2 * n + 3 ≤ length out.old }
-    ensures { Put result out.new ((tab ∷ state_text n first) ++ ((tab ∷ state_text n second) ++ (line_feed ∷ []))) out.old }
-{
-    let at = put_output(&mut out[0..], n, first);
-    at + put_line(&mut out[at..], n, second)
 }
 
 // Writes whether two outputs differ.
@@ -102,18 +77,21 @@ fn put_verdict(out: &mut [u8], first: u64, second: u64) -> usize
     ensures { Put result out.new (cond (first == second) agree_word differ_word) out.old }
 {
     if first == second {
-        return crate::put::put_word(out, b"agree");
+        return bits::put(out, b"agree");
     }
-    crate::put::put_word(out, b"differ")
+    bits::put(out, b"differ")
 }
 
-// Writes the same, and the outputs.
+// Writes the same and both outputs, each after a tab, and an LF.
+#[tactic(auto, using(crate::proofs::input::Laws::parts, crate::proofs::input::Laws::state_long))]
 fn put_checked(out: &mut [u8], n: u64, first: u64, second: u64) -> usize
     requires { length (outputs_text n first second) ≤ length out.old }
     ensures { Put result out.new (outputs_text n first second) out.old }
 {
-    let at = put_verdict(&mut out[0..], first, second);
-    at + put_outputs(&mut out[at..], n, first, second)
+    let mut at = put_verdict(out, first, second);
+    at += put_output(&mut out[at..], n, first);
+    at += put_output(&mut out[at..], n, second);
+    at + bits::put(&mut out[at..], b"\n")
 }
 
 // Writes the same where it fits.

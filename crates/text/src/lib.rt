@@ -60,7 +60,7 @@ pub fn tomiter(input: &[u8], out: &mut [u8]) -> TextAnswer
     if out.len() < size {
         return TextAnswer::Refused(Refusal::no_room());
     }
-    crate::put::put_word(out, &text[..size]);
+    bits::put(out, &text[..size]);
     TextAnswer::Bytes(size)
 }
 

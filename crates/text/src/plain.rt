@@ -1,15 +1,16 @@
-// A clause list as OR clauses alone: its sizes, and writing one clause of it at the start of a buffer. Each writing function tells how many bytes it wrote.
+// A clause list as OR clauses alone: its sizes, and writing it at the start of a buffer. Each writing function tells how many bytes it wrote.
 
 ghost use Rattle.std.specs.Prelude.{◌≡◌, [], ◌∷◌, ◌++◌, ◌+◌, ◌≤◌, ◌<◌, neg_ℤ, length};
 ghost use Rattle.bits.specs.Lists.{Put};
 ghost use Rattle.checking.specs.Clauses.{OR, XOR, max_variables};
 ghost use Rattle.checking.specs.Satisfaction.{variable_of, LiteralsWithin};
 ghost use Rattle.checking.specs.Stored.{word_limit};
-ghost use Rattle.text.specs.Dimacs.{decimal, literal_text, literals_text, closing, clauses_text};
-ghost use Rattle.text.specs.Plain.{plain_clause};
+ghost use Rattle.text.specs.Dimacs.{decimal, literal_text, literals_text, closing, clauses_text, header_text};
+ghost use Rattle.text.specs.Plain.{plain_clause, plain_clauses};
 ghost use Rattle.text.specs.Compare.{max_list};
-ghost use Rattle.text.specs.private.Words.{both_ors, plain_record, Plainable, StoresList, plain_sizes};
+ghost use Rattle.text.specs.private.Words.{plain_record, Plainable, StoresList, plain_sizes, stored_in};
 
+use crate::stored::Records;
 use checking::clauses::ClauseWord;
 
 // The bytes of a text, and the clauses in it.
@@ -19,36 +20,21 @@ pub struct PlainSizes {
     pub clauses: u64,
 }
 
-// The opposite literal.
-fn negated(literal: ClauseWord) -> ClauseWord
-    requires { variable_of literal < word_limit }
-    ensures { result ≡ neg_ℤ literal }
-{
-    0 - literal
-}
-
 // The number of digits of a number.
 pub(crate) fn digits(k: u64) -> usize
-    ensures { result ≡ length (decimal k) }
+    ensures count { result ≡ length (decimal k) }
+    ensures few { result ≤ 20 }
 {
-    let mut count = 1;
-    let mut left = k;
-    while 10 <= left {
-        left /= 10;
-        count += 1;
-    }
-    count
+    k.checked_ilog10().unwrap_or(0) as usize + 1
 }
 
 // The bytes of a literal.
 fn literal_size(literal: ClauseWord) -> usize
-    ensures { result ≡ length (literal_text literal) }
+    ensures size { result ≡ length (literal_text literal) }
+    ensures few { result ≤ 21 }
 {
-    let count = digits(crate::dimacs::magnitude(literal));
-    if literal < 0 {
-        return count + 1;
-    }
-    count
+    let count = digits(u64::from(literal.unsigned_abs()));
+    if literal < 0 { count + 1 } else { count }
 }
 
 // The bytes of a literal and of the opposite one.
@@ -56,7 +42,7 @@ fn both_size(literal: ClauseWord) -> usize
     requires { variable_of literal < word_limit }
     ensures { result ≡ length (literal_text literal) + length (literal_text (neg_ℤ literal)) }
 {
-    literal_size(literal) + literal_size(negated(literal))
+    literal_size(literal) + literal_size(-literal)
 }
 
 // The bytes of an OR.
@@ -66,10 +52,8 @@ fn closed_size(literals: &[ClauseWord]) -> usize
     ensures { result ≡ length (literals_text literals.now ++ closing) }
 {
     let mut size = 2;
-    let mut i = 0;
-    while i < literals.len() {
-        size += literal_size(literals[i]) + 1;
-        i += 1;
+    for literal in literals {
+        size += literal_size(*literal) + 1;
     }
     size
 }
@@ -110,24 +94,11 @@ pub(crate) fn list_sizes(words: &[ClauseWord]) -> PlainSizes
 {
     let mut bytes = 0;
     let mut clauses = 0;
-    let mut i = 0;
-    while i < words.len() {
-        let from = i + 2;
-        let to = from + crate::dimacs::magnitude(words[i + 1]) as usize;
-        bytes += record_size(words[i], &words[from..to]);
-        clauses += record_clauses(words[i], &words[from..to]);
-        i = to;
+    for record in (Records { words }) {
+        bytes += record_size(record.kind, record.literals);
+        clauses += record_clauses(record.kind, record.literals);
     }
     PlainSizes { bytes, clauses }
-}
-
-// Writes two ORs.
-fn put_ors(out: &mut [u8], first: &[ClauseWord], second: &[ClauseWord]) -> usize
-    requires { length (clauses_text (OR first.now ∷ OR second.now ∷ [])) ≤ length out.old }
-    ensures { Put result out.new (clauses_text (OR first.now ∷ OR second.now ∷ [])) out.old }
-{
-    let at = crate::dimacs::put_closed(&mut out[0..], first);
-    at + crate::dimacs::put_closed(&mut out[at..], second)
 }
 
 // Writes the plain clauses of an XOR of two literals.
@@ -136,20 +107,8 @@ fn put_pair(out: &mut [u8], a: ClauseWord, b: ClauseWord) -> usize
     requires out_room { length (clauses_text (plain_clause (XOR (a ∷ b ∷ [])))) ≤ length out.old }
     ensures { Put result out.new (clauses_text (plain_clause (XOR (a ∷ b ∷ [])))) out.old }
 {
-    let first = [a, b];
-    let second = [negated(a), negated(b)];
-    put_ors(out, &first, &second)
-}
-
-// Writes the ORs of three literals, and of the first and the opposite of the others.
-fn put_both(out: &mut [u8], a: ClauseWord, b: ClauseWord, c: ClauseWord) -> usize
-    requires literals_fit { (variable_of b < word_limit) × (variable_of c < word_limit) }
-    requires out_room { length (clauses_text (both_ors a b c)) ≤ length out.old }
-    ensures { Put result out.new (clauses_text (both_ors a b c)) out.old }
-{
-    let first = [a, b, c];
-    let second = [a, negated(b), negated(c)];
-    put_ors(out, &first, &second)
+    let at = crate::dimacs::put_closed(out, &[a, b]);
+    at + crate::dimacs::put_closed(&mut out[at..], &[-a, -b])
 }
 
 // Writes the plain clauses of an XOR of three literals.
@@ -158,12 +117,14 @@ fn put_triple(out: &mut [u8], a: ClauseWord, b: ClauseWord, c: ClauseWord) -> us
     requires out_room { length (clauses_text (plain_clause (XOR (a ∷ b ∷ c ∷ [])))) ≤ length out.old }
     ensures { Put result out.new (clauses_text (plain_clause (XOR (a ∷ b ∷ c ∷ [])))) out.old }
 {
-    let at = put_both(&mut out[0..], a, b, c);
-    at + put_both(&mut out[at..], negated(a), b, negated(c))
+    let mut at = crate::dimacs::put_closed(out, &[a, b, c]);
+    at += crate::dimacs::put_closed(&mut out[at..], &[a, -b, -c]);
+    at += crate::dimacs::put_closed(&mut out[at..], &[-a, b, -c]);
+    at + crate::dimacs::put_closed(&mut out[at..], &[-a, -b, c])
 }
 
 // Writes a clause's plain clauses.
-pub(crate) fn put_record(out: &mut [u8], kind: ClauseWord, literals: &[ClauseWord]) -> usize
+fn put_record(out: &mut [u8], kind: ClauseWord, literals: &[ClauseWord]) -> usize
     requires plainable { Plainable kind literals.now }
     requires out_room { length (clauses_text (plain_record kind literals.now)) ≤ length out.old }
     ensures { Put result out.new (clauses_text (plain_record kind literals.now)) out.old }
@@ -175,4 +136,17 @@ pub(crate) fn put_record(out: &mut [u8], kind: ClauseWord, literals: &[ClauseWor
         return put_triple(out, literals[0], literals[1], literals[2]);
     }
     crate::dimacs::put_closed(out, literals)
+}
+
+// Writes the header and the clauses that words store, as OR clauses alone.
+pub(crate) fn put_list(out: &mut [u8], variables: u64, clauses: u64, words: &[ClauseWord]) -> usize
+    requires stores_list { StoresList words.now }
+    requires out_room { length (header_text variables clauses ++ clauses_text (plain_clauses (stored_in words.now))) ≤ length out.old }
+    ensures { Put result out.new (header_text variables clauses ++ clauses_text (plain_clauses (stored_in words.now))) out.old }
+{
+    let mut at = crate::dimacs::put_header(out, variables, clauses);
+    for record in (Records { words }) {
+        at += put_record(&mut out[at..], record.kind, record.literals);
+    }
+    at
 }

@@ -22,13 +22,7 @@ pub(crate) fn put_text(out: &mut [u8], input: &[u8]) -> usize
         }
         ListAnswer::Listed(totals) => {
             let end = totals.words as usize;
-            crate::stored::put_list(
-                out,
-                totals.variables,
-                totals.clauses,
-                false,
-                &clauses[..end],
-            )
+            crate::stored::put_list(out, totals.variables, totals.clauses, &clauses[..end])
         }
     }
 }

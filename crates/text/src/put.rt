@@ -6,16 +6,6 @@ ghost use Rattle.circuit.specs.Text.{line_feed, digit};
 ghost use Rattle.text.specs.Dimacs.{decimal};
 ghost use Rattle.text.specs.FileOutcome.{numbers_text};
 
-// Writes a word.
-pub(crate) fn put_word(out: &mut [u8], word: &[u8]) -> usize
-    requires { length word.now ≤ length out.old }
-    ensures { Put result out.new word.now out.old }
-{
-    let size = word.len();
-    out[..size].copy_from_slice(word);
-    size
-}
-
 // The digit of a number below 10.
 fn digit(k: u64) -> u8
     requires { k < 10 }
@@ -47,6 +37,7 @@ fn put_short(out: &mut [u8], k: u64) -> usize
 }
 
 // Writes a number below 10,000.
+#[tactic(auto, using(crate::proofs::Decimal::hundreds_length))]
 fn put_middle(out: &mut [u8], k: u64) -> usize
     requires { (k < 10000) × (length (decimal k) ≤ length out.old) }
     ensures { Put result out.new (decimal k) out.old }
@@ -59,6 +50,7 @@ fn put_middle(out: &mut [u8], k: u64) -> usize
 }
 
 // Writes a number, two digits a call.
+#[tactic(auto, using(crate::proofs::Decimal::hundreds_length))]
 fn put_long(out: &mut [u8], k: u64) -> usize
     requires { length (decimal k) ≤ length out.old }
     ensures { Put result out.new (decimal k) out.old }
@@ -82,21 +74,13 @@ pub(crate) fn put_number(out: &mut [u8], k: u64) -> usize
 }
 
 // Writes a word and a number.
+#[tactic(auto, using(crate::proofs::put::Laws::then_put))]
 pub(crate) fn put_numbered(out: &mut [u8], word: &[u8], k: u64) -> usize
     requires { length word.now + length (decimal k) ≤ length out.old }
     ensures { Put result out.new (word.now ++ decimal k) out.old }
 {
-    let at = put_word(&mut out[0..], word);
+    let at = bits::put(out, word);
     at + put_number(&mut out[at..], k)
-}
-
-// Writes a word, a number and an LF.
-pub(crate) fn put_last(out: &mut [u8], word: &[u8], k: u64) -> usize
-    requires { length word.now + length (decimal k) + 1 ≤ length out.old }
-    ensures { Put result out.new ((word.now ++ decimal k) ++ (line_feed ∷ [])) out.old }
-{
-    let at = put_numbered(&mut out[0..], word, k);
-    at + put_word(&mut out[at..], b"\n")
 }
 
 // Writes a word and three numbers, tab-parted, and an LF.
@@ -104,7 +88,8 @@ pub(crate) fn put_three(out: &mut [u8], word: &[u8], a: u64, b: u64, c: u64) -> 
     requires { length word.now + length (decimal a) + length (decimal b) + length (decimal c) + 3 ≤ length out.old }
     ensures { Put result out.new (word.now ++ numbers_text a b c) out.old }
 {
-    let at = put_numbered(&mut out[0..], word, a);
-    let to = at + put_numbered(&mut out[at..], b"\t", b);
-    to + put_last(&mut out[to..], b"\t", c)
+    let mut at = put_numbered(out, word, a);
+    at += put_numbered(&mut out[at..], b"\t", b);
+    at += put_numbered(&mut out[at..], b"\t", c);
+    at + bits::put(&mut out[at..], b"\n")
 }

@@ -1,53 +1,58 @@
-// Writing the clauses that words store at the start of a buffer, as they are or as OR clauses alone. Each function tells how many bytes it wrote.
+// The clauses that words store, and writing them at the start of a buffer.
 
-ghost use Rattle.std.specs.Prelude.{◌++◌, ◌≤◌, length};
+ghost use Rattle.std.specs.Prelude.{◌++◌, ◌≤◌, length, IfSome};
+ghost use Rattle.std.specs.Iterator.{YieldsFirstBy, item_count};
 ghost use Rattle.bits.specs.Lists.{Put};
-ghost use Rattle.text.specs.Dimacs.{header_text};
-ghost use Rattle.text.specs.private.Words.{Plainable, StoresList, formed_text, stored_text};
+ghost use Rattle.text.specs.Dimacs.{header_text, clauses_text};
+ghost use Rattle.text.specs.private.Words.{Plainable, StoresList, stored_in, clause_of};
 
 use checking::clauses::ClauseWord;
 
-// Writes a clause by its kind and its literals, where `plain` as OR clauses.
-fn put_formed(out: &mut [u8], plain: bool, kind: ClauseWord, literals: &[ClauseWord]) -> usize
-    requires plainable { Plainable kind literals.now }
-    requires out_room { length (formed_text plain kind literals.now) ≤ length out.old }
-    ensures { Put result out.new (formed_text plain kind literals.now) out.old }
-{
-    if plain {
-        return crate::plain::put_record(out, kind, literals);
-    }
-    crate::dimacs::put_clause(out, kind, literals)
+// A clause by its kind, 1 for an XOR, and its literals.
+#[derive(Clone, Copy)]
+pub(crate) struct Record<'a> {
+    pub kind: ClauseWord,
+    pub literals: &'a [ClauseWord],
 }
 
-// Writes the clauses that words store, where `plain` as OR clauses.
-fn put_clauses(out: &mut [u8], plain: bool, words: &[ClauseWord]) -> usize
+// The words of the clauses that are left.
+#[derive(Drop)]
+pub(crate) struct Records<'a> {
+    pub words: &'a [ClauseWord],
+}
+
+impl<'a> Iterator for Records<'a> {
+    type Item = Record<'a>;
+
+    ghost can_next = { λ s. StoresList s.words.now };
+
+    ghost next_gives = { λ s r t. YieldsFirstBy (λ x. clause_of x.kind x.literals.now) (λ s. stored_in s.words.now) s r t × IfSome r (λ x. Plainable x.kind x.literals.now) };
+
+    ghost remaining = { item_count (λ s. stored_in s.words.now) };
+
+    fn next(&mut self) -> Option<Record<'a>> {
+        let words = self.words;
+        if words.is_empty() {
+            return None;
+        }
+        let end = 2 + usize::from(words[1].unsigned_abs());
+        self.words = &words[end..];
+        Some(Record {
+            kind: words[0],
+            literals: &words[2..end],
+        })
+    }
+}
+
+// Writes the header and the clauses that words store.
+pub(crate) fn put_list(out: &mut [u8], variables: u64, clauses: u64, words: &[ClauseWord]) -> usize
     requires stores_list { StoresList words.now }
-    requires out_room { length (stored_text plain words.now) ≤ length out.old }
-    ensures { Put result out.new (stored_text plain words.now) out.old }
+    requires out_room { length (header_text variables clauses ++ clauses_text (stored_in words.now)) ≤ length out.old }
+    ensures { Put result out.new (header_text variables clauses ++ clauses_text (stored_in words.now)) out.old }
 {
-    let mut at = 0;
-    let mut i = 0;
-    while i < words.len() {
-        let from = i + 2;
-        let to = from + crate::dimacs::magnitude(words[i + 1]) as usize;
-        at += put_formed(&mut out[at..], plain, words[i], &words[from..to]);
-        i = to;
+    let mut at = crate::dimacs::put_header(out, variables, clauses);
+    for record in (Records { words }) {
+        at += crate::dimacs::put_clause(&mut out[at..], record.kind, record.literals);
     }
     at
-}
-
-// Writes the header and the clauses that words store, where `plain` as OR clauses.
-pub(crate) fn put_list(
-    out: &mut [u8],
-    variables: u64,
-    clauses: u64,
-    plain: bool,
-    words: &[ClauseWord],
-) -> usize
-    requires stores_list { StoresList words.now }
-    requires out_room { length (header_text variables clauses ++ stored_text plain words.now) ≤ length out.old }
-    ensures { Put result out.new (header_text variables clauses ++ stored_text plain words.now) out.old }
-{
-    let at = crate::dimacs::put_header(&mut out[0..], variables, clauses);
-    at + put_clauses(&mut out[at..], plain, words)
 }

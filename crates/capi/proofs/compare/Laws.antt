@@ -1,12 +1,6 @@
 -- The answer in C of the cascade with fewer gates, from what `fewer_gates_refusal` and `fewer_gates` owe. Assumes nothing.
-use mathlib.Core.Path.{◌≡◌, sym, ap, ◌∙◌}
-use mathlib.Core.Bool.{true, false, cond}
-use mathlib.Core.List.{List, []}
-use Prim.Native.Nat.{ℕ, ◌*◌, ◌/◌, ◌<◌, ◌≤◌}
-use native.Mathlib.Omega.{arith}
-use lib.Dec.{leb}
-use lib.ListN.{length}
-use borrow.Author.Tests.{leb-true, leb-false, lt-ltb, le-ltb}
+use Rattle.std.proofs.Common.{◌≡◌, sym, ap, ◌∙◌, Bool, true, false, cond, List, [], ℕ, ◌*◌, ◌/◌, ◌<◌, ◌≤◌, arith, leb, ltb, length, leb-true, leb-false, lt-ltb, le-ltb, ltb-true, ltb-false}
+use mir.Val.{bool_byte}
 use Rattle.bits.proofs.Bools.{either, cond-true, cond-false}
 use Rattle.circuit.specs.Gate.{max_gates}
 use Rattle.circuit.specs.Outcome.{Outcome, served, refused}
@@ -61,10 +55,10 @@ module _ (na : ℕ) (a : List ℕ) (nb : ℕ) (b : List ℕ) where
         ap (answer 0) k ∙ sym (ap fewer_answer p ∙ cond-false _ (answer 1 counts.second) _ (le-ltb counts.second counts.first (leb-true counts.first counts.second t))))
         (λ t. absurd (let n = is_second t in let s = first.size in let l = leb-false counts.first counts.second t in omega arith))
 
-  pub fewer_second : (words : List ℕ) → pick_outcome na a nb b ≡ served tt → words ≡ picked (pair_outcome na a nb b) a b [] → length words < length a
-      → answer 1 (length words / 3) ≡ fewer_answer (pair_outcome na a nb b)
-  fewer_second words e w h = let (counts, p) = made_pick na a nb b e in shorter counts p words w h
-
-  pub fewer_first : (words : List ℕ) → pick_outcome na a nb b ≡ served tt → words ≡ picked (pair_outcome na a nb b) a b [] → length a ≤ length words
-      → answer 0 (length words / 3) ≡ fewer_answer (pair_outcome na a nb b)
-  fewer_first words e w h = let (counts, p) = made_pick na a nb b e in as_long counts p words w h
+  pub fewer_picked : (words : List ℕ) → pick_outcome na a nb b ≡ served tt → words ≡ picked (pair_outcome na a nb b) a b []
+      → answer (bool_byte (ltb (length words) (length a))) (length words / 3) ≡ fewer_answer (pair_outcome na a nb b)
+  fewer_picked words e w =
+      let (counts, p) = made_pick na a nb b e in
+      either (ltb (length words) (length a))
+      (λ t. ap (λ (x : Bool). answer (bool_byte x) (length words / 3)) t ∙ shorter counts p words w (ltb-true _ _ t))
+      (λ t. ap (λ (x : Bool). answer (bool_byte x) (length words / 3)) t ∙ as_long counts p words w (ltb-false _ _ t))

@@ -33,7 +33,7 @@ use Rattle.text.specs.Compare.{max_list, Comparison, reduced, unsolved, gates_le
 use Rattle.text.specs.private.Comparing.{MiterWords, MiterCascade, LeftIn, SaysFiles, SaysCompared, SaysAny}
 use Rattle.text.proofs.FileOutcome.{both_met, both_failed}
 use Rattle.text.proofs.list.Laws.{emit_stands}
-use Rattle.text.proofs.stored.Records.{stored_in_lem}
+use Rattle.text.proofs.stored.Laws.{stored_in_lem}
 use Rattle.text.proofs.plain.Short.{stands_stored}
 
 -- ---- the reduction

@@ -1,7 +1,7 @@
 -- A state in characters: reading it from its last one back, and writing it from its first one on. Assumes nothing.
 use mathlib.Core.Path.{◌≡◌, refl, sym, ap, ap₂, subst, ◌∙◌}
 use mathlib.Core.Bool.{Bool, true, false, not, cond, ◌&&◌}
-use mathlib.Core.List.{List, [], ◌∷◌, ◌++◌}
+use mathlib.Core.List.{List, [], ◌∷◌, ◌++◌, append-nil, append_assoc}
 use mathlib.Core.Option.{Option, none, some}
 use Prim.Native.Nat.{ℕ, zero, suc, ◌+◌, ◌*◌, ◌-◌, ◌/◌, ◌%◌, ◌^◌, ◌≤◌, ◌<◌}
 use native.Mathlib.Numerals.{add-one}
@@ -47,98 +47,74 @@ other_length zero (b ∷ bs) h = refl
 other_length (suc n) [] h = refl
 other_length (suc n) (b ∷ bs) h = none_then (leb 48 b && leb b 49) _ (state_read n bs) (other_length n bs (λ e. h (ap suc e)))
 
--- so many characters from place i on, read
-abbrev spelled_from : List ℕ → ℕ → Option ℕ
-spelled_from text i = state_read (length text - i) (drop i text)
+-- and none is spelled where none is by the last characters
+none_before : (rest passed : List ℕ) → state_read (length passed) passed ≡ none → state_read (length (rest ++ passed)) (rest ++ passed) ≡ none
+unfolding state_read
+none_before [] passed e = e
+none_before (b ∷ rest) passed e = none_then (leb 48 b && leb b 49) _ _ (none_before rest passed e)
 
-module _ (text : List ℕ) (j : ℕ) (h : j < length text) where
-  abbrev b : ℕ
-  b = get_or text j 0
-
-  from_next : spelled_from text j ≡ cond (leb 48 b && leb b 49) (then_read (λ (x : ℕ). (b - 48) + 2 * x) (spelled_from text (suc j))) none
-  unfolding state_read
-  from_next =
-      let e : length text - j ≡ suc (length text - suc j) = omega arith in
-      ap₂ state_read e (drop-cons text j 0 h)
-
-none_down : (text : List ℕ) (j : ℕ) → j ≤ length text → spelled_from text j ≡ none → state_read (length text) text ≡ none
-none_down text zero h e = let z : length text - 0 ≡ length text = omega arith in ap (λ (n : ℕ). state_read n text) (sym z) ∙ e
-none_down text (suc j) h e = none_down text j (omega arith) (from_next text j (omega arith) ∙ none_then (leb 48 (get_or text j 0) && leb (get_or text j 0) 49) _ (spelled_from text (suc j)) e)
-
--- the characters from place i on spell x
-pub record Spelling (n : ℕ) (text : List ℕ) (x i : ℕ) : Type 0 where
+-- the characters after `rest` spell x
+pub record Spelling (n : ℕ) (text : List ℕ) (x : ℕ) (rest : List ℕ) : Type 0 where
   pub whole : length text ≡ n
   pub few : n ≤ 64
-  pub inside : i ≤ length text
-  pub is : spelled_from text i ≡ some x
-  pub below : x < 2 ^ (length text - i)
+  pub passed : List ℕ
+  pub parts : rest ++ passed ≡ text
+  pub is : state_read (length passed) passed ≡ some x
+  pub below : x < 2 ^ length passed
 
-pub spelling_start : (n : ℕ) (text : List ℕ) → length text ≡ n → n ≤ 64 → Spelling n text 0 (length text)
+pub spelling_start : (n : ℕ) (text : List ℕ) → length text ≡ n → n ≤ 64 → Spelling n text 0 text
 unfolding state_read
-spelling_start n text e h =
-    let z : length text - length text ≡ 0 = omega arith in
-    record {
-      whole = e;
-      few = h;
-      inside = omega arith;
-      is = ap₂ state_read z (lib.ListN.drop_of_length-le text {i = length text} (omega arith));
-      below = subst (λ (k : ℕ). 0 < 2 ^ k) (sym z) (omega arith);
-    }
+spelling_start n text e h = record { whole = e; few = h; passed = []; parts = append-nil text; is = refl; below = omega arith }
 
-module _ (n : ℕ) (text : List ℕ) (x i : ℕ) (s : Spelling n text x i) (h : 0 < i) where
-  abbrev at : ℕ
-  at = i - 1
+module _ {n : ℕ} {text : List ℕ} {x : ℕ} {rest : List ℕ} (s : Spelling n text x rest) (rest-2 : List ℕ) (b : ℕ) (e : rest ≡ rest-2 ++ (b ∷ [])) where
+  next : rest-2 ++ (b ∷ s.passed) ≡ text
+  next = sym (append_assoc rest-2 (b ∷ []) s.passed) ∙ ap (λ (l : List ℕ). l ++ s.passed) (sym e) ∙ s.parts
 
-  inside : at < length text
-  inside = omega (arith, s.inside)
-
-  next : suc at ≡ i
-  next = omega arith
-
-  rest : spelled_from text (suc at) ≡ some x
-  rest = ap (spelled_from text) next ∙ s.is
+  test : state_read (suc (length s.passed)) (b ∷ s.passed) ≡ cond (leb 48 b && leb b 49) (then_read (λ (y : ℕ). (b - 48) + 2 * y) (state_read (length s.passed) s.passed)) none
+  unfolding state_read
+  test = refl
 
   -- a character that is no 0 or 1
-  pub spelled_none : (leb 48 (get_or text at 0) && leb (get_or text at 0) 49) ≡ false → none ≡ state_read n text
-  spelled_none e =
+  spelled_none : (leb 48 b && leb b 49) ≡ false → none ≡ state_read n text
+  spelled_none f =
       sym (ap (λ (k : ℕ). state_read k text) (sym s.whole)
-      ∙ none_down text at (omega (arith, inside)) (from_next text at inside ∙ cond-false (leb 48 (get_or text at 0) && leb (get_or text at 0) 49) _ _ e))
+      ∙ ap (λ (l : List ℕ). state_read (length l) l) (sym next)
+      ∙ none_before rest-2 (b ∷ s.passed) (test ∙ cond-false (leb 48 b && leb b 49) _ _ f))
 
-  pub spelled_low : get_or text at 0 < 48 → none ≡ state_read n text
-  spelled_low l = spelled_none (ap (λ (t : Bool). t && leb (get_or text at 0) 49) (lt-leb 48 (get_or text at 0) l))
+  pub spelled_low : b < 48 → none ≡ state_read n text
+  spelled_low l = spelled_none (ap (λ (t : Bool). t && leb b 49) (lt-leb 48 b l))
 
-  pub spelled_high : 49 < get_or text at 0 → none ≡ state_read n text
-  spelled_high l = spelled_none (and_second (leb 48 (get_or text at 0)) (lt-leb (get_or text at 0) 49 l))
+  pub spelled_high : 49 < b → none ≡ state_read n text
+  spelled_high l = spelled_none (and_second (leb 48 b) (lt-leb b 49 l))
 
-  power : 2 ^ (length text - at) ≡ 2 * 2 ^ (length text - i)
-  power = let e : length text - at ≡ suc (length text - i) = omega (arith, s.inside) in ap (λ (k : ℕ). 2 ^ k) e ∙ omega arith
+  module _ (low : 48 ≤ b) (high : b ≤ 49) where
+    spelled_below : 2 * x + (b - 48) < 2 ^ suc (length s.passed)
+    spelled_below = omega (arith, s.below)
 
-  module _ (low : 48 ≤ get_or text at 0) (high : get_or text at 0 ≤ 49) where
-    pub spelled_below : 2 * x + (get_or text at 0 - 48) < 2 ^ (length text - at)
-    spelled_below = omega (arith, power, s.below)
+    pub spelled_fits : 2 * x + (b - 48) < 2 ^ 64
+    spelled_fits =
+        omega (arith, spelled_below, pow_mono {i = suc (length s.passed)} {j = 64} (omega (arith, ap length next, length-append rest-2 (b ∷ s.passed), s.whole, s.few)))
 
-    pub spelled_fits : 2 * x + (get_or text at 0 - 48) < 2 ^ 64
-    spelled_fits = omega (arith, spelled_below, pow_mono {i = length text - at} {j = 64} (omega (arith, s.whole, s.few)))
-
-    pub spelling_on : Spelling n text (2 * x + (get_or text at 0 - 48)) at
+    pub spelling_on : Spelling n text (2 * x + (b - 48)) rest-2
     spelling_on =
-        let e : (get_or text at 0 - 48) + 2 * x ≡ 2 * x + (get_or text at 0 - 48) = omega arith in
+        let f : (b - 48) + 2 * x ≡ 2 * x + (b - 48) = omega arith in
         record {
           whole = s.whole;
           few = s.few;
-          inside = omega (arith, inside);
+          passed = b ∷ s.passed;
+          parts = next;
           is =
-              from_next text at inside
-              ∙ cond-true (leb 48 (get_or text at 0) && leb (get_or text at 0) 49) _ _ (both (le-leb 48 (get_or text at 0) low) (le-leb (get_or text at 0) 49 high))
-              ∙ ap (then_read (λ (y : ℕ). (get_or text at 0 - 48) + 2 * y)) rest
-              ∙ ap some e;
+              test
+              ∙ cond-true (leb 48 b && leb b 49) _ _ (both (le-leb 48 b low) (le-leb b 49 high))
+              ∙ ap (then_read (λ (y : ℕ). (b - 48) + 2 * y)) s.is
+              ∙ ap some f;
           below = spelled_below;
         }
 
-pub spelling_done : (n : ℕ) (text : List ℕ) (x i : ℕ) → Spelling n text x i → i ≡ 0 → some x ≡ state_read n text
-spelling_done n text x i s e =
-    let z : length text - i ≡ n = omega (arith, s.whole) in
-    sym s.is ∙ ap₂ (λ (k j : ℕ). state_read k (drop j text)) z e
+pub spelling_done : {n : ℕ} {text : List ℕ} {x : ℕ} {rest : List ℕ} → Spelling n text x rest → rest ≡ [] → some x ≡ state_read n text
+spelling_done {n} {text} {x} {rest} s e =
+    let f : s.passed ≡ text = ap (λ (l : List ℕ). l ++ s.passed) (sym e) ∙ s.parts in
+    sym s.is ∙ ap (λ (l : List ℕ). state_read (length l) l) f ∙ ap (λ (k : ℕ). state_read k text) s.whole
 
 -- ---- writing
 
@@ -182,10 +158,10 @@ stating_on n x first out left i s h =
       rest = ap (λ (k : ℕ). drop k w) (add-one i) ∙ r;
     }
 
-pub stating_done : (n x : ℕ) (first out : List ℕ) (left i : ℕ) → Stating n x first out left i → n ≤ i → Put i out (state_text n x) first
+pub stating_done : (n x : ℕ) (first out : List ℕ) (left i : ℕ) → Stating n x first out left i → n ≤ i → Put n out (state_text n x) first
 stating_done n x first out left i s h =
     record {
-      count = omega (arith, state_long n x, s.inside);
+      count = omega (arith, state_long n x);
       buffer = s.is ∙ ap (λ (l : List ℕ). over l first) (take_all i (state_text n x) (omega (arith, state_long n x)));
     }
 
@@ -223,10 +199,6 @@ parts n first second =
       low = a;
       high = b;
     }
-
-pub text_parts : (n first second : ℕ) → cond (eqb first second) agree_word differ_word ++ outputs_of n first second ≡ outputs_text n first second
-unfolding outputs_text
-text_parts n first second = refl
 
 size_by : (t : Bool) → length (cond t agree_word differ_word) ≡ 5 + bool_byte (not t)
 size_by true = refl

@@ -7,7 +7,7 @@ use Rattle.text.proofs.Telling.{as_built}
 use Rattle.text.proofs.ProgramLaws.{program_laws, program_only, call}
 use Rattle.text.proofs.StandIns.{contradiction_fails, without_first_fails, refuses_all}
 use Rattle.text.proofs.PlainClauses.{plain_satisfied, plain_within, plain_or, plain_each, plain_same}
-use Rattle.text.proofs.plain.Laws.{pair_parts, triple_is}
+use Rattle.text.proofs.plain.Laws.{pair_parts, triple_parts}
 use Rattle.text.proofs.Verdicts.{compares}
 use Rattle.text.proofs.Rooms.{call as compare-call}
 use Rattle.text.proofs.Longest.{text_fits as compared-fits, room_enough as compared-room}
@@ -45,7 +45,7 @@ returns c =
             plain_each = plain_each;
             plain_same = plain_same;
             plain_two = pair_parts;
-            plain_three = triple_is;
+            plain_three = triple_parts;
             differ_fields = differ_fields;
             compares = compares;
             compares_only = compares_only;

@@ -2,17 +2,13 @@
 use mathlib.Core.Path.{◌≡◌, refl, sym, ap, ap₂, subst, ◌∙◌}
 use mathlib.Core.Bool.{true, false, true≢false}
 use mathlib.Core.List.{List, [], ◌∷◌, ◌++◌, append-nil, append_assoc}
-use Prim.Native.Nat.{ℕ, zero, suc, ◌+◌, ◌-◌, ◌*◌, ◌≤◌, ◌<◌}
+use Prim.Native.Nat.{ℕ, zero, suc, ◌+◌, ◌*◌, ◌≤◌, ◌<◌}
 use native.Mathlib.Omega.{arith}
-use lib.IntN.{ℤ, pos, negsuc, neg_ℤ, ◌-ℤ◌, +ℤ_idl, neg_ℤ-neg_ℤ}
-use lib.ListN.{length, take, drop, get_or, length-append}
+use lib.IntN.{ℤ, pos, negsuc, neg_ℤ, ◌-ℤ◌, +ℤ_idl}
+use lib.ListN.{length, drop, get_or, length-append}
 use lib.Signed.{lt_z}
 use borrow.Author.Tests.{ltb-true}
 use mir.Val.{SFits, to_z, of_z}
-use mir.ValLaws.{to_z-of_z}
-use borrow.Rule.Slice.PartMut.{put_mid}
-use Rattle.bits.specs.Lists.{Put}
-use Rattle.circuit.proofs.Promises.{put_as}
 use Rattle.checking.specs.Clauses.{Clause, OR, XOR, max_variables}
 use Rattle.checking.specs.Satisfaction.{variable_of, LiteralsWithin, clause_literals, ClausesWithin}
 use Rattle.checking.specs.Stored.{word_width, word_limit, stored_clause, stored}
@@ -20,8 +16,7 @@ use Rattle.checking.proofs.Promises.{neg_size, stored_next}
 use Rattle.text.specs.Dimacs.{blank, decimal, literal_text, literals_text, closing, clause_text, clauses_text}
 use Rattle.text.specs.Plain.{negations, plain_clause, plain_clauses}
 use Rattle.text.specs.Compare.{max_list}
-use Rattle.text.specs.private.Words.{both_ors, plain_record, TwoOrThree, ShortRecord, ShortClause, AllShort, Plainable}
-use Rattle.text.proofs.put.Laws.{two_put}
+use Rattle.text.specs.private.Words.{plain_record, TwoOrThree, ShortRecord, ShortClause, AllShort, Plainable}
 use Rattle.text.proofs.Decimal.{decimal_few}
 use Rattle.text.proofs.Sizes.{literal_few, literals_few}
 use Rattle.text.proofs.dimacs.Signed.{word_is}
@@ -34,21 +29,9 @@ opposite_fits (pos zero) h = record { sfits = omega arith }
 opposite_fits (pos (suc v)) h = record { sfits = omega arith }
 opposite_fits (negsuc i) h = record { sfits = omega arith }
 
-module _ (z : ℤ) (f : SFits word_width z) (h : variable_of z < word_limit) where
-  minus_is : pos 0 -ℤ to_z word_width (of_z word_width z) ≡ neg_ℤ z
-  minus_is = +ℤ_idl (neg_ℤ (to_z word_width (of_z word_width z))) ∙ ap neg_ℤ (word_is z f)
-
-  pub opposite_made : SFits word_width (pos 0 -ℤ to_z word_width (of_z word_width z))
-  opposite_made = subst (SFits word_width) (sym minus_is) (opposite_fits z h)
-
-  pub opposite_is : to_z word_width (of_z word_width (pos 0 -ℤ to_z word_width (of_z word_width z))) ≡ neg_ℤ z
-  opposite_is = to_z-of_z word_width _ opposite_made ∙ minus_is
-
--- a literal of a word, and the opposite one, passed on
-pub passed_opposite : (z r : ℤ) → SFits word_width z → variable_of z < word_limit → r ≡ neg_ℤ (to_z word_width (of_z word_width z)) → to_z word_width (of_z word_width r) ≡ neg_ℤ z
-passed_opposite z r f h e =
-    let is : r ≡ neg_ℤ z = e ∙ ap neg_ℤ (word_is z f) in
-    to_z-of_z word_width r (subst (SFits word_width) (sym is) (opposite_fits z h)) ∙ is
+-- as it is passed on
+pub opposite_is : (z : ℤ) → variable_of z < word_limit → to_z word_width (of_z word_width (pos 0 -ℤ z)) ≡ neg_ℤ z
+opposite_is z h = ap (λ (x : ℤ). to_z word_width (of_z word_width x)) (+ℤ_idl (neg_ℤ z)) ∙ word_is (neg_ℤ z) (opposite_fits z h)
 
 size_fits : (z : ℤ) → SFits word_width z → variable_of z ≤ word_limit
 size_fits (pos v) f = let h = f.sfits in omega arith
@@ -167,39 +150,34 @@ unfolding clauses_text
 clauses_append [] ys = refl
 clauses_append (x ∷ xs) ys = ap (λ (l : List ℕ). clause_text x ++ l) (clauses_append xs ys) ∙ sym (append_assoc (clause_text x) (clauses_text xs) (clauses_text ys))
 
--- the clauses of an XOR, by halves
-pub clauses_long : (xs ys : List Clause) → length (clauses_text (xs ++ ys)) ≡ length (clauses_text xs) + length (clauses_text ys)
-clauses_long xs ys = ap length (clauses_append xs ys) ∙ length-append (clauses_text xs) (clauses_text ys)
-
-pub pair_parts : (a b : ℤ) → plain_clause (XOR (a ∷ b ∷ [])) ≡ (OR (a ∷ b ∷ []) ∷ []) ++ (OR (neg_ℤ a ∷ neg_ℤ b ∷ []) ∷ [])
+-- the clauses of an XOR
+pub pair_parts : (a b : ℤ) → plain_clause (XOR (a ∷ b ∷ [])) ≡ OR (a ∷ b ∷ []) ∷ OR (neg_ℤ a ∷ neg_ℤ b ∷ []) ∷ []
 unfolding negations
 pair_parts a b = refl
 
-pub triple_is : (a b c : ℤ) → plain_clause (XOR (a ∷ b ∷ c ∷ []))
+pub triple_parts : (a b c : ℤ) → plain_clause (XOR (a ∷ b ∷ c ∷ []))
     ≡ OR (a ∷ b ∷ c ∷ []) ∷ OR (a ∷ neg_ℤ b ∷ neg_ℤ c ∷ []) ∷ OR (neg_ℤ a ∷ b ∷ neg_ℤ c ∷ []) ∷ OR (neg_ℤ a ∷ neg_ℤ b ∷ c ∷ []) ∷ []
 unfolding negations
-triple_is a b c = refl
+triple_parts a b c = refl
 
-pub triple_parts : (a b c : ℤ) → plain_clause (XOR (a ∷ b ∷ c ∷ [])) ≡ both_ors a b c ++ both_ors (neg_ℤ a) b (neg_ℤ c)
-unfolding negations
-triple_parts a b c = ap (λ (k : ℤ). both_ors a b c ++ (OR (neg_ℤ a ∷ b ∷ neg_ℤ c ∷ []) ∷ OR (neg_ℤ a ∷ neg_ℤ b ∷ k ∷ []) ∷ [])) (sym (neg_ℤ-neg_ℤ c))
+-- as they are written, and how long that is
+pub closed_long : (ls : List ℤ) → length (literals_text ls ++ closing) ≡ length (literals_text ls) + 2
+closed_long ls = length-append (literals_text ls) closing
 
--- literals of words, passed on
-pub two_words : (a b : ℤ) → SFits word_width a → SFits word_width b → to_z word_width (of_z word_width a) ∷ to_z word_width (of_z word_width b) ∷ [] ≡ a ∷ b ∷ []
-two_words a b f g = ap₂ (λ (x y : ℤ). x ∷ y ∷ []) (word_is a f) (word_is b g)
+pub pair_text : (a b : ℤ) → (literals_text (a ∷ b ∷ []) ++ closing) ++ (literals_text (neg_ℤ a ∷ neg_ℤ b ∷ []) ++ closing) ≡ clauses_text (plain_clause (XOR (a ∷ b ∷ [])))
+unfolding clauses_text negations
+pair_text a b = simp append-nil
 
-pub three_words : (a b c : ℤ) → SFits word_width a → SFits word_width b → SFits word_width c → to_z word_width (of_z word_width a) ∷ to_z word_width (of_z word_width b) ∷ to_z word_width (of_z word_width c) ∷ [] ≡ a ∷ b ∷ c ∷ []
-three_words a b c f g h = ap₂ (λ (x : ℤ) (l : List ℤ). x ∷ l) (word_is a f) (two_words b c g h)
+pub pair_length : (a b : ℤ) → length (clauses_text (plain_clause (XOR (a ∷ b ∷ [])))) ≡ length (literals_text (a ∷ b ∷ [])) + length (literals_text (neg_ℤ a ∷ neg_ℤ b ∷ [])) + 4
+pair_length a b = sym (ap length (pair_text a b)) ∙ simp length-append (omega arith)
 
--- two halves of clauses were written in a row
-pub halves_put : (xs ys : List Clause) (out : List ℕ) (r : ℕ) (last new : List ℕ) → new ≡ clauses_text xs → Put r last new (take (length out - 0) (drop 0 out))
-    → (l : length last ≡ length (take (length out - 0) (drop 0 out))) → (s : ℕ) (last-2 new-2 : List ℕ) → new-2 ≡ clauses_text ys → length (clauses_text (xs ++ ys)) ≤ length out
-    → Put s last-2 new-2 (take (length (put_mid 0 (length out - 0) out last) - r) (drop r (put_mid 0 (length out - 0) out last)))
-    → length last-2 ≡ length (take (length (put_mid 0 (length out - 0) out last) - r) (drop r (put_mid 0 (length out - 0) out last)))
-    → Put (r + s) (put_mid r (length (put_mid 0 (length out - 0) out last) - r) (put_mid 0 (length out - 0) out last) last-2) (clauses_text (xs ++ ys)) out
-halves_put xs ys out r last new e p l s last-2 new-2 f h q k =
-    put_as _ _ _ _ _ (ap₂ ◌++◌ e f ∙ sym (clauses_append xs ys))
-    (two_put out r last new p l s last-2 new-2 (omega (arith, ap length e, clauses_long xs ys)) q k)
+pub triple_text : (a b c : ℤ) → (((literals_text (a ∷ b ∷ c ∷ []) ++ closing) ++ (literals_text (a ∷ neg_ℤ b ∷ neg_ℤ c ∷ []) ++ closing)) ++ (literals_text (neg_ℤ a ∷ b ∷ neg_ℤ c ∷ []) ++ closing)) ++ (literals_text (neg_ℤ a ∷ neg_ℤ b ∷ c ∷ []) ++ closing) ≡ clauses_text (plain_clause (XOR (a ∷ b ∷ c ∷ [])))
+unfolding clauses_text negations
+triple_text a b c = simp (append_assoc, append-nil)
+
+pub triple_length : (a b c : ℤ) → length (clauses_text (plain_clause (XOR (a ∷ b ∷ c ∷ []))))
+    ≡ length (literals_text (a ∷ b ∷ c ∷ [])) + length (literals_text (a ∷ neg_ℤ b ∷ neg_ℤ c ∷ [])) + length (literals_text (neg_ℤ a ∷ b ∷ neg_ℤ c ∷ [])) + length (literals_text (neg_ℤ a ∷ neg_ℤ b ∷ c ∷ [])) + 8
+triple_length a b c = sym (ap length (triple_text a b c)) ∙ simp length-append (omega arith)
 
 -- ---- how long
 
@@ -214,32 +192,21 @@ none_long = refl
 pub or_long : (ls : List ℤ) → length (clauses_text (OR ls ∷ [])) ≡ length (literals_text ls) + 2
 or_long ls = ap length (or_text ls) ∙ length-append (literals_text ls) closing
 
-pair_or : (a b : ℤ) → length (clauses_text (OR (a ∷ b ∷ []) ∷ [])) ≡ length (literal_text a) + length (literal_text b) + 4
-pair_or a b = omega (arith, or_long (a ∷ b ∷ []), literal_long a (b ∷ []), literal_long b [], none_long)
+pair_list : (a b : ℤ) → length (literals_text (a ∷ b ∷ [])) ≡ length (literal_text a) + length (literal_text b) + 2
+pair_list a b = omega (arith, literal_long a (b ∷ []), literal_long b [], none_long)
 
-triple_or : (a b c : ℤ) → length (clauses_text (OR (a ∷ b ∷ c ∷ []) ∷ [])) ≡ length (literal_text a) + length (literal_text b) + length (literal_text c) + 5
-triple_or a b c = omega (arith, or_long (a ∷ b ∷ c ∷ []), literal_long a (b ∷ c ∷ []), literal_long b (c ∷ []), literal_long c [], none_long)
+triple_list : (a b c : ℤ) → length (literals_text (a ∷ b ∷ c ∷ [])) ≡ length (literal_text a) + length (literal_text b) + length (literal_text c) + 3
+triple_list a b c = omega (arith, literal_long a (b ∷ c ∷ []), pair_list b c)
 
 -- a literal and the opposite one
 abbrev pub twice : ℤ → ℕ
 twice l = length (literal_text l) + length (literal_text (neg_ℤ l))
 
 pub pair_long : (a b : ℤ) → length (clauses_text (plain_clause (XOR (a ∷ b ∷ [])))) ≡ twice a + twice b + 8
-pair_long a b =
-    ap (λ (cs : List Clause). length (clauses_text cs)) (pair_parts a b)
-    ∙ clauses_long (OR (a ∷ b ∷ []) ∷ []) (OR (neg_ℤ a ∷ neg_ℤ b ∷ []) ∷ [])
-    ∙ omega (arith, pair_or a b, pair_or (neg_ℤ a) (neg_ℤ b))
-
-both_long : (a b c : ℤ) → length (clauses_text (both_ors a b c)) ≡ 2 * length (literal_text a) + twice b + twice c + 10
-both_long a b c =
-    clauses_long (OR (a ∷ b ∷ c ∷ []) ∷ []) (OR (a ∷ neg_ℤ b ∷ neg_ℤ c ∷ []) ∷ [])
-    ∙ omega (arith, triple_or a b c, triple_or a (neg_ℤ b) (neg_ℤ c))
+pair_long a b = pair_length a b ∙ omega (arith, pair_list)
 
 pub triple_long : (a b c : ℤ) → length (clauses_text (plain_clause (XOR (a ∷ b ∷ c ∷ [])))) ≡ 2 * (twice a + twice b + twice c) + 20
-triple_long a b c =
-    ap (λ (cs : List Clause). length (clauses_text cs)) (triple_parts a b c)
-    ∙ clauses_long (both_ors a b c) (both_ors (neg_ℤ a) b (neg_ℤ c))
-    ∙ omega (arith, both_long a b c, both_long (neg_ℤ a) b (neg_ℤ c), ap (λ (k : ℤ). length (literal_text k)) (neg_ℤ-neg_ℤ c))
+triple_long a b c = triple_length a b c ∙ omega (arith, triple_list)
 
 pub pair_count : (a b : ℤ) → length (plain_clause (XOR (a ∷ b ∷ []))) ≡ 2
 unfolding negations
@@ -287,22 +254,19 @@ pub record Closing (ls : List ℤ) (size i : ℕ) : Type 0 where
 pub closing_start : (ls : List ℤ) → length ls ≤ max_list → LiteralsWithin max_variables ls → Closing ls 2 0
 closing_start ls h w = record { sum = omega arith; bound = omega (arith, literals_few max_variables ls (omega arith) w) }
 
-module _ (ls : List ℤ) (size i : ℕ) (t : Closing ls size i) where
-  closing_next : i < length ls → length (literals_text (drop i ls)) ≡ length (literal_text (get_or ls i (pos 0))) + 1 + length (literals_text (drop (i + 1) ls))
-  closing_next h =
-      ap length (literals_next ls i h)
-      ∙ length-append (literal_text (get_or ls i (pos 0)) ++ (blank ∷ [])) (literals_text (drop (i + 1) ls))
-      ∙ omega (arith, length-append (literal_text (get_or ls i (pos 0))) (blank ∷ []))
-
-  module _ (h : i < length ls) (z : ℤ) (r : ℕ) (is : z ≡ get_or ls i (pos 0)) (e : r ≡ length (literal_text z)) where
-    same : r ≡ length (literal_text (get_or ls i (pos 0)))
-    same = e ∙ ap (λ (k : ℤ). length (literal_text k)) is
+module _ {ls : List ℤ} {size i : ℕ} (t : Closing ls size i) where
+  module _ (h : i < length ls) {z : ℤ} {r : ℕ} (is : z ≡ get_or ls i (pos 0)) (e : r ≡ length (literal_text z)) where
+    closing_next : length (literals_text (drop i ls)) ≡ r + 1 + length (literals_text (drop (i + 1) ls))
+    closing_next =
+        ap length (literals_next ls i h)
+        ∙ length-append (literal_text (get_or ls i (pos 0)) ++ (blank ∷ [])) (literals_text (drop (i + 1) ls))
+        ∙ omega (arith, e, ap (λ (k : ℤ). length (literal_text k)) is, length-append (literal_text (get_or ls i (pos 0))) (blank ∷ []))
 
     pub closing_room : size + (r + 1) ≤ 6 * max_list + 2
-    closing_room = omega (arith, closing_next h, same, t.sum, t.bound)
+    closing_room = omega (arith, closing_next, t.sum, t.bound)
 
     pub closing_on : Closing ls (size + (r + 1)) (i + 1)
-    closing_on = record { sum = omega (arith, closing_next h, same, t.sum); bound = t.bound }
+    closing_on = record { sum = omega (arith, closing_next, t.sum); bound = t.bound }
 
   pub closing_done : length ls ≤ i → size ≡ length (literals_text ls ++ closing)
   closing_done h = omega (arith, t.sum, ap length (literals_end ls i h), length-append (literals_text ls) closing)

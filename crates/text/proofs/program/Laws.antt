@@ -1,6 +1,5 @@
 -- An answer and the clause buffer give the text of the verdict that they say. Assumes nothing.
 use mathlib.Core.Path.{◌≡◌, sym, ap, ap₂, ◌∙◌}
-use mathlib.Core.Bool.{false}
 use mathlib.Core.List.{List, ◌++◌}
 use Prim.Native.Nat.{ℕ, ◌≤◌}
 use lib.IntN.{ℤ}
@@ -14,11 +13,11 @@ use Rattle.text.specs.declared.list.ListAnswer.TheVariants as list
 use Rattle.text.specs.Dimacs.{clauses_text, header_text, dimacs_of}
 use Rattle.text.specs.Formula.{Formula}
 use Rattle.text.specs.FileOutcome.{FileOutcome, answered, refused_at, refusal_text}
-use Rattle.text.specs.private.Words.{StoresList, stored_text}
+use Rattle.text.specs.private.Words.{stored_in, StoresList}
 use Rattle.text.specs.Tomiter.{verdict_text}
 use Rattle.text.specs.private.Lists.{Delivers}
 use Rattle.text.specs.Compare.{max_list}
-use Rattle.text.proofs.stored.Records.{stored_in_lem}
+use Rattle.text.proofs.stored.Laws.{stored_in_lem}
 use Rattle.text.proofs.plain.Short.{stands_stored}
 
 pub refusal_text_lem : (why : Refusal) (file : ℕ) (buffer : List ℤ) (v : FileOutcome Formula) → Delivers (list.Refused why file) buffer v
@@ -31,7 +30,7 @@ refusal_text_lem why file buffer (refused_at number f place) (a, b, c) =
 pub record Written (t : Totals) (buffer : List ℤ) (bytes : List ℕ) : Type 0 where
   pub inside : t.words ≤ length buffer
   pub stores : StoresList (take t.words buffer)
-  pub text : header_text t.variables t.clauses ++ stored_text false (take t.words buffer) ≡ bytes
+  pub text : header_text t.variables t.clauses ++ clauses_text (stored_in (take t.words buffer)) ≡ bytes
 
 pub list_text : (t : Totals) (buffer : List ℤ) (v : FileOutcome Formula) → length buffer ≤ max_list → Delivers (list.Listed t) buffer v → Written t buffer (verdict_text v)
 unfolding dimacs_of

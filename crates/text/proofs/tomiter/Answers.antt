@@ -21,15 +21,15 @@ pub returns-then-out-size : goal.returns-then-out-size
 returns-then-out-size c =
     answers c.args.input.now c.args.out.now _ _ (fit_refused (tomiter_text c.args.input.now) c.args.out.now c.no_room.result c.no_room.ensures (omega (arith, c.put_text-size.ensures.count, c.if-out-size.true)))
 
-pub slice_bounds-put_word-end : goal.slice_bounds-put_word-end
-slice_bounds-put_word-end c = sym (length-take-le _ _ (omega (arith, c.put_text-size.auto.out)))
+pub slice_bounds-put-end : goal.slice_bounds-put-end
+slice_bounds-put-end c = sym (length-take-le _ _ (omega (arith, c.put_text-size.auto.out)))
 
-pub put_word-requires : goal.put_word-requires
-put_word-requires c =
+pub put-requires : goal.put-requires
+put-requires c =
     omega (arith, ap length (made c.put_text-size.result c.put_text-size.new.out _ _ c.put_text-size.ensures), c.put_text-size.ensures.count, c.if-out-size.false)
 
 pub returns : goal.returns
 returns c =
-    let q : Put c.put_text-size.result c.put_word.new.out (tomiter_text c.args.input.now) c.args.out.now =
-    record { count = c.put_text-size.ensures.count; buffer = c.put_word.ensures.buffer ∙ ap (λ (l : List ℕ). over l c.args.out.now) (made c.put_text-size.result c.put_text-size.new.out _ _ c.put_text-size.ensures) } in
+    let q : Put c.put_text-size.result c.put.new.out (tomiter_text c.args.input.now) c.args.out.now =
+    record { count = c.put_text-size.ensures.count; buffer = c.put.ensures.buffer ∙ ap (λ (l : List ℕ). over l c.args.out.now) (made c.put_text-size.result c.put_text-size.new.out _ _ c.put_text-size.ensures) } in
     answers c.args.input.now c.args.out.now _ _ (fit_put (tomiter_text c.args.input.now) c.args.out.now _ _ q (omega (arith, c.put_text-size.ensures.count, c.if-out-size.false)))

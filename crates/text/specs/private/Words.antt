@@ -1,7 +1,6 @@
 -- For the contracts of the functions that write the clauses of stored words.
-use Rattle.std.specs.Prelude.{◌≡◌, Bool, true, false, List, [], ◌∷◌, ◌++◌, ℕ, zero, suc, ◌≤◌, ℤ, pos, negsuc, neg_ℤ, length}
+use Rattle.std.specs.Prelude.{◌≡◌, List, [], ◌∷◌, ◌++◌, ℕ, zero, suc, ◌≤◌, ℤ, pos, negsuc, length}
 use Rattle.bits.specs.Lists.{All}
-use Rattle.circuit.specs.Text.{minus_sign}
 use Rattle.checking.specs.Clauses.{Clause, OR, XOR, max_variables}
 use Rattle.checking.specs.Stored.{stored, ReadBack, clauses_read, bad_record, clauses_in}
 use Rattle.checking.specs.Satisfaction.{LiteralsWithin, ClausesWithin}
@@ -9,11 +8,6 @@ use Rattle.text.specs.declared.plain.PlainSizes.{PlainSizes}
 use Rattle.text.specs.Dimacs.{xor_sign, literals_text, closing, clauses_text}
 use Rattle.text.specs.Plain.{plain_clause, plain_clauses}
 use Rattle.text.specs.Compare.{max_list}
-
--- the sign of a literal
-abbrev pub sign_text : ℤ → List ℕ
-sign_text (pos v) = []
-sign_text (negsuc i) = minus_sign ∷ []
 
 -- the `x` of a kind word: 1 for XOR
 abbrev pub kind_text : ℤ → List ℕ
@@ -34,6 +28,13 @@ read_clauses (bad_record i) = []
 unfoldable pub stored_in : List ℤ → List Clause
 stored_in ws = read_clauses (clauses_in ws)
 
+-- the clause of a kind word, 1 for XOR, and literals
+abbrev pub clause_of : ℤ → List ℤ → Clause
+clause_of (pos zero) ls = OR ls
+clause_of (pos (suc zero)) ls = XOR ls
+clause_of (pos (suc (suc k))) ls = OR ls
+clause_of (negsuc i) ls = OR ls
+
 -- ---- the same clauses as OR clauses alone
 
 -- the plain clauses of a kind word and literals
@@ -42,10 +43,6 @@ plain_record (pos zero) ls = plain_clause (OR ls)
 plain_record (pos (suc zero)) ls = plain_clause (XOR ls)
 plain_record (pos (suc (suc k))) ls = plain_clause (OR ls)
 plain_record (negsuc i) ls = plain_clause (OR ls)
-
--- the OR of three literals, and of the first and the opposite of the others: half of an XOR's plain clauses
-abbrev pub both_ors : ℤ → ℤ → ℤ → List Clause
-both_ors a b c = OR (a ∷ b ∷ c ∷ []) ∷ OR (a ∷ neg_ℤ b ∷ neg_ℤ c ∷ []) ∷ []
 
 -- two or three literals
 abbrev pub TwoOrThree : List ℤ → Type 0
@@ -85,20 +82,6 @@ pub record StoresList (ws : List ℤ) : Type 0 where
   pub within : ClausesWithin max_variables clauses
   pub few : length ws ≤ max_list
 
--- clauses as they are, or as OR clauses alone
-abbrev pub formed : Bool → List Clause → List Clause
-formed false cs = cs
-formed true cs = plain_clauses cs
-
--- the text of a kind word and literals
-abbrev pub formed_text : Bool → ℤ → List ℤ → List ℕ
-formed_text false kind ls = record_text kind ls
-formed_text true kind ls = clauses_text (plain_record kind ls)
-
--- the text of the clauses that words store
-abbrev pub stored_text : Bool → List ℤ → List ℕ
-stored_text plain ws = clauses_text (formed plain (stored_in ws))
-
 -- the bytes and the clauses of the plain one
 abbrev pub plain_sizes : List ℤ → PlainSizes
-plain_sizes ws = record { bytes = length (stored_text true ws); clauses = length (plain_clauses (stored_in ws)) }
+plain_sizes ws = record { bytes = length (clauses_text (plain_clauses (stored_in ws))); clauses = length (plain_clauses (stored_in ws)) }

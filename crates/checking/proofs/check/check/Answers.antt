@@ -1,55 +1,47 @@
 -- `checking::check::check` meets its contract. Assumes nothing.
-use Rattle.std.proofs.Common.{◌≡◌, ℕ, ◌*◌, ◌≤◌, List, length, sym, refl, ap, ◌∙◌, subst, arith, length-take-le}
+use Rattle.std.proofs.Common.{◌≡◌, ◌*◌, ◌≤◌, ℕ, List, length, sym, refl, subst, ap, arith, length-take-le}
+use Rattle.std.proofs.lemmas.Result.{err_from_is_err_and}
 use Rattle.circuit.specs.Outcome.{served, Yields}
-use Rattle.circuit.specs.Words.{of_count}
 use Rattle.checking.specs.Miter.{miter_outcome}
-use Rattle.checking.specs.Check.{calls_of, called_all, held}
+use Rattle.checking.specs.Check.{called_all, held}
 use Rattle.checking.proofs.lemmas.check.Claim.{miter_room, held_few, held_room, check_refused, check_served}
 use Rattle.checking.proofs.check.check.Goals as goal
-use Rattle.checking.proofs.check.check.Goals.{After-make_calls-left, In-Gates}
+use Rattle.checking.proofs.check.check.Goals.{In_ok-gates, After-make_calls-left}
 
-made : (g : In-Gates)
-    → let a = g.args in miter_outcome a.na a.a.now a.nb a.b.now (length a.work.now) ≡ served (g.in-Gates.gates)
-made g = sym g.miter.ensures.answer ∙ ap of_count g.in-Gates.is
+made : (g : In_ok-gates) → let a = g.args in miter_outcome a.na a.a.now a.nb a.b.now (length a.work.now) ≡ served g.in_ok-gates.gates
+made g = sym g.in_ok-gates.ensures.answer
 
-left : (l : After-make_calls-left) → Yields l.make_calls-left.result l.make_calls-left.new.words (held l.args.na l.args.a.now l.args.nb l.args.b.now (calls_of l.args.calls.now) l.args.work.now (l.in-Gates.gates)).gates (held l.args.na l.args.a.now l.args.nb l.args.b.now (calls_of l.args.calls.now) l.args.work.now (l.in-Gates.gates)).words
+-- what stands after the calls
+left : (l : After-make_calls-left) → let a = l.args in let h = held a.na a.a.now a.nb a.b.now a.calls.now a.work.now l.in_ok-gates.gates in Yields l.make_calls-left.result l.make_calls-left.new.words h.gates h.words
 left l =
-    let calls = calls_of l.args.calls.now in
-    let g = (l.in-Gates.gates) in
     subst
-    (λ (ws : List ℕ). Yields l.make_calls-left.result l.make_calls-left.new.words (called_all calls (record { gates = g; words = ws })).gates (called_all calls (record { gates = g; words = ws })).words)
-    l.miter.ensures.buffer l.make_calls-left.ensures
+    (λ (ws : List ℕ). let h = called_all l.args.calls.now (record { gates = l.in_ok-gates.gates; words = ws }) in Yields l.make_calls-left.result l.make_calls-left.new.words h.gates h.words)
+    l.in_ok-gates.ensures.buffer l.make_calls-left.ensures
 
 inside : (l : After-make_calls-left) → 3 * l.make_calls-left.result ≤ length l.make_calls-left.new.words
-inside l =
-    let made : let a = l.args in miter_outcome a.na a.a.now a.nb a.b.now (length a.work.now) ≡ served (l.in-Gates.gates) = sym l.miter.ensures.answer ∙ ap of_count l.in-Gates.is in
-    let left : Yields l.make_calls-left.result l.make_calls-left.new.words (held l.args.na l.args.a.now l.args.nb l.args.b.now (calls_of l.args.calls.now) l.args.work.now (l.in-Gates.gates)).gates (held l.args.na l.args.a.now l.args.nb l.args.b.now (calls_of l.args.calls.now) l.args.work.now (l.in-Gates.gates)).words = let calls = calls_of l.args.calls.now in
-    let g = (l.in-Gates.gates) in
-    subst
-    (λ (ws : List ℕ). Yields l.make_calls-left.result l.make_calls-left.new.words (called_all calls (record { gates = g; words = ws })).gates (called_all calls (record { gates = g; words = ws })).words)
-    l.miter.ensures.buffer l.make_calls-left.ensures in
-    held_room l.args.na l.args.a.now l.args.nb l.args.b.now (calls_of l.args.calls.now) l.args.work.now (l.in-Gates.gates) made _ _ left
+inside l = held_room l.args.na l.args.a.now l.args.nb l.args.b.now l.args.calls.now l.args.work.now l.in_ok-gates.gates (sym l.in_ok-gates.ensures.answer) _ _ (left l)
+
+pub returns-in_err-gates : goal.returns-in_err-gates
+returns-in_err-gates c =
+    let p = err_from_is_err_and c.from_residual.result c.from_residual.ensures.1 in
+    rw (p.1, p.2) (check_refused c.args.na c.args.a.now c.args.nb c.args.b.now c.args.calls.now c.args.work.now c.args.out.now _ _ _ _ _
+    (sym c.in_err-gates.ensures.answer) refl c.in_err-gates.ensures.buffer refl)
 
 pub make_calls-left-requires : goal.make_calls-left-requires
 make_calls-left-requires c =
-    omega (arith, miter_room c.args.na c.args.a.now c.args.nb c.args.b.now (calls_of c.args.calls.now) c.args.work.now (c.in-Gates.gates) (made (goal.at.make_calls-left-requires c).In-Gates), ap length c.miter.ensures.buffer)
+    omega (arith, miter_room c.args.na c.args.a.now c.args.nb c.args.b.now c.args.calls.now c.args.work.now c.in_ok-gates.gates (made (goal.at.make_calls-left-requires c).In_ok-gates), ap length c.in_ok-gates.ensures.buffer)
 
-pub overflow_mul-end : goal.overflow_mul-end
-overflow_mul-end c =
-    omega (arith, held_few c.args.na c.args.a.now c.args.nb c.args.b.now (calls_of c.args.calls.now) c.args.work.now (c.in-Gates.gates) (made (goal.at.overflow_mul-end c).In-Gates) _ _ (left (goal.at.overflow_mul-end c).After-make_calls-left))
+pub overflow_mul-left : goal.overflow_mul-left
+overflow_mul-left c =
+    omega (arith, held_few c.args.na c.args.a.now c.args.nb c.args.b.now c.args.calls.now c.args.work.now c.in_ok-gates.gates (made (goal.at.overflow_mul-left c).In_ok-gates) _ _ (left (goal.at.overflow_mul-left c).After-make_calls-left))
 
 pub slice_bounds-emit-end : goal.slice_bounds-emit-end
 slice_bounds-emit-end c = inside (goal.at.slice_bounds-emit-end c).After-make_calls-left
 
-pub slice_bounds-emit-end-in-Gates : goal.slice_bounds-emit-end-in-Gates
-slice_bounds-emit-end-in-Gates c = sym (length-take-le (3 * c.make_calls-left.result) c.make_calls-left.new.words (inside (goal.at.slice_bounds-emit-end-in-Gates c).After-make_calls-left))
+pub slice_bounds-emit-end-2 : goal.slice_bounds-emit-end-2
+slice_bounds-emit-end-2 c = sym (length-take-le (3 * c.make_calls-left.result) c.make_calls-left.new.words (inside (goal.at.slice_bounds-emit-end-2 c).After-make_calls-left))
 
-pub returns-in-Refused : goal.returns-in-Refused
-returns-in-Refused c =
-    check_refused c.args.na c.args.a.now c.args.nb c.args.b.now (calls_of c.args.calls.now) c.args.work.now c.args.out.now _ _ _ _ _
-    (sym c.miter.ensures.answer ∙ ap of_count c.in-Refused.is) refl c.miter.ensures.buffer refl
-
-pub returns-in-Gates : goal.returns-in-Gates
-returns-in-Gates c =
-    check_served c.before.args.na c.before.args.a.now c.before.args.nb c.before.args.b.now (calls_of c.before.args.calls.now) c.before.args.work.now c.before.args.out.now _ c.make_calls-left.new.words _ (c.in-Gates.gates) c.make_calls-left.result
-    (made (goal.at.returns-in-Gates c).In-Gates) (left (goal.at.returns-in-Gates c).After-make_calls-left) c.emit.ensures
+pub returns : goal.returns
+returns c =
+    check_served c.args.na c.args.a.now c.args.nb c.args.b.now c.args.calls.now c.args.work.now c.args.out.now _ c.make_calls-left.new.words _ c.in_ok-gates.gates c.make_calls-left.result
+    (made (goal.at.returns c).In_ok-gates) (left (goal.at.returns c).After-make_calls-left) c.emit.ensures

@@ -3,7 +3,7 @@ use Rattle.std.proofs.Common.{◌≡◌, ℕ, ◌+◌, ◌^◌, ◌%◌, ◌/◌
 use lib.Bits.{bit_or}
 use Rattle.circuit.specs.Gate.{max_lines, valid}
 use Rattle.circuit.specs.Outcome.{served}
-use Rattle.circuit.proofs.Promises.{why, then_refused, valid_facts, next_bad}
+use Rattle.circuit.proofs.Promises.{then_refused, valid_facts, next_bad}
 use Rattle.checking.proofs.lemmas.clauses.Loop.{controls_more, controls_few, Summed, summed_start, summed_next, summed, summed_all}
 use Rattle.checking.proofs.clauses.list_sizes.Goals as goal
 use Rattle.checking.proofs.clauses.list_sizes.Goals.{After-control_count-k, Else-not-valid}
@@ -13,8 +13,7 @@ loop-i-init c = summed_start c.args.n c.args.words.now
 
 pub returns-then-not-valid : goal.returns-then-not-valid
 returns-then-not-valid c =
-    why c.no_gate.ensures
-    ∙ sym (then_refused _ _ _ _
+    sym (then_refused _ _ _ _
     (c.loop-i.invariant.tested ∙ next_bad _ _ _ _ (omega arith) c.gate_at-g.ensures (sym c.valid.ensures ∙ c.if-not-valid.true)))
 
 -- the gate of this turn is valid, and so has at most 64 controls

@@ -1,30 +1,12 @@
--- `checking::compare::lowest_difference` meets its contract.
-use Rattle.std.proofs.Common.{◌≡◌, ◌-◌, sym, ap, ◌∙◌, arith}
-use Rattle.circuit.specs.Outcome.{served}
+-- `checking::compare::lowest_difference` meets its contract. Assumes nothing.
+use Rattle.std.proofs.Common.{◌≡◌, ℕ, true, false, rules}
+use Rattle.std.proofs.lemmas.Iterator.{first_from_Range}
 use Rattle.circuit.specs.Words.{gates_of}
-use Rattle.checking.specs.Compare.{lowest_from}
-use Rattle.checking.proofs.lemmas.compare.Laws.{lowest_here, lowest_next, lowest_none}
+use Rattle.checking.specs.Compare.{outputs_differ}
+use Rattle.checking.proofs.lemmas.compare.Laws.{lowest_below}
 use Rattle.checking.proofs.compare.lowest_difference.Goals as goal
 
-pub loop-x-init : goal.loop-x-init
-loop-x-init c =
-    let e : c.args.count ≡ c.args.count - 0 = omega arith in
-    (omega arith, ap (lowest_from (gates_of c.args.a.now) (gates_of c.args.b.now) 0) e)
-
-pub outputs_differ-requires : goal.outputs_differ-requires
-outputs_differ-requires c =
-    record {
-      first_valid = c.requires.first_valid;
-      second_valid = c.requires.second_valid;
-    }
-
-pub returns-then-outputs_differ : goal.returns-then-outputs_differ
-returns-then-outputs_differ c =
-    sym (ap served (c.loop-x.invariant.1 ∙ lowest_here _ _ c.loop-x.x _ (omega arith) (sym c.outputs_differ.ensures ∙ c.if-outputs_differ.true)))
-
-pub loop-x-preserved : goal.loop-x-preserved
-loop-x-preserved c =
-    (omega arith, c.loop-x.invariant.1 ∙ lowest_next _ _ c.loop-x.x _ (omega arith) (sym c.outputs_differ.ensures ∙ c.if-outputs_differ.false))
-
 pub returns : goal.returns
-returns c = sym (ap served (c.loop-x.invariant.1 ∙ lowest_none _ _ c.loop-x.x _ (omega arith)))
+returns c =
+    lowest_below (gates_of c.args.a.now) (gates_of c.args.b.now) c.args.count c.find.result
+    (first_from_Range _ _ _ c.find.result (λ (x : ℕ). outputs_differ (gates_of c.args.a.now) (gates_of c.args.b.now) x ≡ true) (λ (x : ℕ). outputs_differ (gates_of c.args.a.now) (gates_of c.args.b.now) x ≡ false) c.find.ensures.ran (λ x q k. search rules) (λ x q k. search rules))

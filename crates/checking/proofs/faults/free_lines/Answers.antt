@@ -6,9 +6,6 @@ use Rattle.circuit.proofs.Promises.{valid_facts}
 use Rattle.checking.proofs.lemmas.faults.Masks.{free_mask}
 use Rattle.checking.proofs.faults.free_lines.Goals as goal
 
-pub line-requires : goal.line-requires
-line-requires c = tt
-
 pub returns : goal.returns
 returns c =
     let k : c.args.g.target % max_lines ≡ c.args.g.target = omega (arith, c.requires.few_lines, (valid_facts c.args.n c.args.g c.requires.valid_gate).target_below) in

@@ -1,5 +1,5 @@
 -- `checking::faults::narrow` meets its contract. The loop's invariant: the masks of the gates that were passed are narrowed, and those of the others are as they were. Assumes nothing.
-use Rattle.std.proofs.Common.{◌≡◌, ◌-◌, ◌*◌, ◌≤◌, true, ◌++◌, length, take, drop}
+use Rattle.std.proofs.Common.{◌≡◌, ◌*◌, true, ◌++◌, take, drop}
 use Rattle.circuit.specs.Gate.{max_lines}
 use Rattle.circuit.specs.Words.{gates_of, all_valid}
 use Rattle.checking.specs.private.Narrowing.{narrowed}
@@ -7,11 +7,5 @@ use Rattle.checking.proofs.faults.narrow.Given as goal
 
 abbrev pub invariant-loop-i : goal.invariant-loop-i
 invariant-loop-i l =
-    (l.i ≤ l.gates)
-    × (length l.out ≡ length l.initial.out)
-    × (2 * l.gates ≤ length l.out)
-    × (all_valid max_lines (gates_of (drop (3 * l.i) l.words)) ≡ true)
+    (all_valid max_lines (gates_of (drop (3 * l.i) l.words)) ≡ true)
     × (narrowed (gates_of l.words) l.state l.initial.out ≡ take (2 * l.i) l.out ++ narrowed (gates_of (drop (3 * l.i) l.words)) l.s (drop (2 * l.i) l.out))
-
-abbrev pub decreases-loop-i : goal.decreases-loop-i
-decreases-loop-i l = l.gates - l.i

@@ -1,5 +1,5 @@
 -- What a call and a list of calls leave in the miter's buffer, and demand 3 of what the code answers. Assumes nothing.
-use Rattle.std.proofs.Common.{◌≡◌, ℕ, suc, ◌+◌, ◌-◌, ◌*◌, ◌/◌, ◌<◌, ◌≤◌, List, [], ◌∷◌, ◌++◌, length, get_or, take, drop, ℤ, sym, refl, ap, ◌∙◌, subst, ap₂, le_refl, arith, length-drop, length-take-le, take_at}
+use Rattle.std.proofs.Common.{◌≡◌, ℕ, ◌+◌, ◌*◌, ◌≤◌, List, [], ◌∷◌, ◌++◌, length, take, drop, ℤ, sym, refl, ap, ◌∙◌, subst, ap₂, le_refl, arith, drop_of_length-le, length-take-le, take_at}
 use lib.Seq.{take-append-le}
 use Rattle.bits.specs.Lists.{over}
 use Rattle.bits.proofs.Lists.{over_length}
@@ -17,35 +17,34 @@ use Rattle.checking.specs.declared.check.Call.TheVariants.{StepOn}
 use Rattle.checking.specs.declared.check.Call.{Call}
 use Rattle.checking.specs.Miter.{miter_outcome, miter_buffer}
 use Rattle.checking.specs.Emit.{emit_outcome, emit_buffer}
-use Rattle.checking.specs.Check.{call_of, calls_of, Held, held_words, step_gates_left, reduce_gates_left, called, called_all, checked_outcome, clauses_left}
+use Rattle.checking.specs.Check.{Held, held_words, step_gates_left, reduce_gates_left, called, called_all, checked_outcome, clauses_left}
 use Rattle.checking.proofs.lemmas.step.Calls.{step_refused}
 use Rattle.checking.proofs.lemmas.step.Laws.{none_kept, step_laws}
 use Rattle.checking.proofs.lemmas.reduce.Laws.{step_shrinks, reduce_refused}
 use Rattle.checking.proofs.lemmas.reduce.Relation.{reduce_laws}
-use Rattle.bits.proofs.Lists.{two}
 
 -- ---- no call: the clauses are those of the miter
 
 module _ (na : ℕ) (a : List ℕ) (nb : ℕ) (b work : List ℕ) where
-  pub uncalled_refused : (number place size : ℕ) → miter_outcome na a nb b (length work) ≡ refused number place → checked_outcome na a nb b (calls_of []) work size ≡ refused number place
+  pub uncalled_refused : (number place size : ℕ) → miter_outcome na a nb b (length work) ≡ refused number place → checked_outcome na a nb b [] work size ≡ refused number place
   unfolding checked_outcome
   uncalled_refused number place size e = then_refused _ _ number place e
 
   module _ (k : ℕ) (e : miter_outcome na a nb b (length work) ≡ served k) where
-    pub uncalled_served : (size : ℕ) → checked_outcome na a nb b (calls_of []) work size ≡ emit_outcome na (take (3 * k) (miter_buffer na a nb b work)) size
-    unfolding checked_outcome calls_of called_all
+    pub uncalled_served : (size : ℕ) → checked_outcome na a nb b [] work size ≡ emit_outcome na (take (3 * k) (miter_buffer na a nb b work)) size
+    unfolding checked_outcome called_all
     uncalled_served size = then_served _ _ k e
 
-    pub uncalled_clauses : (out : List ℤ) → clauses_left (miter_outcome na a nb b (length work)) na a nb b (calls_of []) work out ≡ emit_buffer na (take (3 * k) (miter_buffer na a nb b work)) out
-    unfolding calls_of called_all
-    uncalled_clauses out = ap (λ (o : Outcome ℕ). clauses_left o na a nb b (calls_of []) work out) e
+    pub uncalled_clauses : (out : List ℤ) → clauses_left (miter_outcome na a nb b (length work)) na a nb b [] work out ≡ emit_buffer na (take (3 * k) (miter_buffer na a nb b work)) out
+    unfolding called_all
+    uncalled_clauses out = ap (λ (o : Outcome ℕ). clauses_left o na a nb b [] work out) e
 
 -- ---- one call
 
 abbrev holding : ℕ → List ℕ → Held
 holding gates ws = record { gates = gates; words = ws }
 
-module _ (kind n gates : ℕ) (ws last : List ℕ) (room : 3 * gates ≤ length ws) (long : length last ≡ length (take (3 * gates) ws)) where
+module _ (n gates : ℕ) (ws last : List ℕ) (room : 3 * gates ≤ length ws) (long : length last ≡ length (take (3 * gates) ws)) where
   size : length last ≡ 3 * gates
   size = long ∙ length-take-le (3 * gates) ws room
 
@@ -53,26 +52,17 @@ module _ (kind n gates : ℕ) (ws last : List ℕ) (room : 3 * gates ≤ length 
   rest : (buffer : List ℕ) → last ≡ buffer → last ++ drop (3 * gates) ws ≡ over buffer ws
   rest buffer e = ap₂ (λ (l : List ℕ) (k : ℕ). l ++ drop k ws) e (sym size ∙ ap length e)
 
-  pub step_called : kind ≡ 0 → (t : Outcome (Step ℕ)) (r : ℕ) → t ≡ step_outcome n (take (3 * gates) ws) → last ≡ step_buffer n (take (3 * gates) ws) → r ≡ step_gates_left t gates
-      → Yields r (last ++ drop (3 * gates) ws) (called (call_of kind n) (holding gates ws)).gates (called (call_of kind n) (holding gates ws)).words
+  pub step_called : (t : Outcome (Step ℕ)) (r : ℕ) → t ≡ step_outcome n (take (3 * gates) ws) → last ≡ step_buffer n (take (3 * gates) ws) → r ≡ step_gates_left t gates
+      → Yields r (last ++ drop (3 * gates) ws) (called (StepOn n) (holding gates ws)).gates (called (StepOn n) (holding gates ws)).words
   unfolding called
-  step_called z t r e l f =
-      let k : called (call_of kind n) (holding gates ws) ≡ called (StepOn n) (holding gates ws) = ap (λ (x : ℕ). called (call_of x n) (holding gates ws)) z in
-      record {
-        answer = f ∙ ap (λ (o : Outcome (Step ℕ)). step_gates_left o gates) e ∙ sym (ap (λ (h : Held). h.gates) k);
-        buffer = rest (step_buffer n (take (3 * gates) ws)) l ∙ sym (ap (λ (h : Held). h.words) k);
-      }
+  step_called t r e l f =
+      record { answer = f ∙ ap (λ (o : Outcome (Step ℕ)). step_gates_left o gates) e; buffer = rest (step_buffer n (take (3 * gates) ws)) l }
 
-  pub reduce_called : (kind ≡ 0 → ⊥) → (t : Outcome (Reduced ℕ)) (r : ℕ) → t ≡ reduce_outcome n (take (3 * gates) ws) → last ≡ reduce_buffer n (take (3 * gates) ws) → r ≡ reduce_gates_left t gates
-      → Yields r (last ++ drop (3 * gates) ws) (called (call_of kind n) (holding gates ws)).gates (called (call_of kind n) (holding gates ws)).words
+  pub reduce_called : (t : Outcome (Reduced ℕ)) (r : ℕ) → t ≡ reduce_outcome n (take (3 * gates) ws) → last ≡ reduce_buffer n (take (3 * gates) ws) → r ≡ reduce_gates_left t gates
+      → Yields r (last ++ drop (3 * gates) ws) (called (ReduceOn n) (holding gates ws)).gates (called (ReduceOn n) (holding gates ws)).words
   unfolding called
-  reduce_called z t r e l f =
-      let s : kind ≡ suc (kind - 1) = omega arith in
-      let k : called (call_of kind n) (holding gates ws) ≡ called (ReduceOn n) (holding gates ws) = ap (λ (x : ℕ). called (call_of x n) (holding gates ws)) s in
-      record {
-        answer = f ∙ ap (λ (o : Outcome (Reduced ℕ)). reduce_gates_left o gates) e ∙ sym (ap (λ (h : Held). h.gates) k);
-        buffer = rest (reduce_buffer n (take (3 * gates) ws)) l ∙ sym (ap (λ (h : Held). h.words) k);
-      }
+  reduce_called t r e l f =
+      record { answer = f ∙ ap (λ (o : Outcome (Reduced ℕ)). reduce_gates_left o gates) e; buffer = rest (reduce_buffer n (take (3 * gates) ws)) l }
 
 -- ---- what stands after a call
 
@@ -156,6 +146,10 @@ module _ (gates : ℕ) (ws : List ℕ) (room : 3 * gates ≤ length ws) where
 pub call_leaves : (c : Call) (h : Held) → 3 * h.gates ≤ length h.words → Leaves c h
 call_leaves c h room = leaves h.gates h.words room c
 
+-- of a call that was made
+pub made_few : (c : Call) (h : Held) (r : ℕ) (last : List ℕ) → 3 * h.gates ≤ length h.words → Yields r last (called c h).gates (called c h).words → r ≤ h.gates
+made_few c h r last room y = omega (arith, y.answer, (call_leaves c h room).few)
+
 -- and after a list of calls
 pub record LeavesAll (cs : List Call) (h : Held) : Type 0 where
   pub few : (called_all cs h).gates ≤ h.gates
@@ -170,31 +164,17 @@ calls_leave (c ∷ cs) h room =
     let m = calls_leave cs (called c h) (omega (arith, l.few, l.long)) in
     record { few = omega (arith, l.few, m.few); long = m.long ∙ l.long; stands = m.stands ∙ ap (after_all cs) l.stands }
 
--- ---- the loop over the calls' words
-
-pub calls_next : (ws : List ℕ) (i kind n : ℕ) → i < length ws / 2 → kind ≡ get_or ws (2 * i) 0 → n ≡ get_or ws (2 * i + 1) 0
-    → calls_of (drop (2 * i) ws) ≡ call_of kind n ∷ calls_of (drop (2 * (i + 1)) ws)
-unfolding calls_of
-calls_next ws i kind n h e f =
-    let up : 2 * i + 2 ≡ 2 * (i + 1) = omega arith in
-    ap calls_of (two 0 ws (2 * i) (omega arith))
-    ∙ ap₂ (λ (x y : ℕ). call_of x y ∷ calls_of (drop (2 * i + 2) ws)) (sym e) (sym f)
-    ∙ ap (λ (k : ℕ). call_of kind n ∷ calls_of (drop k ws)) up
-
-pub calls_end : (ws : List ℕ) (i : ℕ) → length ws / 2 ≤ i → calls_of (drop (2 * i) ws) ≡ []
-unfolding calls_of
-calls_end ws i h = short (drop (2 * i) ws) (omega (arith, length-drop (2 * i) ws))
-  where
-    short : (l : List ℕ) → length l < 2 → calls_of l ≡ []
-    short [] e = refl
-    short (k ∷ []) e = refl
-    short (k ∷ n ∷ l) e = absurd (omega arith)
+-- ---- the loop over the calls
 
 -- a turn: what is left to do, after one call more
-pub calls_turn : (ws : List ℕ) (i kind n gates r : ℕ) (words last : List ℕ) → i < length ws / 2 → kind ≡ get_or ws (2 * i) 0 → n ≡ get_or ws (2 * i + 1) 0
-    → Yields r last (called (call_of kind n) (holding gates words)).gates (called (call_of kind n) (holding gates words)).words
-    → called_all (calls_of (drop (2 * i) ws)) (holding gates words) ≡ called_all (calls_of (drop (2 * (i + 1)) ws)) (holding r last)
+pub calls_turn : (cs : List Call) (i gates r : ℕ) (c : Call) (words last : List ℕ) → drop i cs ≡ c ∷ drop (i + 1) cs
+    → Yields r last (called c (holding gates words)).gates (called c (holding gates words)).words
+    → called_all (drop i cs) (holding gates words) ≡ called_all (drop (i + 1) cs) (holding r last)
 unfolding called_all
-calls_turn ws i kind n gates r words last h e f y =
-    ap (λ (cs : List Call). called_all cs (holding gates words)) (calls_next ws i kind n h e f)
-    ∙ ap (called_all (calls_of (drop (2 * (i + 1)) ws))) (sym (ap₂ (λ (k : ℕ) (l : List ℕ). holding k l) y.answer y.buffer))
+calls_turn cs i gates r c words last e y =
+    ap (λ (l : List Call). called_all l (holding gates words)) e
+    ∙ ap (called_all (drop (i + 1) cs)) (sym (ap₂ (λ (k : ℕ) (l : List ℕ). holding k l) y.answer y.buffer))
+
+pub calls_end : (cs : List Call) (i : ℕ) (h : Held) → length cs ≤ i → called_all (drop i cs) h ≡ h
+unfolding called_all
+calls_end cs i h e = ap (λ (l : List Call). called_all l h) (drop_of_length-le cs e)

@@ -1,7 +1,6 @@
 -- What a turn over the gates adds to the totals, and the totals at the end. Assumes nothing.
-use Rattle.std.proofs.Common.{◌≡◌, ℕ, zero, suc, ◌+◌, ◌*◌, ◌/◌, ◌^◌, ◌<◌, ◌≤◌, Bool, true, false, cond, ◌||◌, eqb, leb, List, [], ◌∷◌, ◌++◌, length, drop, sym, refl, ap, ◌∙◌, ap₂, zero-add, arith, length-append, ne_eqb, le-leb}
+use Rattle.std.proofs.Common.{◌≡◌, ℕ, zero, suc, ◌+◌, ◌*◌, ◌/◌, ◌^◌, ◌<◌, ◌≤◌, Bool, true, false, cond, ◌||◌, eqb, List, [], ◌∷◌, ◌++◌, length, drop, sym, refl, ap, ◌∙◌, ap₂, zero-add, arith, length-append, ne_eqb}
 use mathlib.Core.Bool.{or-false, or_assoc}
-use mir.Val.{bool_byte}
 use lib.Bits.{bit_or}
 use lib.Count.{ones}
 use Rattle.bits.specs.Digits.{bit, lines_in}

@@ -1,5 +1,5 @@
 -- The laws of comparing two cascades: the search for the lowest difference, and what the calls answer. Assumes nothing.
-use Rattle.std.proofs.Common.{◌≡◌, ℕ, zero, suc, ◌+◌, ◌-◌, ◌^◌, ◌<◌, ◌≤◌, Bool, true, false, not, eqb, ltb, List, [], sym, ap, ◌∙◌, subst, arith, ltb-false, ltb-true, eq-eqb, ne_eqb, eqb-true, le-leb}
+use Rattle.std.proofs.Common.{◌≡◌, ℕ, zero, suc, ◌+◌, ◌^◌, ◌<◌, ◌≤◌, Bool, true, false, not, eqb, ltb, List, [], MatchOption, Option, None, Some, sym, refl, ap, ◌∙◌, subst, arith, ltb-false, ltb-true, eq-eqb, ne_eqb, eqb-true, le-leb}
 use borrow.Author.Tests.{eqb-false, not-true, not-false, lt-leb}
 use Rattle.bits.proofs.Bools.{either, cond-true, cond-false}
 use Rattle.circuit.specs.declared.gate.Gate.{Gate}
@@ -10,7 +10,7 @@ use Rattle.circuit.specs.Words.{gates_of, all_valid, pair_outcome}
 use Rattle.circuit.specs.declared.words.Counts.{Counts}
 use Rattle.circuit.specs.Run.{run}
 use Rattle.circuit.proofs.Promises.{demand_met, demand_failed, then_served, then_refused, valid_all_more, pair_served, then_both, then_fails}
-use Rattle.checking.specs.Compare.{outputs_differ, max_sweep_lines, Difference, none, lowest, lowest_from, difference_outcome, Says, differs_outcome, picked, pick_outcome, Picks}
+use Rattle.checking.specs.Compare.{outputs_differ, max_sweep_lines, Difference, none, lowest, lowest_from, of_difference, difference_outcome, Says, differs_outcome, picked, pick_outcome, Picks}
 
 pub differ_no : (a b : List Gate) (x : ℕ) → outputs_differ a b x ≡ false → run a x ≡ run b x
 differ_no a b x e = eqb-true _ _ (not-false (eqb (run a x) (run b x)) e)
@@ -37,22 +37,27 @@ pair_gates na a nb b c e =
 
 module _ (a b : List Gate) where
   -- a turn at x, of the states up to `count`
-  pub lowest_here : (x count : ℕ) → x < count → outputs_differ a b x ≡ true → lowest_from a b x (count - x) ≡ lowest x
-  unfolding lowest_from
-  lowest_here x count h e =
-      let f : count - x ≡ suc (count - x - 1) = omega arith in
-      ap (lowest_from a b x) f ∙ cond-true _ _ _ e
+  -- the first of the states from x up to `end` on which the two differ, as an option
+  abbrev pub First : ℕ → ℕ → Option ℕ → Type 0
+  First x end r =
+      MatchOption r ((y : ℕ) → x ≤ y → y < end → outputs_differ a b y ≡ false)
+      (λ i. (x ≤ i) × (i < end) × (outputs_differ a b i ≡ true) × ((y : ℕ) → x ≤ y → y < i → outputs_differ a b y ≡ false))
 
-  pub lowest_next : (x count : ℕ) → x < count → outputs_differ a b x ≡ false → lowest_from a b x (count - x) ≡ lowest_from a b (x + 1) (count - (x + 1))
+  lowest_is : (x k end : ℕ) → x + k ≡ end → (r : Option ℕ) → First x end r → lowest_from a b x k ≡ of_difference r
   unfolding lowest_from
-  lowest_next x count h e =
-      let f : count - x ≡ suc (count - x - 1) = omega arith in
-      let g : count - x - 1 ≡ count - (x + 1) = omega arith in
-      ap (lowest_from a b x) f ∙ cond-false _ _ _ e ∙ ap (lowest_from a b (x + 1)) g
+  lowest_is x zero end e None f = refl
+  lowest_is x zero end e (Some i) f = absurd (omega arith)
+  lowest_is x (suc k) end e None f =
+      cond-false _ _ _ (f x (omega arith) (omega arith)) ∙ lowest_is (x + 1) k end (omega arith) None (λ y l h. f y (omega arith) h)
+  lowest_is x (suc k) end e (Some i) f =
+      either (eqb x i)
+      (λ t. let here : x ≡ i = eqb-true x i t in cond-true _ _ _ (ap (outputs_differ a b) here ∙ f.2) ∙ ap lowest here)
+      (λ t.
+      let later : x ≡ i → ⊥ = eqb-false x i t in
+      cond-false _ _ _ (f.3 x (omega arith) (omega arith)) ∙ lowest_is (x + 1) k end (omega arith) (Some i) (omega arith, f.1, f.2, (λ y l h. f.3 y (omega arith) h)))
 
-  pub lowest_none : (x count : ℕ) → count ≤ x → lowest_from a b x (count - x) ≡ none
-  unfolding lowest_from
-  lowest_none x count h = let f : count - x ≡ 0 = omega arith in ap (lowest_from a b x) f
+  pub lowest_below : (count : ℕ) (r : Option ℕ) → First 0 count r → of_difference r ≡ lowest_from a b 0 count
+  lowest_below count r f = sym (lowest_is 0 count count (omega arith) r f)
 
   -- what the search over the k states from x says
   abbrev Found : ℕ → ℕ → Difference → Type 0

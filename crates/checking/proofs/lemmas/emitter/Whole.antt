@@ -1,5 +1,5 @@
 -- What the one-gate emitter writes for a gate with no control, with one, and with more. Assumes nothing.
-use Rattle.std.proofs.Common.{◌≡◌, ℕ, suc, ◌+◌, ◌-◌, ◌*◌, ◌^◌, ◌<◌, ◌≤◌, List, [], ◌∷◌, map, length, ℤ, pos, sym, refl, ap, ◌∙◌, subst, ⊎_elim, eq-zero-or-pos, add-one, arith}
+use Rattle.std.proofs.Common.{◌≡◌, ℕ, suc, ◌+◌, ◌-◌, ◌*◌, ◌^◌, ◌<◌, ◌≤◌, List, [], ◌∷◌, map, length, ℤ, pos, sym, refl, ap, ◌∙◌, ⊎_elim, eq-zero-or-pos, add-one, arith}
 use mathlib.Core.List.{map-map}
 use lib.Bits.{bit_and, bit_or, or_lt}
 use lib.Count.{count_trailing_zeros}

@@ -1,14 +1,16 @@
 -- The laws of the loops over gates and states, and of what the call answers and leaves. Assumes nothing.
-use Rattle.std.proofs.Common.{◌≡◌, ℕ, suc, ◌+◌, ◌*◌, ◌/◌, ◌^◌, ◌<◌, ◌≤◌, Bool, true, false, ltb, List, [], ◌∷◌, ◌++◌, map, length, get_or, take, drop, set, sym, refl, ap, ◌∙◌, subst, ap₂, append_assoc, arith, length-append, take-append-drop, drop_of_length-le, length-take-le, drop-cons, take_at, drop_at, le-leb}
+use Rattle.std.proofs.Common.{◌≡◌, ℕ, suc, ◌+◌, ◌*◌, ◌/◌, ◌^◌, ◌<◌, ◌≤◌, Bool, true, false, not, cond, ltb, None, Some, position, List, [], ◌∷◌, ◌++◌, map, length, get_or, take, drop, set, sym, refl, ap, ◌∙◌, subst, ap₂, append_assoc, arith, length-append, take-append-drop, drop_of_length-le, length-take-le, drop-cons, take_at, drop_at, le-leb}
 use mathlib.Core.Bool.{and-true}
 use lib.Bits.{bit_and}
 use lib.Seq.{sets-eq}
 use borrow.Author.Tests.{lt-leb}
+use Rattle.std.specs.List.{prefix_len}
+use Rattle.std.proofs.lemmas.Grind.{common_steps}
 use Rattle.bits.specs.Lists.{over}
 use Rattle.bits.proofs.Lists.{two}
 use Rattle.circuit.specs.declared.gate.Gate.{Gate}
 use Rattle.circuit.specs.Gate.{max_lines, max_gates, apply}
-use Rattle.circuit.specs.Outcome.{Outcome, served, refused, written, Yields}
+use Rattle.circuit.specs.Outcome.{Outcome, served, refused, demand, written, Yields}
 use Rattle.circuit.specs.Refusal.{bad_state, agreeing_state, no_room}
 use Rattle.circuit.specs.Words.{gates_of, gate_at, pair_outcome, Cascade}
 use Rattle.circuit.specs.declared.words.Counts.{Counts}
@@ -89,14 +91,15 @@ module _ (ws out : List ℕ) (i : ℕ) (g : Gate) (inside : i < length ws / 3) (
       ∙ two_more out (2 * i) room m m more
       ∙ ap (λ (k : ℕ). take k (two_set out (2 * i) m m) ++ more (drop k (two_set out (2 * i) m m))) up
 
-  -- one state more
-  pub narrow_turn : (s v w : ℕ) → v ≡ bit_and (get_or out (2 * i) 0) (kept (missing_control true) g s) → w ≡ bit_and (get_or out (2 * i + 1) 0) (kept (missing_control false) g s)
+  -- one state more; t is the state after gate g
+  pub narrow_turn : (s t v w : ℕ) → t ≡ apply g s → v ≡ bit_and (get_or out (2 * i) 0) (kept (missing_control true) g s) → w ≡ bit_and (get_or out (2 * i + 1) 0) (kept (missing_control false) g s)
       → take (2 * i) out ++ narrowed (gates_of (drop (3 * i) ws)) s (drop (2 * i) out)
-      ≡ take (2 * (i + 1)) (two_set out (2 * i) v w) ++ narrowed (gates_of (drop (3 * (i + 1)) ws)) (apply g s) (drop (2 * (i + 1)) (two_set out (2 * i) v w))
+      ≡ take (2 * (i + 1)) (two_set out (2 * i) v w) ++ narrowed (gates_of (drop (3 * (i + 1)) ws)) t (drop (2 * (i + 1)) (two_set out (2 * i) v w))
   unfolding narrowed
-  narrow_turn s v w e f =
-      let more : List ℕ → List ℕ = narrowed (gates_of (drop (3 * (i + 1)) ws)) (apply g s) in
+  narrow_turn s t v w d e f =
+      let more : List ℕ → List ℕ = narrowed (gates_of (drop (3 * (i + 1)) ws)) t in
       ap₂ (λ (gs : List Gate) (l : List ℕ). take (2 * i) out ++ narrowed gs s l) next (two 0 out (2 * i) room)
+      ∙ ap (λ (u : ℕ). take (2 * i) out ++ (bit_and (get_or out (2 * i) 0) (kept (missing_control true) g s) ∷ bit_and (get_or out (2 * i + 1) 0) (kept (missing_control false) g s) ∷ narrowed (gates_of (drop (3 * (i + 1)) ws)) u (drop (2 * i + 2) out))) (sym d)
       ∙ ap₂ (λ (x y : ℕ). take (2 * i) out ++ (x ∷ y ∷ more (drop (2 * i + 2) out))) (sym e) (sym f)
       ∙ two_more out (2 * i) room v w more
       ∙ ap (λ (k : ℕ). take k (two_set out (2 * i) v w) ++ more (drop k (two_set out (2 * i) v w))) up
@@ -127,34 +130,26 @@ states_end gs xs ms i h = ap (λ (l : List ℕ). narrowed_by gs l ms) (drop_of_l
 
 -- ---- the tests of the states
 
-module _ (test : ℕ → Bool) (number : ℕ) (xs : List ℕ) where
-  -- the states before i have passed, so those that are left decide
-  pub record Passed (i : ℕ) : Type 0 where
-    pub within : i ≤ length xs
-    pub left : each_from test number 0 xs ≡ each_from test number i (drop i xs)
+module _ (test : ℕ → Bool) (number : ℕ) where
+  -- the number of states before the first that fails
+  abbrev met : List ℕ → ℕ
+  met xs = prefix_len (λ x. not (not (test x))) xs
 
-  pub none_passed : Passed 0
-  none_passed = record { within = omega arith; left = refl }
+  by_state : (i n m : ℕ) (b : Bool) (rest : Outcome ℕ) → rest ≡ cond (ltb n m) (refused number (i + 1 + n)) (served (i + 1 + m))
+      → let k = cond (not (not b)) (1 + n) 0 in demand b number i rest ≡ cond (ltb k (suc m)) (refused number (i + k)) (served (i + suc m))
+  by_state i n m true rest e = grind (arith, common_steps)
+  by_state i n m false rest e = grind (arith, common_steps)
 
-  module _ (i : ℕ) (p : Passed i) where
-    pub each_end : length xs ≤ i → each_from test number 0 xs ≡ served i
-    unfolding each_from
-    each_end h = p.left ∙ ap (each_from test number i) (drop_of_length-le xs h)
+  each_told : (i : ℕ) (xs : List ℕ) → each_from test number i xs ≡ cond (ltb (met xs) (length xs)) (refused number (i + met xs)) (served (i + length xs))
+  unfolding each_from
+  each_told i [] = let e : i ≡ i + 0 = omega arith in ap served e
+  each_told i (x ∷ xs) = by_state i (met xs) (length xs) (test x) _ (each_told (i + 1) xs)
 
-    module _ (inside : i < length xs) where
-      here : drop i xs ≡ get_or xs i 0 ∷ drop (i + 1) xs
-      here = let one : suc i ≡ i + 1 = omega arith in drop-cons xs i 0 inside ∙ ap (λ (k : ℕ). get_or xs i 0 ∷ drop k xs) one
+  pub each_met : (xs : List ℕ) → position (λ x. not (test x)) xs ≡ None → each_from test number 0 xs ≡ served (length xs)
+  each_met xs e = let t = each_told 0 xs in grind (arith, common_steps)
 
-      abbrev rest : Outcome ℕ
-      rest = each_from test number (i + 1) (drop (i + 1) xs)
-
-      pub each_next : test (get_or xs i 0) ≡ true → Passed (i + 1)
-      unfolding each_from
-      each_next e = record { within = omega arith; left = p.left ∙ ap (each_from test number i) here ∙ demand_met (test (get_or xs i 0)) number i rest e }
-
-      pub each_fails : test (get_or xs i 0) ≡ false → each_from test number 0 xs ≡ refused number i
-      unfolding each_from
-      each_fails e = p.left ∙ ap (each_from test number i) here ∙ demand_failed (test (get_or xs i 0)) number i rest e
+  pub each_failed : (xs : List ℕ) (i : ℕ) → position (λ x. not (test x)) xs ≡ Some i → each_from test number 0 xs ≡ refused number i
+  each_failed xs i e = let t = each_told 0 xs in grind (arith, common_steps)
 
 -- ---- what the call answers and leaves
 

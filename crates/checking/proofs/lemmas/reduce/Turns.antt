@@ -1,14 +1,14 @@
 -- The laws of the reduction over words: what stands at each turn of the loop. Assumes nothing.
-use Rattle.std.proofs.Common.{◌≡◌, ℕ, ◌+◌, ◌-◌, ◌*◌, ◌/◌, ◌%◌, ◌≤◌, true, List, ◌++◌, length, take, drop, replicate, sym, refl, ap, ◌∙◌, ap₂, append_assoc, append-nil, arith, take_at, drop_at}
+use Rattle.std.proofs.Common.{◌≡◌, ℕ, ◌+◌, ◌-◌, ◌*◌, ◌/◌, ◌%◌, ◌<◌, ◌≤◌, true, List, ◌++◌, length, take, drop, replicate, sym, refl, ap, ◌∙◌, ap₂, append_assoc, append-nil, arith, take_at, drop_at}
 use lib.ListN.{replicate-append-replicate}
-use borrow.Rule.Slice.PartMut.{put_mid}
 use Rattle.circuit.specs.declared.gate.Gate.{Gate}
 use Rattle.circuit.specs.Outcome.{Yields}
 use Rattle.circuit.specs.Gate.{max_lines}
 use Rattle.circuit.specs.Words.{gates_of, words_of, all_valid}
 use Rattle.circuit.proofs.Promises.{gates_length, gates_words, words_gates, words_length}
-use Rattle.checking.specs.Match.{Kind}
-use Rattle.checking.specs.Step.{Search, search_from, searched, Step, found, none, step_gates, with_count, step_words, filled}
+use Rattle.checking.specs.declared.step.Stepped.{Stepped}
+use Rattle.checking.specs.Match.{Kind, of_kind}
+use Rattle.checking.specs.Step.{Search, search_from, searched, Step, found, none, step_gates, with_count, step_words, filled, of_stepped}
 use Rattle.checking.specs.Reduce.{Reduced, tallied, reduce_gates, numbered}
 use Rattle.checking.specs.StepLaws.{taken}
 use Rattle.checking.proofs.lemmas.step.Moving.{filled_length}
@@ -34,6 +34,11 @@ counts_taken : (k : Kind) → taken k ≡ 2 * pairs_of k + merges_of k
 counts_taken Kind.pair = refl
 counts_taken Kind.drop = refl
 counts_taken Kind.turn = refl
+
+some_taken : (k : Kind) → 0 < taken k
+some_taken Kind.pair = omega arith
+some_taken Kind.drop = omega arith
+some_taken Kind.turn = omega arith
 
 plus_tallied : (k : Kind) (p m : ℕ) (r : Reduced (List Gate)) → plus p m (tallied k r) ≡ plus (p + pairs_of k) (m + merges_of k) r
 plus_tallied Kind.pair p m r =
@@ -85,20 +90,20 @@ standing_first ws w v =
 module _ (first words : List ℕ) (gates pairs merges : ℕ) (s : Standing first words gates pairs merges) where
   -- what the step is lent, and its gates
   abbrev pub lent : List ℕ
-  lent = take (3 * gates - 0) (drop 0 words)
+  lent = take (3 * gates) words
 
-  now_words : length (words_of s.now) ≡ 3 * gates - 0
+  now_words : length (words_of s.now) ≡ 3 * gates
   now_words = let z = s.size in words_length s.now ∙ omega arith
 
   lent_words : lent ≡ words_of s.now
   unfolding filled
-  lent_words = ap (take (3 * gates - 0)) s.held ∙ take_at (words_of s.now) _ (3 * gates - 0) now_words
+  lent_words = ap (take (3 * gates)) s.held ∙ take_at (words_of s.now) _ (3 * gates) now_words
 
-  after_words : drop (3 * gates - 0) words ≡ replicate (length first - 3 * gates) 0
+  after_words : drop (3 * gates) words ≡ replicate (length first - 3 * gates) 0
   unfolding filled
   after_words =
       let z : length first - 3 * length s.now ≡ length first - 3 * gates = let y = s.size in omega arith in
-      ap (drop (3 * gates - 0)) s.held ∙ drop_at (words_of s.now) _ (3 * gates - 0) now_words ∙ ap (λ (k : ℕ). replicate k 0) z
+      ap (drop (3 * gates)) s.held ∙ drop_at (words_of s.now) _ (3 * gates) now_words ∙ ap (λ (k : ℕ). replicate k 0) z
 
   lent_gates : gates_of lent ≡ s.now
   lent_gates = ap gates_of lent_words ∙ gates_words s.now
@@ -126,46 +131,51 @@ module _ (first words : List ℕ) (gates pairs merges : ℕ) (s : Standing first
         buffer = s.held ∙ sym (ap (λ (x : Reduced (List Gate)). filled x.left (length first)) d);
       }
 
-  module _ (r : Step ℕ) (last : List ℕ) (y : Yields r last (with_count (step_gates (gates_of lent))) (step_words (step_gates (gates_of lent)) lent)) where
-    told : with_count (step_gates s.now) ≡ r
+  -- found: one turn more
+  module _ (r : Stepped) (last : List ℕ) (y : Yields (of_stepped r) last (with_count (step_gates (gates_of lent))) (step_words (step_gates (gates_of lent)) lent)) where
+    abbrev kind : Kind
+    kind = of_kind r.kind
+
+    told : with_count (step_gates s.now) ≡ of_stepped r
     told = sym (y.answer ∙ ap (λ (g : List Gate). with_count (step_gates g)) lent_gates)
 
     left : last ≡ step_words (step_gates s.now) lent
     left = y.buffer ∙ ap (λ (g : List Gate). step_words (step_gates g) lent) lent_gates
 
-    -- found: one turn more
-    finds : (i j : ℕ) (k : Kind) (n : ℕ) → r ≡ found i j k n → (hs : List Gate) × (step_gates s.now ≡ found i j k hs) × (length hs ≡ n)
-    finds i j k n e = go (step_gates s.now) refl
+    finds : (hs : List Gate) × (step_gates s.now ≡ found r.i r.j kind hs) × (length hs ≡ r.gates)
+    finds = go (step_gates s.now) refl
       where
-        go : (t : Step (List Gate)) → step_gates s.now ≡ t → (hs : List Gate) × (step_gates s.now ≡ found i j k hs) × (length hs ≡ n)
+        go : (t : Step (List Gate)) → step_gates s.now ≡ t → (hs : List Gate) × (step_gates s.now ≡ found r.i r.j kind hs) × (length hs ≡ r.gates)
         go (found a b l hs) q =
-            let c : found a b l (length hs) ≡ found i j k n = sym (ap with_count q) ∙ told ∙ e in
-            let x : a ≡ i = cc in
-            let y : b ≡ j = cc in
-            let z : l ≡ k = cc in
-            let w : length hs ≡ n = cc in
-            (hs, q ∙ ap₂ (λ (u v : ℕ). found u v l hs) x y ∙ ap (λ (u : Kind). found i j u hs) z, w)
-        go none q = let c : none ≡ found i j k n = sym (ap with_count q) ∙ told ∙ e in let z : ◌≡◌ {A = ℕ} 0 1 = cc in absurd (omega arith)
+            let c : found a b l (length hs) ≡ found r.i r.j kind r.gates = sym (ap with_count q) ∙ told in
+            let x : a ≡ r.i = cc in
+            let y : b ≡ r.j = cc in
+            let z : l ≡ kind = cc in
+            let w : length hs ≡ r.gates = cc in
+            (hs, q ∙ ap₂ (λ (u v : ℕ). found u v l hs) x y ∙ ap (λ (u : Kind). found r.i r.j u hs) z, w)
+        go none q = let c : none ≡ found r.i r.j kind r.gates = sym (ap with_count q) ∙ told in let z : ◌≡◌ {A = ℕ} 0 1 = cc in absurd (omega arith)
 
-    pub left_less : (i j : ℕ) (k : Kind) (n : ℕ) → r ≡ found i j k n → n + taken k ≡ gates
-    left_less i j k n e =
-        let (hs, q, l) = finds i j k n e in
-        let t = step_shrinks s.now i j k hs q in
+    left_less : r.gates + taken kind ≡ gates
+    left_less =
+        let (hs, q, l) = finds in
+        let t = step_shrinks s.now r.i r.j kind hs q in
         let z = s.size in
         omega arith
 
-    pub onward : (i j : ℕ) (k : Kind) (n : ℕ) → r ≡ found i j k n → (p m : ℕ) → p ≡ pairs + pairs_of k → m ≡ merges + merges_of k
-        → Standing first (put_mid 0 (3 * gates - 0) words last) n p m
+    pub fewer : r.gates < gates
+    fewer = let t = left_less in let c = some_taken kind in omega arith
+
+    pub onward : (p m : ℕ) → p ≡ pairs + pairs_of kind → m ≡ merges + merges_of kind → Standing first (last ++ drop (3 * gates) words) r.gates p m
     unfolding filled
-    onward i j k n e p m pe me =
-        let (hs, q, l) = finds i j k n e in
-        let t = left_less i j k n e in
-        let c = counts_taken k in
+    onward p m pe me =
+        let (hs, q, l) = finds in
+        let t = left_less in
+        let c = counts_taken kind in
         let f = s.fits in
         let b = s.budget in
         let lw : length lent ≡ 3 * gates = ap length lent_words ∙ words_length s.now ∙ ap (λ (x : ℕ). 3 * x) s.size in
         let z : length lent - 3 * length hs + (length first - 3 * gates) ≡ length first - 3 * length hs = omega arith in
-        let w : put_mid 0 (3 * gates - 0) words last ≡ filled hs (length first) =
+        let w : last ++ drop (3 * gates) words ≡ filled hs (length first) =
         ap₂ (λ (x y : List ℕ). x ++ y) (left ∙ ap (λ (t : Step (List Gate)). step_words t lent) q) after_words
         ∙ append_assoc (words_of hs) _ _
         ∙ ap (λ (x : List ℕ). words_of hs ++ x) (replicate-append-replicate (length lent - 3 * length hs) (length first - 3 * gates) 0 ∙ ap (λ (x : ℕ). replicate x 0) z) in
@@ -175,7 +185,7 @@ module _ (first words : List ℕ) (gates pairs merges : ℕ) (s : Standing first
           size = l;
           long = ap length w ∙ filled_length hs (length first) (omega arith);
           fits = omega arith;
-          good = (step_keeps max_lines s.now (omega arith) s.good i j k hs (step_is s.now s.good _ q)).good;
+          good = (step_keeps max_lines s.now (omega arith) s.good r.i r.j kind hs (step_is s.now s.good _ q)).good;
           budget = omega arith;
-          sum = s.sum ∙ ap (plus pairs merges) (reduce_found s.now i j k hs q) ∙ plus_tallied k pairs merges (reduce_gates hs) ∙ ap₂ (λ (x y : ℕ). plus x y (reduce_gates hs)) (sym pe) (sym me);
+          sum = s.sum ∙ ap (plus pairs merges) (reduce_found s.now r.i r.j kind hs q) ∙ plus_tallied kind pairs merges (reduce_gates hs) ∙ ap₂ (λ (x y : ℕ). plus x y (reduce_gates hs)) (sym pe) (sym me);
         }

@@ -1,12 +1,15 @@
 -- What a step on words answers and leaves. Assumes nothing.
-use Rattle.std.proofs.Common.{◌≡◌, ℕ, ◌+◌, ◌/◌, ◌<◌, List, length, sym, refl, ap, ◌∙◌, arith}
+use Rattle.std.proofs.Common.{◌≡◌, ℕ, ◌+◌, ◌/◌, List, length, sym, refl, ap, ◌∙◌, arith}
 use Rattle.circuit.specs.declared.gate.Gate.{Gate}
 use Rattle.circuit.specs.Gate.{max_miter_gates}
 use Rattle.circuit.specs.Outcome.{Outcome, served, refused, Yields}
 use Rattle.circuit.specs.Words.{gates_of, check_outcome}
 use Rattle.circuit.proofs.Promises.{then_served, then_refused, gates_length}
-use Rattle.checking.specs.Match.{Match, kind_of, remaining}
+use Rattle.checking.specs.declared.step.Match as code
+use Rattle.checking.specs.declared.step.Found.{Found}
+use Rattle.checking.specs.Match.{Match, kind_of, remaining, of_match}
 use Rattle.checking.specs.Step.{Search, search_from, replaced, filled, Step, found, none, searched, step_gates, with_count, step_words, step_outcome, served_words, step_buffer}
+use Rattle.checking.specs.private.StepCode.{of_found, FoundAt}
 use Rattle.checking.proofs.lemmas.step.Moving.{replaced_length}
 use Rattle.checking.proofs.lemmas.step.Relation.{search_places}
 
@@ -14,24 +17,29 @@ module _ (ws : List ℕ) where
   abbrev gs : List Gate
   gs = gates_of ws
 
-  -- the places that the search tells stand in the words
-  pub places : (i j : ℕ) (m : Match) → search_from 0 gs ≡ Search.at i j m → (i < j) × (j < length ws / 3)
-  places i j m e = let (a, b) = search_places gs i j m e in let g = gates_length ws in (a, omega arith)
+  -- what the search tells stands in the words
+  pub found_at : (f : Found) → search_from 0 gs ≡ of_found f → FoundAt ws f
+  found_at f e =
+      let (a, b) = search_places gs f.i f.j (of_match f.by) e in
+      let g = gates_length ws in
+      record { rising = a; inside = omega arith; found = e }
 
   told : (last : List ℕ) (r : Step ℕ) (t : Step (List Gate)) → step_gates gs ≡ t → r ≡ with_count t → last ≡ step_words t ws
       → Yields r last (with_count (step_gates gs)) (step_words (step_gates gs) ws)
   told last r t e a b = record { answer = a ∙ sym (ap with_count e); buffer = b ∙ sym (ap (λ (x : Step (List Gate)). step_words x ws) e) }
 
-  pub told_found : (i j : ℕ) (m : Match) → search_from 0 gs ≡ Search.at i j m → (k : ℕ) → k + 2 ≡ length ws / 3 + length (remaining m)
-      → (last : List ℕ) → last ≡ filled (replaced i j (remaining m) gs) (length ws)
-      → Yields (found i j (kind_of m) k) last (with_count (step_gates gs)) (step_words (step_gates gs) ws)
+  -- the step that it makes, by the match
+  pub told_found : (f : Found) → FoundAt ws f → (by : code.Match) → f.by ≡ by → (k : ℕ) → k + 2 ≡ length ws / 3 + length (remaining (of_match by))
+      → (last : List ℕ) → last ≡ filled (replaced f.i f.j (remaining (of_match by)) gs) (length ws)
+      → Yields (found f.i f.j (kind_of (of_match by)) k) last (with_count (step_gates gs)) (step_words (step_gates gs) ws)
   unfolding step_gates
-  told_found i j m e k s last l =
-      let (a, b) = places i j m e in
+  told_found f at by same k s last l =
+      let m : Match = of_match by in
+      let e : search_from 0 gs ≡ Search.at f.i f.j m = at.found ∙ ap (λ (by : code.Match). Search.at f.i f.j (of_match by)) same in
       let g = gates_length ws in
-      let n = replaced_length i j (remaining m) gs a (omega arith) in
-      let q : k ≡ length (replaced i j (remaining m) gs) = omega arith in
-      told last (found i j (kind_of m) k) (found i j (kind_of m) (replaced i j (remaining m) gs)) (ap (λ (x : Search). searched x gs) e) (ap (found i j (kind_of m)) q) l
+      let n = replaced_length f.i f.j (remaining m) gs at.rising (omega (arith, at.inside)) in
+      let q : k ≡ length (replaced f.i f.j (remaining m) gs) = omega arith in
+      told last (found f.i f.j (kind_of m) k) (found f.i f.j (kind_of m) (replaced f.i f.j (remaining m) gs)) (ap (λ (x : Search). searched x gs) e) (ap (found f.i f.j (kind_of m)) q) l
 
   pub told_none : search_from 0 gs ≡ Search.nothing → Yields none ws (with_count (step_gates gs)) (step_words (step_gates gs) ws)
   unfolding step_gates

@@ -1,23 +1,15 @@
--- The laws of words that move down, of words that become 0, and of a step's words. Assumes nothing.
-use Rattle.std.proofs.Common.{◌≡◌, ℕ, ◌+◌, ◌-◌, ◌*◌, ◌/◌, ◌%◌, ◌<◌, ◌≤◌, List, [], ◌∷◌, ◌++◌, length, get_or, take, drop, set, replicate, sym, refl, ap, ◌∙◌, ap₂, append_assoc, append-nil, add-one, arith, length-append, length-drop, take-append-drop, length-take-le, get_or-drop, take-suc, take-take, drop-drop, take_at, get_or-append-add, take-add, drop_at}
-use lib.ListN.{length-replicate, replicate-append-replicate}
-use lib.Seq.{take-append-le, drop-length, drop-append-le, drop-append-add}
+-- The laws of words that move down, and of a step's words. Assumes nothing.
+use Rattle.std.proofs.Common.{◌≡◌, ℕ, ◌+◌, ◌-◌, ◌*◌, ◌/◌, ◌%◌, ◌<◌, ◌≤◌, List, [], ◌∷◌, ◌++◌, length, take, drop, replicate, sym, refl, ap, ◌∙◌, ap₂, append_assoc, append-nil, arith, length-append, length-take, length-drop, length-take-le, take-take, drop-drop, take_at, take-add, drop_at}
+use lib.ListN.{length-replicate}
+use lib.Seq.{take-append-le, drop-append-le, drop-append-add}
+use lib.Seq.{paste}
+use borrow.Rule.Slice.PartMut.{put_mid}
 use Rattle.bits.specs.Lists.{over}
-use Rattle.bits.proofs.Lists.{over_push, over_length, rest_lent}
+use Rattle.bits.proofs.Lists.{over_length, rest_lent, rest_back}
 use Rattle.circuit.specs.declared.gate.Gate.{Gate}
 use Rattle.circuit.specs.Words.{gates_of, words_of, gate_words}
 use Rattle.circuit.proofs.Promises.{gates_length, words_gates, words_append, words_length, words_none, words_one, words_take, words_drop}
 use Rattle.checking.specs.Step.{between, replaced, filled}
-
--- the rest of a buffer that is filled from its start
-pub beyond : (front ws : List ℕ) (i : ℕ) → length front ≤ i → get_or (over front ws) i 0 ≡ get_or ws i 0
-beyond front ws i h =
-    let n : ℕ = length front in
-    let e : n + (i - n) ≡ i = omega arith in
-    ap (λ (k : ℕ). get_or (over front ws) k 0) (sym e)
-    ∙ get_or-append-add front (drop n ws) (i - n) 0
-    ∙ get_or-drop n ws (i - n) 0
-    ∙ ap (λ (k : ℕ). get_or ws k 0) e
 
 module _ (ws : List ℕ) (to from : ℕ) where
   -- the first `to` words, and k words from `from` on
@@ -29,72 +21,22 @@ module _ (ws : List ℕ) (to from : ℕ) where
       length-append (take to ws) _
       ∙ ap₂ (λ (x y : ℕ). x + y) (length-take-le to ws h) (length-take-le k (drop from ws) (omega (arith, length-drop from ws)))
 
-  -- a turn of the loop
-  pub moved_more : (out : List ℕ) (k : ℕ) → to ≤ from → from + k < length ws → out ≡ over (moved k) ws
-      → set out (to + k) (get_or out (from + k) 0) ≡ over (moved (k + 1)) ws
-  moved_more out k h l e =
-      let n : length (moved k) ≡ to + k = moved_length k (omega arith) (omega arith) in
-      let v : get_or out (from + k) 0 ≡ get_or ws (from + k) 0 =
-      ap (λ (o : List ℕ). get_or o (from + k) 0) e ∙ beyond (moved k) ws (from + k) (omega arith) in
-      let s : k < length (drop from ws) = omega (arith, length-drop from ws) in
-      ap₂ (λ (o : List ℕ) (x : ℕ). set o (to + k) x) e v
-      ∙ over_push (moved k) ws (get_or ws (from + k) 0) (to + k) n (omega arith)
-      ∙ ap (λ (l : List ℕ). over l ws)
-      (append_assoc (take to ws) (take k (drop from ws)) _
-      ∙ ap (λ (l : List ℕ). take to ws ++ l)
-      (ap (λ (x : ℕ). take k (drop from ws) ++ (x ∷ [])) (sym (get_or-drop from ws k 0))
-      ∙ sym (ap (λ (j : ℕ). take j (drop from ws)) (add-one k) ∙ take-suc (drop from ws) k 0 s)))
-
-  pub moved_none : to ≤ length ws → ws ≡ over (moved 0) ws
-  moved_none h =
-      sym (ap (λ (l : List ℕ). over l ws) (append-nil (take to ws))
-      ∙ ap (λ (n : ℕ). take to ws ++ drop n ws) (length-take-le to ws h)
-      ∙ take-append-drop to ws)
-
--- the first `at` words, and zeros up to k
-abbrev pub cleared : List ℕ → ℕ → ℕ → List ℕ
-cleared ws at k = take at ws ++ replicate (k - at) 0
-
-pub cleared_length : (ws : List ℕ) (at k : ℕ) → at ≤ length ws → at ≤ k → length (cleared ws at k) ≡ k
-cleared_length ws at k h l =
-    length-append (take at ws) _ ∙ ap₂ (λ (x y : ℕ). x + y) (length-take-le at ws h) (length-replicate (k - at) 0) ∙ omega arith
-
-pub cleared_none : (ws : List ℕ) (at : ℕ) → at ≤ length ws → ws ≡ over (cleared ws at at) ws
-cleared_none ws at h =
-    let z : at - at ≡ 0 = omega arith in
-    sym (ap (λ (n : ℕ). cleared ws at at ++ drop n ws) (cleared_length ws at at h (omega arith))
-    ∙ ap (λ (n : ℕ). (take at ws ++ replicate n 0) ++ drop at ws) z
-    ∙ ap (λ (l : List ℕ). l ++ drop at ws) (append-nil (take at ws))
-    ∙ take-append-drop at ws)
-
-pub cleared_more : (ws out : List ℕ) (at k : ℕ) → at ≤ k → k < length ws → out ≡ over (cleared ws at k) ws → set out k 0 ≡ over (cleared ws at (k + 1)) ws
-cleared_more ws out at k h l e =
-    let n : k - at + 1 ≡ k + 1 - at = omega arith in
-    ap (λ (o : List ℕ). set o k 0) e
-    ∙ over_push (cleared ws at k) ws 0 k (cleared_length ws at k (omega arith) h) l
-    ∙ ap (λ (x : List ℕ). over x ws)
-    (append_assoc (take at ws) (replicate (k - at) 0) _
-    ∙ ap (λ (x : List ℕ). take at ws ++ x) (replicate-append-replicate (k - at) 1 0 ∙ ap (λ (j : ℕ). replicate j 0) n))
-
-pub cleared_all : (ws : List ℕ) (at k : ℕ) → at ≤ length ws → k ≡ length ws → over (cleared ws at k) ws ≡ cleared ws at (length ws)
-cleared_all ws at k h e =
-    ap (λ (j : ℕ). over (cleared ws at j) ws) e
-    ∙ ap (λ (j : ℕ). cleared ws at (length ws) ++ drop j ws) (cleared_length ws at (length ws) h h)
-    ∙ ap (λ (x : List ℕ). cleared ws at (length ws) ++ x) (drop-length ws)
-    ∙ append-nil (cleared ws at (length ws))
+  -- as `copy_within` moves them
+  pub moved_over : (k : ℕ) → to ≤ length ws → from + k ≤ length ws → paste ws to (drop from ws) k ≡ over (moved k) ws
+  moved_over k h l = ap (λ (n : ℕ). moved k ++ drop n ws) (sym (moved_length k h l))
 
 -- a gap closed: the words after it moved down, and zeros after them
-pub gap_closed : (ws mid last : List ℕ) (to gap : ℕ) → to + gap ≤ length ws → mid ≡ over (moved ws to (to + gap) (length ws - (to + gap))) ws
-    → last ≡ take (length ws - gap) mid ++ replicate (length mid - (length ws - gap)) 0
-    → last ≡ (take to ws ++ drop (to + gap) ws) ++ replicate gap 0
+pub gap_closed : (ws mid last : List ℕ) (to gap : ℕ) → to + gap ≤ length ws → mid ≡ paste ws to (drop (to + gap) ws) (length ws - (to + gap))
+    → last ≡ replicate (length (take (length mid - (length ws - gap)) (drop (length ws - gap) mid))) 0
+    → put_mid (length ws - gap) (length mid - (length ws - gap)) mid last ≡ (take to ws ++ drop (to + gap) ws) ++ replicate gap 0
 gap_closed ws mid last to gap h e f =
     let front : List ℕ = moved ws to (to + gap) (length ws - (to + gap)) in
     let n : length front ≡ length ws - gap = moved_length ws to (to + gap) (length ws - (to + gap)) (omega arith) (omega arith) ∙ omega arith in
-    let m : length mid ≡ length ws = ap length e ∙ over_length front ws (omega arith) in
-    let z : length mid - (length ws - gap) ≡ gap = omega arith in
-    f
-    ∙ ap₂ (λ (x : List ℕ) (c : ℕ). x ++ replicate c 0)
-    (ap (take (length ws - gap)) e ∙ take_at front _ (length ws - gap) n ∙ ap (λ (x : List ℕ). take to ws ++ x) (rest_lent ws (to + gap))) z
+    let g : mid ≡ over front ws = e ∙ moved_over ws to (to + gap) (length ws - (to + gap)) (omega arith) (omega arith) in
+    let m : length mid ≡ length ws = ap length g ∙ over_length front ws (omega arith) in
+    let z : length (take (length mid - (length ws - gap)) (drop (length ws - gap) mid)) ≡ gap = simp (length-take, length-drop) (omega arith) in
+    rest_back mid last (length ws - gap) (omega arith)
+    ∙ ap₂ (λ (x y : List ℕ). x ++ y) (ap (take (length ws - gap)) g ∙ take_at front _ (length ws - gap) n ∙ ap (λ (x : List ℕ). take to ws ++ x) (rest_lent ws (to + gap))) (f ∙ ap (λ (k : ℕ). replicate k 0) z)
 
 -- ---- a step's words
 
@@ -174,17 +116,16 @@ module _ (ws : List ℕ) (i j : ℕ) (rest : List Gate) (order : i < j) (inside 
 
 -- gate i, and then place j, closed up
 pub pair_removed : (ws mid last : List ℕ) (i j : ℕ) → i < j → j < length ws / 3 → length ws % 3 ≡ 0
-    → mid ≡ over (moved ws (3 * i) (3 * i + 3) (3 * j - (3 * i + 3))) ws
+    → mid ≡ paste ws (3 * i) (drop (3 * (i + 1)) ws) (3 * j - 3 * (i + 1))
     → last ≡ (take (3 * (j - 1)) mid ++ drop (3 * (j - 1) + 6) mid) ++ replicate 6 0
     → last ≡ filled (replaced i j [] (gates_of ws)) (length ws)
 pair_removed ws mid last i j o h w e f =
-    let n : 3 * i + 3 ≡ 3 * (i + 1) = omega arith in
     let m : 3 * (j - 1) + 6 ≡ 3 * (j + 1) = omega arith in
     let b : List ℕ = before ws i j [] o h w in
     let l : length b ≡ 3 * (j - 1) = moved_length ws (3 * i) (3 * (i + 1)) (3 * j - 3 * (i + 1)) (omega arith) (omega arith) ∙ omega arith in
     f
     ∙ ap (λ (x : List ℕ). x ++ replicate 6 0)
-    (pushed b ws mid (3 * (j - 1)) (3 * (j - 1) + 6) l (omega arith) (e ∙ ap (λ (k : ℕ). over (moved ws (3 * i) k (3 * j - k)) ws) n)
+    (pushed b ws mid (3 * (j - 1)) (3 * (j - 1) + 6) l (omega arith) (e ∙ moved_over ws (3 * i) (3 * (i + 1)) (3 * j - 3 * (i + 1)) (omega arith) (omega arith))
     ∙ ap₂ (λ (x : List ℕ) (k : ℕ). x ++ drop k ws) (sym (ap (λ (x : List ℕ). b ++ x) words_none ∙ append-nil b)) m)
     ∙ sym (filled_is ws i j [] o h w 6 refl)
 

@@ -1,5 +1,5 @@
 -- The laws of the search over words: one gate at a time. Assumes nothing.
-use Rattle.std.proofs.Common.{◌≡◌, ℕ, ◌+◌, ◌*◌, ◌/◌, ◌<◌, ◌≤◌, Bool, true, false, cond, List, ◌∷◌, length, drop, sym, refl, ap, ◌∙◌, ap₂, arith}
+use Rattle.std.proofs.Common.{◌≡◌, ℕ, ◌+◌, ◌*◌, ◌/◌, ◌<◌, ◌≤◌, Bool, true, false, cond, List, ◌∷◌, length, drop, sym, refl, ap, ◌∙◌, arith}
 use Rattle.circuit.specs.declared.gate.Gate.{Gate}
 use Rattle.circuit.specs.Words.{gates_of, gate_at}
 use Rattle.circuit.proofs.Promises.{gates_next, gates_end}
@@ -46,36 +46,26 @@ words_end ws j g h = ap (scan_from j g) (gates_end ws j h)
 
 -- ---- the search over all gates
 
-module _ (i : ℕ) (g : Gate) (gs : List Gate) where
-  pub search_hit : (j : ℕ) (m : Match) → scan_from (i + 1) g gs ≡ Scan.at j m → search_from i (g ∷ gs) ≡ Search.at i j m
-  unfolding search_from
-  search_hit j m e = ap (λ (s : Scan). scanned s i (search_from (i + 1) gs)) e
+-- what a scan tells as a search, with what is found after it
+scan_found : (i k j : ℕ) (m : Match) (s : Scan) (later : Search) → from_gate i s ≡ Search.at k j m → scanned s i later ≡ Search.at k j m
+scan_found i k j m (Scan.at l o) later e = e
+scan_found i k j m Scan.nothing later e = let z : ◌≡◌ {A = ℕ} 0 1 = cc in absurd (omega arith)
 
-  pub search_on : scan_from (i + 1) g gs ≡ Scan.nothing → search_from i (g ∷ gs) ≡ search_from (i + 1) gs
-  unfolding search_from
-  search_on e = ap (λ (s : Scan). scanned s i (search_from (i + 1) gs)) e
-
--- what a scan found, from what it tells as a search
-scan_found : (i k j : ℕ) (m : Match) (s : Scan) → from_gate i s ≡ Search.at k j m → s ≡ Scan.at j m
-scan_found i k j m (Scan.at l o) e =
-    let x : l ≡ j = cc in
-    let y : o ≡ m = cc in
-    ap₂ Scan.at x y
-scan_found i k j m Scan.nothing e = let z : ◌≡◌ {A = ℕ} 0 1 = cc in absurd (omega arith)
-
-scan_nothing : (i : ℕ) (s : Scan) → from_gate i s ≡ Search.nothing → s ≡ Scan.nothing
-scan_nothing i (Scan.at l o) e = let z : ◌≡◌ {A = ℕ} 0 1 = cc in absurd (omega arith)
-scan_nothing i Scan.nothing e = refl
+scan_nothing : (i : ℕ) (s : Scan) (later : Search) → from_gate i s ≡ Search.nothing → scanned s i later ≡ later
+scan_nothing i (Scan.at l o) later e = let z : ◌≡◌ {A = ℕ} 0 1 = cc in absurd (omega arith)
+scan_nothing i Scan.nothing later e = refl
 
 module _ (ws : List ℕ) (i : ℕ) (inside : i < length ws / 3) where
   abbrev rest : List Gate
   rest = gates_of (drop (3 * (i + 1)) ws)
 
-  pub words_found : (k j : ℕ) (m : Match) → from_gate i (scan_from (i + 1) (gate_at ws i) rest) ≡ Search.at k j m → search_from i (gates_of (drop (3 * i) ws)) ≡ Search.at i j m
-  words_found k j m e = ap (search_from i) (gates_next ws i inside) ∙ search_hit i _ _ j m (scan_found i k j m _ e)
+  pub words_found : (k j : ℕ) (m : Match) → from_gate i (scan_from (i + 1) (gate_at ws i) rest) ≡ Search.at k j m → search_from i (gates_of (drop (3 * i) ws)) ≡ Search.at k j m
+  unfolding search_from
+  words_found k j m e = ap (search_from i) (gates_next ws i inside) ∙ scan_found i k j m _ _ e
 
   pub words_next : from_gate i (scan_from (i + 1) (gate_at ws i) rest) ≡ Search.nothing → search_from i (gates_of (drop (3 * i) ws)) ≡ search_from (i + 1) rest
-  words_next e = ap (search_from i) (gates_next ws i inside) ∙ search_on i _ _ (scan_nothing i _ e)
+  unfolding search_from
+  words_next e = ap (search_from i) (gates_next ws i inside) ∙ scan_nothing i _ _ e
 
 pub words_none : (ws : List ℕ) (i : ℕ) → length ws / 3 ≤ i → search_from i (gates_of (drop (3 * i) ws)) ≡ Search.nothing
 unfolding search_from

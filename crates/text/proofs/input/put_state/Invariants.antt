@@ -1,10 +1,6 @@
 -- `text::input::put_state` meets its contract. The loop's invariant: the characters of the lines that were passed stand at the buffer's start. Assumes nothing.
-use Prim.Native.Nat.{◌-◌}
 use Rattle.text.proofs.input.Laws.{Stating}
 use Rattle.text.proofs.input.put_state.Given as goal
 
 abbrev pub invariant-loop-i : goal.invariant-loop-i
 invariant-loop-i l = Stating l.n l.x l.initial.out l.out l.left l.i
-
-abbrev pub decreases-loop-i : goal.decreases-loop-i
-decreases-loop-i l = l.n - l.i

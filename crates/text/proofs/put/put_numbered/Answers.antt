@@ -1,9 +1,0 @@
--- `text::put::put_numbered` meets its contract. Assumes nothing.
-use native.Mathlib.Omega.{arith}
-use Rattle.circuit.proofs.Promises.{written_first, written_more, written_put}
-use Rattle.text.proofs.put.put_numbered.Goals as goal
-
-pub returns : goal.returns
-returns c =
-    let w = written_first _ _ _ _ c.put_word-at.ensures c.put_word-at.auto.out in
-    written_put _ _ _ _ (written_more _ _ _ _ w _ _ _ (omega (arith, w.same, w.long)) c.put_number.ensures c.put_number.auto.out)
