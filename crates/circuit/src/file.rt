@@ -31,6 +31,7 @@ fn judge(text: &[u8], n: u64, start: usize) -> Result<ReadCounts, Refusal>
 {
     let mut at = start;
     let mut gates = 0;
+    // Each line says where the next one starts, so no iterator counts them.
     while !crate::file::scan::ends(text, at) {
         at = crate::file::scan::gate_line(text, at, n, gates as u64 + 1, gates)?;
         gates += 1;

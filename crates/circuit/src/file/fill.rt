@@ -19,21 +19,21 @@ pub struct GateRead {
     pub next: usize,
 }
 
-// The number at a position, and the position after it.
+// The number at a position, and the position after it. Its value is made in words: bytes were slower.
 fn number(text: &[u8], at: usize) -> Numeral
     requires { (k : ℕ) × NumberAt text.now at k }
     ensures { (k : ℕ) → NumberAt text.now at k → result ≡ record { value = k; next = at + length (number_text k) } }
 {
-    let a = text[at];
-    let b = text[at + 1];
-    if b < b'0' {
+    let a = text[at] as u64;
+    let b = text[at + 1] as u64;
+    if b < 48 {
         return Numeral {
-            value: (a - b'0') as u64,
+            value: a - 48,
             next: at + 1,
         };
     }
     Numeral {
-        value: (10 * (a - b'0') + (b - b'0')) as u64,
+        value: 10 * (a - 48) + (b - 48),
         next: at + 2,
     }
 }

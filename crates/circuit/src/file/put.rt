@@ -55,6 +55,7 @@ fn put_controls(out: &mut [u8], positive: u64, negative: u64) -> usize
     requires { length (controls_text (controls_of (mask_gate positive negative))) ≤ length out.old }
     ensures { Put result out.new (controls_text (controls_of (mask_gate positive negative))) out.old }
 {
+    // One turn for each set bit: the lowest one is taken and cleared.
     let mut left = positive | negative;
     let mut at = 0;
     while left != 0 {

@@ -9,17 +9,16 @@ use Rattle.bits.proofs.Bools.{either, and_parts, table₁}
 use Rattle.bits.proofs.Lists.{lent_over}
 use Rattle.circuit.specs.declared.gate.Gate.{Gate}
 use Rattle.circuit.specs.Gate.{max_lines, valid, Control, Inside, controls_of}
-use Rattle.circuit.specs.Words.{gate_words, words_of, put_gate, all_valid}
+use Rattle.circuit.specs.Words.{gate_words, words_of, all_valid}
 use Rattle.circuit.specs.declared.file.scan.Numeral.{Numeral}
 use Rattle.circuit.specs.declared.file.fill.GateRead.{GateRead}
 use Rattle.circuit.specs.Text.{tab, line_feed, plus_sign, minus_sign, digit, number_text, control_text, controls_text, gate_line, gate_lines}
 use Rattle.circuit.specs.File.{mask_of, gate_of}
 use Rattle.circuit.specs.private.Fill.{StandsAt, NumberAt, ControlsAt, GateAt, GatesAt}
 use Rattle.circuit.proofs.lemmas.gate.Valid.{valid_facts}
-use Rattle.circuit.proofs.lemmas.words.Gates.{words_append, words_length, put_fits}
+use Rattle.circuit.proofs.lemmas.words.Gates.{words_append, words_length}
 use Rattle.circuit.proofs.lemmas.file.Numbers.{text_short, text_long}
 use Rattle.circuit.proofs.lemmas.file.Controls.{mask_push, gate_controls, controls_inside}
-use Rattle.circuit.proofs.lemmas.file.put.Laws.{rest_length}
 
 -- ---- bytes
 
