@@ -6,8 +6,7 @@ ghost use Rattle.bits.specs.Lists.{Put};
 ghost use Rattle.text.specs.Compare.{file_words};
 ghost use Rattle.text.specs.CheckInput.{max_checked, check_text};
 
-use std::rt::{Env, Files};
-use streams::Reading;
+use std::rt::Env;
 use text::TextAnswer;
 
 // One byte more than a file may have, and than a state may have.
@@ -51,19 +50,10 @@ fn with_files(rt: &(impl Env + Print + Eprint), first: &[u8], second: &[u8]) {
     respond(rt, first, second, &state[..size]);
 }
 
-// Goes on with the first file.
-fn with_first(rt: &(impl Env + Files + Print + Eprint), first: &[u8]) {
-    let mut second = [0u8; FILE];
-    match streams::read_argument(rt, 2, &mut second) {
-        Reading::Bytes(taken) => with_files(rt, first, &second[..taken]),
-        Reading::Failed(_) => {}
-    }
-}
-
 fn main(rt: HostRuntime) {
     let mut first = [0u8; FILE];
-    match streams::read_argument(&rt, 1, &mut first) {
-        Reading::Bytes(taken) => with_first(&rt, &first[..taken]),
-        Reading::Failed(_) => {}
+    let mut second = [0u8; FILE];
+    if let Ok((a, b)) = streams::read_two(&rt, &mut first, &mut second) {
+        with_files(&rt, &first[..a], &second[..b]);
     }
 }

@@ -6,8 +6,6 @@ ghost use Rattle.bits.specs.Lists.{Put};
 ghost use Rattle.text.specs.Compare.{max_list, max_compared, file_words, miter_words, compare_text};
 
 use checking::clauses::ClauseWord;
-use std::rt::{Env, Files};
-use streams::Reading;
 use text::TextAnswer;
 
 // One byte more than a file may have.
@@ -36,7 +34,7 @@ fn answer(
     }
 }
 
-// A room for clauses, and one for the text.
+// A room for clauses, and one for the text. Of their own, as the prover cannot look through arrays of these sizes in the function that uses them.
 fn clause_room() -> [ClauseWord; text::MAX_LIST] {
     [0; text::MAX_LIST]
 }
@@ -64,19 +62,10 @@ fn respond(rt: &(impl Print + Eprint), first: &[u8], second: &[u8]) {
     streams::write(rt, &out[..size], b"compare: standard output");
 }
 
-// Goes on with the first file.
-fn with_first(rt: &(impl Env + Files + Print + Eprint), first: &[u8]) {
-    let mut second = [0u8; FILE];
-    match streams::read_argument(rt, 2, &mut second) {
-        Reading::Bytes(taken) => respond(rt, first, &second[..taken]),
-        Reading::Failed(_) => {}
-    }
-}
-
 fn main(rt: HostRuntime) {
     let mut first = [0u8; FILE];
-    match streams::read_argument(&rt, 1, &mut first) {
-        Reading::Bytes(taken) => with_first(&rt, &first[..taken]),
-        Reading::Failed(_) => {}
+    let mut second = [0u8; FILE];
+    if let Ok((a, b)) = streams::read_two(&rt, &mut first, &mut second) {
+        respond(&rt, &first[..a], &second[..b]);
     }
 }

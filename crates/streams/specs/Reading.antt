@@ -1,9 +1,7 @@
 -- What was read stands inside the buffer.
-use Rattle.std.specs.Prelude.{List, ℕ}
+use Rattle.std.specs.Prelude.{List, ℕ, IfOk}
 use Rattle.std.specs.Counts.{IsPrefixLen}
-use Rattle.streams.specs.declared.Reading.{Reading}
-use Rattle.streams.specs.declared.Reading.TheVariants.{Bytes, Failed}
+use Rattle.std.specs.declared.result.Result.{Result}
 
-abbrev pub Inside : Reading → List ℕ → Type 0
-Inside (Bytes n) buffer = IsPrefixLen n buffer
-Inside (Failed _) buffer = Unit {0}
+abbrev pub Inside : {E : Type 0} → Result ℕ E → List ℕ → Type 0
+Inside r buffer = IfOk r (λ n. IsPrefixLen n buffer)

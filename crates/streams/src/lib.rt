@@ -1,19 +1,14 @@
 // Reading to the end of an input, where an error is told apart from the end; writing to standard output; telling that a program failed.
 #![tactic(auto)]
 
+ghost use Rattle.std.specs.Prelude.{IfOk};
+ghost use Rattle.std.specs.Counts.{IsPrefixLen};
 ghost use Rattle.streams.specs.Reading.{Inside};
 
 use std::env::FillError;
 use std::io::{Error, ErrorKind, Read, Write};
 use std::rt::{Env, Files};
 use std::{fmt, fs, io};
-
-// So many bytes at the buffer's start, or an error.
-#[derive(Clone, Copy)]
-pub enum Reading {
-    Bytes(usize),
-    Failed(Error),
-}
 
 // How often a read that a signal interrupted is made again.
 const MAX_AGAIN: usize = 1000;
@@ -29,32 +24,21 @@ const INVALID_ARGUMENT: i32 = 22;
 
 const NAME_TOO_LONG: i32 = 36;
 
-// Reads until the buffer is full or the input ends.
-pub fn read_all(input: &mut impl Read, buf: &mut [u8]) -> Reading
+// Reads until the buffer is full or the input ends, and tells how many bytes that were.
+pub fn read_all(input: &mut impl Read, buf: &mut [u8]) -> io::Result<usize>
     ensures { Inside result buf.new }
 {
     let mut done = 0;
     let mut again = MAX_AGAIN;
     while done < buf.len() {
         match input.read(&mut buf[done..]) {
-            Ok(more) => {
-                if more == 0 {
-                    return Reading::Bytes(done);
-                }
-                done += more;
-            }
-            Err(error) => {
-                if again == 0 {
-                    return Reading::Failed(error);
-                }
-                if error.kind() != ErrorKind::Interrupted {
-                    return Reading::Failed(error);
-                }
-                again -= 1;
-            }
+            Ok(0) => return Ok(done),
+            Ok(more) => done += more,
+            Err(error) if error.kind() == ErrorKind::Interrupted && 0 < again => again -= 1,
+            Err(error) => return Err(error),
         }
     }
-    Reading::Bytes(done)
+    Ok(done)
 }
 
 // Writes bytes to standard output. Where that failed, `what` and the error's text as a line on standard error.
@@ -70,22 +54,42 @@ pub fn fail(rt: &(impl Print + Eprint), what: &[u8], error: &Error) {
     let _ = rt.write_all(b"failed\n");
 }
 
+// What failed and why, as `fail` tells it; the error again.
+fn failed(rt: &(impl Print + Eprint), what: &[u8], error: Error) -> Error {
+    fail(rt, what, &error);
+    error
+}
+
+// Reads the files that arguments 1 and 2 name, each until its buffer is full or the file ends, and tells how many bytes those were. Tells where one failed, by the file's name, and reads no further.
+pub fn read_two(
+    rt: &(impl Env + Files + Print + Eprint),
+    first: &mut [u8],
+    second: &mut [u8],
+) -> io::Result<(usize, usize)>
+    ensures { IfOk result (λ sizes. IsPrefixLen sizes.0 first.new × IsPrefixLen sizes.1 second.new) }
+{
+    let a = read_argument(rt, 1, first)?;
+    let b = read_argument(rt, 2, second)?;
+    Ok((a, b))
+}
+
 // Reads the file that an argument names until the buffer is full or the file ends. Tells where that failed, by the file's name.
-pub fn read_argument(rt: &(impl Env + Files + Print + Eprint), i: usize, buf: &mut [u8]) -> Reading
+pub fn read_argument(
+    rt: &(impl Env + Files + Print + Eprint),
+    i: usize,
+    buf: &mut [u8],
+) -> io::Result<usize>
     ensures { Inside result buf.new }
 {
     let mut name = [0u8; MAX_NAME];
-    match rt.arg(i, &mut name) {
-        Ok(size) => read_named(rt, &name[..size], buf),
-        Err(why) => {
-            let error = error_of(why);
-            fail(rt, b"the name of a file", &error);
-            Reading::Failed(error)
-        }
-    }
+    let size = rt
+        .arg(i, &mut name)
+        .map_err(|why| failed(rt, b"the name of a file", error_of(why)))?;
+    let name = &name[..size];
+    read_file(rt, name, buf).map_err(|error| failed(rt, name, error))
 }
 
-// Why an argument could not be had, as the system tells it.
+// Why an argument could not be had, as the system tells it. No `From`, as both types are the library's.
 fn error_of(why: FillError) -> Error {
     match why {
         FillError::NotPresent => Error::from_raw_os_error(INVALID_ARGUMENT),
@@ -93,33 +97,20 @@ fn error_of(why: FillError) -> Error {
     }
 }
 
-// Reads the file of this name.
-fn read_named(rt: &(impl Files + Print + Eprint), name: &[u8], buf: &mut [u8]) -> Reading
-    ensures { Inside result buf.new }
-{
-    let reading = read_file(rt, name, buf);
-    if let Reading::Failed(error) = reading {
-        fail(rt, name, &error);
-    }
-    reading
-}
-
 // Reads the file of this name, and tells nothing.
-fn read_file(rt: &impl Files, name: &[u8], buf: &mut [u8]) -> Reading
+fn read_file(rt: &impl Files, name: &[u8], buf: &mut [u8]) -> io::Result<usize>
     ensures { Inside result buf.new }
 {
-    match open(rt, name) {
-        Ok(mut file) => read_all(&mut file, buf),
-        Err(error) => Reading::Failed(error),
-    }
+    read_all(&mut open(rt, name)?, buf)
 }
 
 // Opens the file of this name, which has to be UTF-8.
 fn open<R: Files>(rt: &R, name: &[u8]) -> io::Result<R::File> {
-    match str::from_utf8(name) {
-        Ok(name) => fs::open(rt, name),
-        Err(_) => Err(Error::new(ErrorKind::InvalidFilename, "not UTF-8")),
-    }
+    let name = str::from_utf8(name).map_err(|_| Error::new(
+        ErrorKind::InvalidFilename,
+        "not UTF-8",
+    ))?;
+    fs::open(rt, name)
 }
 
 // What failed and the error's text, as a line on standard error.
@@ -159,16 +150,10 @@ impl fmt::Display for Reason<'_> {
 
 // The text in the room up to the system's number or the first NUL.
 fn start_of(room: &[u8]) -> &str {
-    match str::from_utf8(room) {
-        Ok(text) => before(before(text, " (os error "), "\0"),
-        Err(_) => "",
-    }
+    str::from_utf8(room).map_or("", |text| before(before(text, " (os error "), "\0"))
 }
 
 // The text before the mark, or all of it.
 fn before<'a>(text: &'a str, mark: &str) -> &'a str {
-    match text.split_once(mark) {
-        Some((start, _)) => start,
-        None => text,
-    }
+    text.split_once(mark).map_or(text, |(start, _)| start)
 }

@@ -15,7 +15,7 @@ pub(crate) struct Record<'a> {
     pub literals: &'a [ClauseWord],
 }
 
-// The words of the clauses that are left.
+// The words of the clauses that are left. That they store a list stands in `can_next`, as a ghost field may hold no list of clauses.
 #[derive(Drop)]
 pub(crate) struct Records<'a> {
     pub words: &'a [ClauseWord],

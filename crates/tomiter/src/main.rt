@@ -5,7 +5,6 @@ ghost use Rattle.std.specs.Prelude.{◌≤◌, length};
 ghost use Rattle.bits.specs.Lists.{Put};
 ghost use Rattle.text.specs.Tomiter.{max_text, tomiter_text};
 
-use streams::Reading;
 use text::TextAnswer;
 
 // One byte more than an input may have.
@@ -32,7 +31,7 @@ fn respond(rt: &(impl Print + Eprint), input: &[u8]) {
 fn main(rt: HostRuntime) {
     let mut input = [0u8; INPUT];
     match streams::read_all(&mut rt.stdin(), &mut input) {
-        Reading::Bytes(taken) => respond(&rt, &input[..taken]),
-        Reading::Failed(error) => streams::fail(&rt, b"tomiter: standard input", &error),
+        Ok(taken) => respond(&rt, &input[..taken]),
+        Err(error) => streams::fail(&rt, b"tomiter: standard input", &error),
     }
 }
