@@ -7,7 +7,6 @@ ghost use Rattle.text.specs.Compare.{file_words};
 ghost use Rattle.text.specs.CheckInput.{max_checked, check_text};
 
 use std::rt::Env;
-use text::TextAnswer;
 
 // One byte more than a file may have, and than a state may have.
 const FILE: usize = text::MAX_FILE + 1;
@@ -28,10 +27,7 @@ fn answer(
     requires second_room { file_words ≤ length b.old }
     ensures { Put result out.new (check_text first.now second.now state.now) out.old }
 {
-    match text::check_input(first, second, state, out, a, b) {
-        TextAnswer::Bytes(size) => size,
-        TextAnswer::Refused(_) => 0,
-    }
+    text::check_input(first, second, state, out, a, b).unwrap()
 }
 
 // Writes what the program answers to two files and an input.

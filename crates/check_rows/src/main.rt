@@ -39,16 +39,16 @@ fn main(rt: HostRuntime) {
     print_check(&rt, 3, &a, 3, &b, &[], &mut out);
     // Steps refused with 2 and with 7; a step that takes out t1+2 t1+2; a step that answers none; a reduction refused with 7, and one that finds nothing.
     let calls = [
-        Call::Step { lines: 65 },
-        Call::Step { lines: 2 },
-        Call::Step { lines: 3 },
-        Call::Step { lines: 3 },
-        Call::Reduce { lines: 1 },
-        Call::Reduce { lines: 64 },
+        Call::StepOn(65),
+        Call::StepOn(2),
+        Call::StepOn(3),
+        Call::StepOn(3),
+        Call::ReduceOn(1),
+        Call::ReduceOn(64),
     ];
     print_check(&rt, 3, &a, 3, &b, &calls, &mut out);
     // A and A: the reduction leaves no gate.
-    print_check(&rt, 3, &a, 3, &a, &[Call::Reduce { lines: 3 }], &mut out);
+    print_check(&rt, 3, &a, 3, &a, &[Call::ReduceOn(3)], &mut out);
     // 8 and 7 of the miter; 10 of the miter and of the emission.
     print_check(&rt, 3, &a, 4, &b, &calls, &mut out);
     print_check(&rt, 3, &a, 3, &[4, 0, 3], &calls, &mut out);

@@ -6,7 +6,6 @@ ghost use Rattle.bits.specs.Lists.{Put};
 ghost use Rattle.text.specs.Compare.{max_list, max_compared, file_words, miter_words, compare_text};
 
 use checking::clauses::ClauseWord;
-use text::TextAnswer;
 
 // One byte more than a file may have.
 const FILE: usize = text::MAX_FILE + 1;
@@ -28,10 +27,7 @@ fn answer(
     requires clause_room { max_list ≤ length clauses.old }
     ensures { Put result out.new (compare_text first.now second.now) out.old }
 {
-    match text::compare(first, second, out, a, b, miter, clauses) {
-        TextAnswer::Bytes(size) => size,
-        TextAnswer::Refused(_) => 0,
-    }
+    text::compare(first, second, out, a, b, miter, clauses).unwrap()
 }
 
 // A room for clauses, and one for the text. Of their own, as the prover cannot look through arrays of these sizes in the function that uses them.

@@ -4,9 +4,11 @@ use mathlib.Core.Bool.{Bool, true, false, ◌&&◌, false≢true}
 use mathlib.Core.List.{List}
 use Prim.Native.Nat.{ℕ}
 use lib.ListN.{length}
+use Rattle.std.proofs.Common.{Result, Ok, Err}
 use Rattle.bits.specs.Lists.{Put}
 use Rattle.bits.proofs.Bools.{either}
-use Rattle.circuit.specs.Outcome.{Outcome, served, refused, demand, written}
+use Rattle.circuit.specs.declared.refusal.Refusal.{Refusal}
+use Rattle.circuit.specs.Outcome.{Outcome, served, refused, outcome_of, demand, written}
 use Rattle.circuit.specs.Refusal.{no_room}
 use Rattle.circuit.proofs.Promises.{never, unserved, demand_met, demand_failed, written_served, written_refused}
 use Rattle.text.specs.Answers.{WritesWhere}
@@ -61,3 +63,8 @@ pub served_put : (text out last : List ℕ) (o : Outcome ℕ) (size : ℕ) → o
 served_put text out last o size e f b =
     let g : served size ≡ served (length text) = sym f ∙ e in
     record { count = cc; buffer = b ∙ written_served text out o size f }
+
+-- a call that was served gave its value
+pub served_ok : {A : Type 0} (r : Result A Refusal) (a : A) → outcome_of r ≡ served a → r ≡ Ok a
+served_ok (Ok b) a e = ap Ok (unserved e)
+served_ok (Err why) a e = absurd (never e refl)

@@ -5,8 +5,6 @@ ghost use Rattle.std.specs.Prelude.{◌≤◌, length};
 ghost use Rattle.bits.specs.Lists.{Put};
 ghost use Rattle.text.specs.Tomiter.{max_text, tomiter_text};
 
-use text::TextAnswer;
-
 // One byte more than an input may have.
 const INPUT: usize = text::MAX_INPUT + 1;
 
@@ -15,10 +13,7 @@ fn answer(out: &mut [u8], input: &[u8]) -> usize
     requires { max_text ≤ length out.old }
     ensures { Put result out.new (tomiter_text input.now) out.old }
 {
-    match text::tomiter(input, out) {
-        TextAnswer::Bytes(size) => size,
-        TextAnswer::Refused(_) => 0,
-    }
+    text::tomiter(input, out).unwrap()
 }
 
 // Writes what the program answers to an input.
