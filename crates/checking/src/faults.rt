@@ -37,7 +37,7 @@ fn free_lines(g: Gate, n: u64) -> u64
     let negative = g.negative;
     let target = g.target;
     let used = positive | negative | circuit::gate::line(target);
-    lines_below(n) & (used ^ u64::MAX)
+    lines_below(n) & !used
 }
 
 // The lines that a state leaves in the mask of missing positive or negative controls.
@@ -51,7 +51,7 @@ fn kept_lines(g: Gate, state: u64, positive: bool) -> u64
     if !positive {
         return state;
     }
-    state ^ u64::MAX
+    !state
 }
 
 // The masks before any state: the free lines of each gate, in each of its masks.

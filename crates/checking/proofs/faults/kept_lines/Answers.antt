@@ -5,7 +5,7 @@ use Rattle.circuit.specs.Gate.{max_lines}
 use Rattle.circuit.proofs.Promises.{missed_none}
 use Rattle.checking.specs.Faults.{missing_control}
 use Rattle.checking.specs.private.Narrowing.{kept}
-use Rattle.checking.proofs.lemmas.faults.Masks.{kept_fired, kept_idle}
+use Rattle.checking.proofs.lemmas.faults.Masks.{flipped, kept_fired, kept_idle}
 use Rattle.checking.proofs.faults.kept_lines.Goals as goal
 use Rattle.checking.proofs.faults.kept_lines.Goals.{After-missed}
 
@@ -24,4 +24,4 @@ pub returns-then-not-positive : goal.returns-then-not-positive
 returns-then-not-positive c = left (goal.at.returns-then-not-positive c).After-missed c.if-missed-ne0.false _ (c.if-not-positive.true)
 
 pub returns : goal.returns
-returns c = left (goal.at.returns c).After-missed c.if-missed-ne0.false _ (c.if-not-positive.false)
+returns c = flipped max_lines c.args.state c.ranges.state.fits ∙ left (goal.at.returns c).After-missed c.if-missed-ne0.false _ (c.if-not-positive.false)

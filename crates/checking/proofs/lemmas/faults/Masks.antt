@@ -1,7 +1,7 @@
 -- The laws of masks: their digits, the free lines of a gate, and the masks after one state more. Assumes nothing.
-use Rattle.std.proofs.Common.{◌≡◌, ℕ, zero, suc, ◌+◌, ◌-◌, ◌^◌, ◌<◌, ◌≤◌, Bool, true, false, cond, not, ◌&&◌, ◌||◌, eqb, ltb, List, [], ◌∷◌, ◌++◌, map, sym, refl, ap, ◌∙◌, ap₂, append_assoc, append-nil, le_refl, arith, pow_pos, ltb-false, ltb-true, le-ltb, lt-ltb, eqb-true}
+use Rattle.std.proofs.Common.{◌≡◌, ℕ, zero, suc, ◌+◌, ◌-◌, ◌*◌, ◌/◌, ◌%◌, ◌^◌, ◌<◌, ◌≤◌, Bool, true, false, cond, not, ◌&&◌, ◌||◌, eqb, ltb, List, [], ◌∷◌, ◌++◌, map, sym, refl, ap, ◌∙◌, ap₂, append_assoc, append-nil, le_refl, arith, pow_pos, ltb-false, ltb-true, le-ltb, lt-ltb, eqb-true}
 use mathlib.Core.Bool.{xor, and-true, or-true, and-false, and_assoc}
-use lib.Bits.{bit_and, bit_or, bit_xor}
+use lib.Bits.{bit_and, bit_or, bit_xor, xor_step, xor_zero_r, differ}
 use borrow.Author.Tests.{eqb-false}
 use Rattle.bits.specs.Digits.{bit}
 use Rattle.bits.proofs.Bools.{either, or_first, cond-true, cond-false, none_xor, xor_all, table₁, table₃}
@@ -14,6 +14,22 @@ use Rattle.checking.specs.Faults.{is_free, Fault, missing_control, gate_faults, 
 use Rattle.checking.specs.private.Narrowing.{kept, narrowed_gate, narrowed, narrowed_by}
 
 -- ---- digits
+
+last_digit : (d : ℕ) → d < 2 → differ d 1 ≡ 1 - d
+last_digit zero h = refl
+last_digit (suc zero) h = refl
+last_digit (suc (suc d)) h = absurd (omega arith)
+
+-- the other lines of a mask, as the code's `!` has them
+pub flipped : (w x : ℕ) → x < 2 ^ w → 2 ^ w - 1 - x ≡ bit_xor x (2 ^ w - 1)
+flipped zero x h = omega (arith, xor_zero_r x)
+flipped (suc w) x h =
+    let half : (2 ^ suc w - 1) / 2 ≡ 2 ^ w - 1 = omega arith in
+    let odd : (2 ^ suc w - 1) % 2 ≡ 1 = omega arith in
+    let last : differ (x % 2) 1 ≡ 1 - x % 2 = last_digit (x % 2) (omega arith) in
+    let rest = flipped w (x / 2) (omega arith) in
+    let step : bit_xor x (2 ^ suc w - 1) ≡ bit_xor (x / 2) (2 ^ w - 1) * 2 + differ (x % 2) 1 = xor_step x (2 ^ suc w - 1) ∙ ap₂ (λ (y d : ℕ). bit_xor (x / 2) y * 2 + differ (x % 2) d) half odd in
+    omega arith
 
 pub mask_below : (n : ℕ) (test : ℕ → Bool) → mask_where n test < 2 ^ n
 unfolding mask_where
