@@ -54,11 +54,8 @@ pub(crate) fn put_clause(out: &mut [u8], kind: ClauseWord, literals: &[ClauseWor
     requires { length (record_text kind literals.now) ≤ length out.old }
     ensures { Put result out.new (record_text kind literals.now) out.old }
 {
-    if kind == 1 {
-        let at = bits::put(out, b"x");
-        return at + put_closed(&mut out[at..], literals);
-    }
-    put_closed(out, literals)
+    let at = if kind == 1 { bits::put(out, b"x") } else { 0 };
+    at + put_closed(&mut out[at..], literals)
 }
 
 // Writes the header.
