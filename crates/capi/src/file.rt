@@ -5,7 +5,6 @@ ghost use Rattle.circuit.specs.Outcome.{Yields};
 ghost use Rattle.circuit.specs.File.{read_outcome, read_buffer, write_outcome, write_buffer};
 ghost use Rattle.capi.specs.File.{read_answer, write_answer};
 
-
 #[repr(C)]
 #[derive(Clone, Copy, Debug, PartialEq, Eq)]
 pub struct CascadeReadAnswer {

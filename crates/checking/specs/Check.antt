@@ -1,5 +1,5 @@
 -- The whole way from two cascades to clauses: the miter, a list of calls on it, and the emission.
-use Rattle.std.specs.Prelude.{◌≡◌, ℕ, zero, suc, ◌+◌, ◌*◌, ◌≤◌, List, [], ◌∷◌, length, take, ℤ}
+use Rattle.std.specs.Prelude.{◌≡◌, ℕ, ◌+◌, ◌*◌, ◌≤◌, List, [], ◌∷◌, length, take, ℤ}
 use Rattle.bits.specs.Lists.{over}
 use Rattle.circuit.specs.Gate.{max_gates}
 use Rattle.circuit.specs.Outcome.{Outcome, served, refused, and_then}

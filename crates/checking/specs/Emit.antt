@@ -1,6 +1,6 @@
 -- Emission: the clause list of a cascade in the caller's buffer.
 use Rattle.std.specs.Prelude.{ℕ, List, length, ℤ, nat_le}
-use Rattle.circuit.specs.Outcome.{Outcome, served, refused, demand, and_then, written}
+use Rattle.circuit.specs.Outcome.{Outcome, served, demand, and_then, written}
 use Rattle.circuit.specs.Refusal.{no_room}
 use Rattle.circuit.specs.Words.{gates_of}
 use Rattle.checking.specs.declared.clauses.Totals.{Totals}

@@ -2,7 +2,7 @@
 use Rattle.std.specs.Prelude.{ℕ, zero, suc, ◌+◌, List, length}
 use Rattle.circuit.specs.declared.gate.Gate.{Gate}
 use Rattle.circuit.specs.Gate.{max_miter_gates}
-use Rattle.circuit.specs.Outcome.{Outcome, served, refused, and_then}
+use Rattle.circuit.specs.Outcome.{Outcome, served, and_then}
 use Rattle.circuit.specs.Words.{gates_of, check_outcome}
 use Rattle.checking.specs.declared.reduce.Reduction.{Reduction}
 use Rattle.checking.specs.Match.{Kind}

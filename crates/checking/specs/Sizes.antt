@@ -2,7 +2,7 @@
 use Rattle.std.specs.Prelude.{ℕ, zero, suc, ◌+◌, ◌*◌, Bool, cond, List, [], ◌∷◌}
 use Rattle.circuit.specs.declared.gate.Gate.{Gate}
 use Rattle.circuit.specs.Gate.{max_miter_gates, control_count}
-use Rattle.circuit.specs.Outcome.{Outcome, served, refused, and_then}
+use Rattle.circuit.specs.Outcome.{Outcome, served, and_then}
 use Rattle.circuit.specs.Words.{gates_of, check_outcome}
 use Rattle.checking.specs.declared.clauses.Totals.{Totals}
 use Rattle.checking.specs.Clauses.{targeted, up_from}

@@ -116,7 +116,13 @@ fn first_agreeing(a: &[u64], b: &[u64], states: &[u64]) -> Option<usize>
 
 // The number of gates of the suspect; else what is wrong with the pair, 9 or 12.
 #[tactic(auto, unfolding(crate::specs::Faults::fault_check))]
-fn check_faults(na: u64, suspect: &[u64], nb: u64, reference: &[u64], states: &[u64]) -> Result<usize, Refusal>
+fn check_faults(
+    na: u64,
+    suspect: &[u64],
+    nb: u64,
+    reference: &[u64],
+    states: &[u64],
+) -> Result<usize, Refusal>
     ensures { outcome_of result ≡ fault_check na suspect.now nb reference.now states.now }
 {
     let counts = circuit::words::check_pair(na, suspect, nb, reference)?;

@@ -3,7 +3,7 @@ use Rattle.std.specs.Prelude.{◌≡◌, ℕ, ◌^◌, ◌<◌, List, length, na
 use Rattle.bits.specs.Lists.{fold}
 use Rattle.circuit.specs.declared.gate.Gate.{Gate}
 use Rattle.circuit.specs.Gate.{max_gates, apply, toggled}
-use Rattle.circuit.specs.Outcome.{Outcome, served, refused, demand, and_then}
+use Rattle.circuit.specs.Outcome.{Outcome, served, demand, and_then}
 use Rattle.circuit.specs.Refusal.{bad_line_count, too_many_gates, bad_state}
 use Rattle.circuit.specs.Words.{gates_of, line_count_good, valid_from, check_outcome}
 

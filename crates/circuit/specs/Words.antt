@@ -4,7 +4,7 @@ use Rattle.bits.specs.Lists.{over}
 use Rattle.circuit.specs.declared.gate.Gate.{Gate}
 use Rattle.circuit.specs.declared.words.Counts.{Counts}
 use Rattle.circuit.specs.Gate.{max_lines, max_gates, not_gate, valid}
-use Rattle.circuit.specs.Outcome.{Outcome, served, refused, demand, and_then, Wrong, Fails}
+use Rattle.circuit.specs.Outcome.{Outcome, served, demand, and_then, Wrong, Fails}
 use Rattle.circuit.specs.Refusal.{bad_line_count, too_many_gates, no_gate, line_counts_differ, bad_word_count}
 
 -- the gates, first to last

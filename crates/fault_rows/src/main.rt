@@ -7,11 +7,7 @@ fn print_first_difference(rt: &impl Print, lines: u64, a: &[u64], b: &[u64]) {
         Ok(None) => {
             let _ = rt.write_all(b"none\n");
         }
-        Err(why) => rows::print_row(
-            rt,
-            b"refused ",
-            &[why.number(), why.place()],
-        ),
+        Err(why) => rows::print_row(rt, b"refused ", &[why.number(), why.place()]),
     }
 }
 

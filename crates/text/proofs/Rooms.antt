@@ -1,5 +1,5 @@
 -- The call that compares two files, by the rooms that are lent. Assumes nothing.
-use mathlib.Core.Path.{◌≡◌, refl, ap, ◌∙◌}
+use mathlib.Core.Path.{◌≡◌, ap, ◌∙◌}
 use mathlib.Core.Bool.{Bool, true, ◌&&◌}
 use mathlib.Core.List.{List}
 use Prim.Native.Nat.{ℕ, ◌≤◌}
@@ -8,7 +8,7 @@ use lib.Dec.{leb}
 use lib.ListN.{length}
 use borrow.Author.Tests.{le-leb, leb-true}
 use Rattle.bits.proofs.Bools.{and_parts, both}
-use Rattle.circuit.specs.Outcome.{Outcome, served, refused, demand, Yields}
+use Rattle.circuit.specs.Outcome.{Outcome, served, demand, Yields}
 use Rattle.circuit.specs.Refusal.{no_room}
 use Rattle.circuit.proofs.Promises.{demand_met}
 use Rattle.std.proofs.Common.{Result}

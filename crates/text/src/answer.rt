@@ -87,11 +87,13 @@ pub(crate) fn fit_answer(
     match answer {
         Ok(Compared::Reduction) => fit_text(out, b"equal\treduction\n"),
         Ok(Compared::Sweep) => fit_text(out, b"equal\tsweep\n"),
-        Ok(Compared::Differ {
-            state,
-            first,
-            second,
-        }) => fit_three(out, b"differ\t", state, first, second),
+        Ok(
+            Compared::Differ {
+                state,
+                first,
+                second,
+            },
+        ) => fit_three(out, b"differ\t", state, first, second),
         Ok(Compared::Clauses(totals)) => {
             let end = totals.words as usize;
             fit_clauses(out, totals.variables, &clauses[..end])

@@ -52,7 +52,12 @@ fn sweep(pair: PairRead) -> Compared
     ensures { SaysAny result (swept_as (gates_of pair.entry.first.words.now) (gates_of pair.entry.second.words.now) (lowest_from (gates_of pair.entry.first.words.now) (gates_of pair.entry.second.words.now) 0 (2 ^ pair.entry.first.lines))) }
 {
     let PairRead { first, second } = pair;
-    match checking::compare::first_difference(first.lines, first.words, second.lines, second.words) {
+    match checking::compare::first_difference(
+        first.lines,
+        first.words,
+        second.lines,
+        second.words,
+    ) {
         Ok(Some(state)) => Compared::Differ {
             state,
             first: circuit::run::run_tested(first.words, state),

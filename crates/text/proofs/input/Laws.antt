@@ -1,5 +1,5 @@
 -- A state in characters: reading it from its last one back, and writing it from its first one on. Assumes nothing.
-use mathlib.Core.Path.{◌≡◌, refl, sym, ap, ap₂, subst, ◌∙◌}
+use mathlib.Core.Path.{◌≡◌, refl, sym, ap, ap₂, ◌∙◌}
 use mathlib.Core.Bool.{Bool, true, false, not, cond, ◌&&◌}
 use mathlib.Core.List.{List, [], ◌∷◌, ◌++◌, append-nil, append_assoc}
 use mathlib.Core.Option.{Option, none, some}
@@ -17,7 +17,6 @@ use Rattle.bits.proofs.Bools.{both, and_second, cond-true, cond-false}
 use Rattle.bits.proofs.Lists.{over_prefix}
 use Rattle.circuit.specs.Outcome.{Outcome, Yields}
 use Rattle.circuit.proofs.Promises.{demand_met}
-use Rattle.circuit.specs.Words.{gates_of}
 use Rattle.circuit.specs.Text.{tab, line_feed, digit}
 use Rattle.text.specs.Dimacs.{then_read}
 use Rattle.std.proofs.Common.{Result}
@@ -27,7 +26,7 @@ use Rattle.text.specs.Answers.{fit_outcome, fit_buffer}
 use Rattle.text.specs.FileOutcome.{answer_of}
 use Rattle.text.specs.Compare.{file_words, differ_word}
 use Rattle.text.specs.private.Checking.{SaysChecked}
-use Rattle.text.specs.CheckInput.{state_text, state_read, agree_word, outputs_text, checked_on, checked_files, checked, checked_text, check_text, input_outcome, input_buffer}
+use Rattle.text.specs.CheckInput.{state_text, state_read, agree_word, outputs_text, checked, checked_text, check_text, input_outcome, input_buffer}
 use Rattle.text.proofs.answer.Laws.{fit_told}
 
 -- ---- reading

@@ -1,16 +1,16 @@
 -- What a file and two files say, case by case. Assumes nothing.
-use mathlib.Core.Path.{◌≡◌, sym, ap₂, subst, ◌∙◌}
+use mathlib.Core.Path.{◌≡◌, ◌∙◌}
 use mathlib.Core.List.{List}
-use Prim.Native.Nat.{ℕ, ◌*◌, ◌≤◌, ◌<◌}
+use Prim.Native.Nat.{ℕ, ◌≤◌, ◌<◌}
 use lib.Dec.{eqb, leb}
 use lib.ListN.{length}
 use borrow.Author.Tests.{eq-eqb, ne_eqb, le-leb, lt-leb}
 use Rattle.circuit.specs.declared.gate.Gate.{Gate}
-use Rattle.circuit.specs.Outcome.{Outcome, served, refused}
+use Rattle.circuit.specs.Outcome.{served, refused}
 use Rattle.circuit.specs.Refusal.{line_counts_differ, no_room}
 use Rattle.circuit.specs.File.{Reading}
 use Rattle.text.specs.WholeFile.{whole_file}
-use Rattle.text.specs.FileOutcome.{FileOutcome, answered, refused_at}
+use Rattle.text.specs.FileOutcome.{answered, refused_at}
 use Rattle.text.specs.Compare.{max_file, cascades, second_file, files_of}
 use Rattle.text.proofs.FileOutcome.{both_met, both_failed, file_served, file_refused}
 

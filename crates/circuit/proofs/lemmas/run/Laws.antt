@@ -11,10 +11,10 @@ use Rattle.circuit.specs.Refusal.{no_gate, bad_state, bad_line_count}
 use Rattle.circuit.specs.Words.{gate_at, gate_in, gates_of, all_valid, line_count_good, valid_from, size_outcome, check_outcome, Cascade}
 use Rattle.circuit.specs.Run.{run, run_tested, Equal, Differs, run_outcome}
 use Rattle.circuit.specs.Laws.{RunRefused}
-use Rattle.circuit.proofs.lemmas.Outcome.{demand_met, demand_failed, then_served, then_refused, then_both, then_fails, demanded, at_least}
+use Rattle.circuit.proofs.lemmas.Outcome.{demand_met, demand_failed, then_served, then_refused, then_both, demanded, at_least}
 use Rattle.circuit.proofs.lemmas.gate.Effect.{apply_below, toggled_apply}
 use Rattle.circuit.proofs.lemmas.words.Gates.{gates_next, gates_end}
-use Rattle.circuit.proofs.lemmas.words.Tests.{from_good, from_bad, words_wrong, check_lines, check_gates, gates_refused, gates_sized, check_served, served_check}
+use Rattle.circuit.proofs.lemmas.words.Tests.{from_good, from_bad, words_wrong, check_lines, check_gates, gates_refused, check_served, served_check}
 
 -- a turn over the words: gate i acts, by the rule f, and the others after it
 module _ (f : Gate → ℕ → ℕ) where

@@ -1,17 +1,16 @@
 -- The laws of a run over gate records: gate by gate it has the outcome of the rules, which is that of a run on the gates' words. Assumes nothing.
-use Rattle.std.proofs.Common.{◌≡◌, ℕ, ◌+◌, ◌/◌, ◌%◌, ◌^◌, ◌<◌, ◌≤◌, true, false, ltb, leb, List, [], ◌∷◌, length, get_or, drop, sym, refl, ap, ◌∙◌, subst, add-one, arith, drop_of_length-le, drop-cons, ltb-false, ltb-true, leb-false, leb-true}
-use Rattle.bits.specs.Lists.{fold}
-use Rattle.bits.proofs.Bools.{either, refuted}
+use Rattle.std.proofs.Common.{◌≡◌, ℕ, ◌/◌, ◌%◌, ◌^◌, ◌<◌, ◌≤◌, ltb, leb, List, length, sym, ap, ◌∙◌, subst, arith, leb-false, leb-true}
+use Rattle.bits.proofs.Bools.{either}
 use Rattle.circuit.specs.declared.gate.Gate.{Gate}
-use Rattle.circuit.specs.Gate.{max_lines, max_gates, valid, apply, not_gate}
+use Rattle.circuit.specs.Gate.{max_gates}
 use Rattle.circuit.specs.Outcome.{Outcome, served, refused, demand, and_then}
-use Rattle.circuit.specs.Refusal.{bad_state, bad_line_count, too_many_gates}
+use Rattle.circuit.specs.Refusal.{bad_state, too_many_gates}
 use Rattle.circuit.specs.Words.{gates_of, words_of, line_count_good, valid_from, Cascade}
 use Rattle.circuit.specs.Run.{run, run_outcome, records_outcome}
 use Rattle.circuit.specs.Laws.{RunRefused}
-use Rattle.circuit.proofs.lemmas.Outcome.{demand_met, demand_failed, then_refused}
+use Rattle.circuit.proofs.lemmas.Outcome.{demand_met, demand_failed}
 use Rattle.circuit.proofs.lemmas.words.Gates.{words_length, gates_words}
-use Rattle.circuit.proofs.lemmas.words.Tests.{from_good, from_bad, lines_good, size_good, size_many, gates_sized, check_gates, cascade_count}
+use Rattle.circuit.proofs.lemmas.words.Tests.{size_good, size_many, gates_sized, check_gates, cascade_count}
 use Rattle.circuit.proofs.lemmas.run.Laws.{run_lines, run_size, run_served, served_run, run_refused}
 
 -- ---- the gates' words

@@ -1,5 +1,5 @@
 -- `text::comparison::sweep` meets its contract. Assumes nothing.
-use Rattle.std.proofs.Common.{ℕ, refl, sym, ap₂, ◌∙◌}
+use Rattle.std.proofs.Common.{ℕ, refl, ap₂, ◌∙◌}
 use Rattle.circuit.specs.Gate.{max_lines}
 use Rattle.circuit.proofs.Promises.{valid_all_more, tested_run}
 use Rattle.checking.specs.Compare.{none, lowest}

@@ -1,5 +1,5 @@
 -- `text::input::check_pair` meets its contract. Assumes nothing.
-use Rattle.std.proofs.Common.{ℕ, sym, ap, ap₂, ◌∙◌}
+use Rattle.std.proofs.Common.{ℕ, ap, ap₂, ◌∙◌}
 use Rattle.circuit.specs.Gate.{max_lines}
 use Rattle.circuit.specs.Words.{gates_of}
 use Rattle.circuit.proofs.Promises.{valid_all_more, tested_run}

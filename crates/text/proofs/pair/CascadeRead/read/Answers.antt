@@ -1,5 +1,5 @@
 -- `text::pair::CascadeRead::read` meets its contract. Assumes nothing.
-use Rattle.std.proofs.Common.{◌≡◌, ℕ, ◌+◌, ◌/◌, length, sym, ap, ◌∙◌, arith}
+use Rattle.std.proofs.Common.{ℕ, ◌+◌, sym, ap, ◌∙◌}
 use Rattle.std.proofs.lemmas.Result.{err_from_is_err_and}
 use Rattle.circuit.specs.Outcome.{refused, served}
 use Rattle.circuit.specs.Refusal.{wrong_form}

@@ -1,9 +1,8 @@
 -- `text::pair::StartRead::read` meets its contract. Assumes nothing.
-use Rattle.std.proofs.Common.{ℕ, length, List, sym, refl, ap, ◌∙◌, arith, length-take-le}
+use Rattle.std.proofs.Common.{length, List, sym, refl, ap, ◌∙◌, arith, length-take-le}
 use Rattle.std.proofs.lemmas.Result.{err_from_is_err_and}
 use Rattle.circuit.specs.declared.gate.Gate.{Gate}
-use Rattle.circuit.specs.File.{Reading}
-use Rattle.circuit.specs.Outcome.{Outcome, served}
+use Rattle.circuit.specs.Outcome.{served}
 use Rattle.text.proofs.list.Laws.{FileRead, file_bad, file_read, own_count}
 use Rattle.text.proofs.pair.StartRead.read.Goals as goal
 use Rattle.text.proofs.pair.StartRead.read.Goals.{In_ok-counts}
