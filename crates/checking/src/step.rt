@@ -135,7 +135,7 @@ fn close_gap(words: &mut [u64], to: usize, gap: usize)
     words[end..].fill(0);
 }
 
-// Gates i and j go.
+// Gates i and j go. That the words are whole gates stands in the contracts: a struct around lent words would be taken apart before each slice of them.
 fn remove_pair(words: &mut [u64], i: usize, j: usize)
     requires rising { i < j }
     requires second_inside { j < length words.old / 3 }

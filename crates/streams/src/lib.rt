@@ -30,6 +30,7 @@ pub fn read_all(input: &mut impl Read, buf: &mut [u8]) -> io::Result<usize>
 {
     let mut done = 0;
     let mut again = MAX_AGAIN;
+    // Each read says how far it came, so no range counts the turns.
     while done < buf.len() {
         match input.read(&mut buf[done..]) {
             Ok(0) => return Ok(done),

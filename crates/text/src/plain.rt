@@ -58,7 +58,7 @@ fn closed_size(literals: &[ClauseWord]) -> usize
     size
 }
 
-// The bytes of a clause's plain clauses.
+// The bytes of a clause's plain clauses. That it has some stands in the contracts and not in the record, since stored.rt writes the records of any clause.
 fn record_size(kind: ClauseWord, literals: &[ClauseWord]) -> usize
     requires { Plainable kind literals.now }
     ensures { result ≡ length (clauses_text (plain_record kind literals.now)) }
@@ -138,7 +138,7 @@ fn put_record(out: &mut [u8], kind: ClauseWord, literals: &[ClauseWord]) -> usiz
     crate::dimacs::put_closed(out, literals)
 }
 
-// Writes the header and the clauses that words store, as OR clauses alone.
+// Writes the header and the clauses that words store, as OR clauses alone. A function over this and the one of stored.rt would take what writes a record and, in its contract, the text of one, for a loop of one line.
 pub(crate) fn put_list(out: &mut [u8], variables: u64, clauses: u64, words: &[ClauseWord]) -> usize
     requires stores_list { StoresList words.now }
     requires out_room { length (header_text variables clauses ++ clauses_text (plain_clauses (stored_in words.now))) ≤ length out.old }

@@ -15,7 +15,7 @@ const DIGITS: [u8; 200] = *b"0001020304050607080910111213141516171819\
 6061626364656667686970717273747576777879\
 8081828384858687888990919293949596979899";
 
-// The two digits of a number below 100, by the table.
+// The two digits of a number below 100, by the table. The bound stands in the contracts: a type for it would be built from a line or a number of lines before each call, and taken apart in it.
 fn two_digits(k: u64) -> (u8, u8)
     requires { k < 100 }
     ensures { (result.0 ≡ digit (k / 10)) × (result.1 ≡ digit (k % 10)) }
