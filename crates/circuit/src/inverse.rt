@@ -11,13 +11,16 @@ use crate::refusal::Refusal;
 pub fn put_inverse(words: &[u64], out: &mut [u64])
     ensures { out.new ≡ put_inverse words.now out.old }
 {
-    let gates = words.len() / Gate::WORDS;
-    if out.len() / Gate::WORDS < gates {
+    let mut j = words.len() / Gate::WORDS;
+    if out.len() / Gate::WORDS < j {
         return;
     }
-    for i in 0..gates {
-        let at = Gate::WORDS * i;
-        crate::words::store_gate(&mut out[at..], crate::words::gate_at(words, gates - 1 - i));
+    let mut at = 0;
+    // A while: with `for` the inverse of 1,024 gates took 1.37 to 1.44 times as long as plain Rust, so 1.06 to 1.19, and at most 1.2 is asked.
+    while 0 < j {
+        j -= 1;
+        crate::words::store_gate(&mut out[at..], crate::words::gate_at(words, j));
+        at += Gate::WORDS;
     }
 }
 

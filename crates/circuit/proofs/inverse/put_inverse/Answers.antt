@@ -1,25 +1,29 @@
 -- `circuit::inverse::put_inverse` meets its contract.
-use Rattle.std.proofs.Common.{◌≡◌, ℕ, ◌+◌, ◌-◌, ◌*◌, ◌/◌, List, length, sym, ap, ◌∙◌, arith}
-use Rattle.std.proofs.Math.Nat.{sub-zero}
+use Rattle.std.proofs.Common.{◌≡◌, ℕ, ◌-◌, List, length, sym, refl, ap, ◌∙◌, arith}
+use borrow.Rule.Slice.PartMut.{same_len_mid}
 use Rattle.bits.specs.Lists.{over}
-use Rattle.circuit.proofs.lemmas.inverse.Laws.{tail_back, back_none, back_turn, put_fits, put_short}
+use Rattle.circuit.proofs.lemmas.inverse.Laws.{back_none, back_turn, put_fits, put_short}
 use Rattle.circuit.proofs.inverse.put_inverse.Goals as goal
 
-pub loop-i-init : goal.loop-i-init
-loop-i-init c = sym (rw sub-zero (ap (λ (l : List ℕ). over l c.args.out.now) (back_none c.args.words.now)))
+pub loop-j-init : goal.loop-j-init
+loop-j-init c =
+    (omega arith, refl, sym (ap (λ (l : List ℕ). over l c.args.out.now) (back_none c.args.words.now)))
 
-pub loop-i-preserved : goal.loop-i-preserved
-loop-i-preserved c =
-    let gates : ℕ = length c.args.words.now / 3 in
-    let e : gates - c.loop-i.i - 1 ≡ gates - (c.loop-i.i + 1) = omega arith in
-    let f : gates - 1 - c.loop-i.i ≡ gates - c.loop-i.i - 1 = omega arith in
-    back_turn c.args.words.now c.args.out.now c.loop-i.out _ (gates - c.loop-i.i) (3 * c.loop-i.i) _ (omega arith) (omega arith) (omega (arith, c.loop-i.auto.out)) c.loop-i.invariant (rw f at c.gate_at.ensures) c.store_gate.ensures
-    ∙ ap (λ (k : ℕ). over (tail_back c.args.words.now k) c.args.out.now) e
+pub loop-j-preserved : goal.loop-j-preserved
+loop-j-preserved c = (
+  omega arith,
+  same_len_mid c.loop-j.at (length c.loop-j.out - c.loop-j.at) c.loop-j.out c.store_gate.new.out c.store_gate.auto.out ∙ c.loop-j.invariant.1,
+  back_turn c.args.words.now c.args.out.now c.loop-j.out _ c.loop-j.j c.loop-j.at _ (omega arith) (omega arith) (omega arith) c.loop-j.invariant.2 c.gate_at.ensures c.store_gate.ensures,
+)
 
-pub returns-then-out-gates : goal.returns-then-out-gates
-returns-then-out-gates c = sym (put_short c.args.words.now c.args.out.now c.if-out-gates.true)
+pub returns-then-out-j : goal.returns-then-out-j
+returns-then-out-j c =
+    sym (put_short c.args.words.now c.args.out.now c.if-out-j.true)
+
+pub shape_of-out : goal.shape_of-out
+shape_of-out c = c.loop-j.invariant.1
 
 pub returns : goal.returns
 returns c =
-    let z : length c.args.words.now / 3 - c.loop-i.i ≡ 0 = omega arith in
-    rw z at c.loop-i.invariant ∙ sym (put_fits _ _ c.if-out-gates.false)
+    let z : c.loop-j.j ≡ 0 = omega arith in
+    rw z at c.loop-j.invariant.2 ∙ sym (put_fits _ _ (omega arith))
