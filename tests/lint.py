@@ -14,6 +14,8 @@ OTHER = "crates/text/proofs/WholeFile.antt"
 MITER = "crates/checking/proofs/lemmas/miter/Laws.antt"
 GATE = "crates/circuit/src/gate.rt"
 STEP = "crates/checking/src/step.rt"
+BITS = "crates/bits/src/lib.rt"
+COUNT = "crates/capi/src/count.rt"
 FILES = "crates/text/src/lib.rt"
 MATCH = "crates/checking/specs/Match.antt"
 READING = "docs/READING.md"
@@ -66,6 +68,27 @@ CASES = {
     ),
     "an open function with two of them, named": (
         {GATE: "\npub fn lowest_line(mask: u64) -> u64\n    requires some { 0 < mask }\n    requires few { mask < 8 }\n    ensures { result ≡ mask }\n{\n    mask\n}\n"},
+        GATE,
+        "the open function lowest_line has a requires",
+    ),
+    "an open function of the crate below all with a requires": (
+        {BITS: "\npub fn first(items: &[u64]) -> u64\n    requires { 0 < length items.now }\n    ensures { result ≡ result }\n{\n    items[0]\n}\n"},
+        BITS,
+        "the open function first has a requires",
+    ),
+    "a copy in a user's crate": (
+        {COUNT: "\nfn sample(out: &mut [u64], words: &[u64]) -> usize {\n    bits::put(out, words)\n}\n"},
+        COUNT,
+        "it uses or passes on bits, whose functions are for the crates above alone",
+    ),
+    "a copy in a user's crate by another name": (
+        {COUNT: "\nuse bits as low;\n"},
+        COUNT,
+        "it uses or passes on bits, whose functions are for the crates above alone",
+    ),
+    "a copy passed on": ({GATE: "\npub use bits::{put};\n"}, GATE, "it uses or passes on bits, whose functions are for the crates above alone"),
+    "an open function behind a text of two lines": (
+        {GATE: '\nconst WORDS: [u8; 4] = *b"ab\\\n    cd";\n\npub fn lowest_line(mask: u64) -> u64\n    requires { 0 < mask }\n    ensures { result ≡ mask }\n{\n    mask\n}\n\nconst MORE: [u8; 1] = *b"e";\n'},
         GATE,
         "the open function lowest_line has a requires",
     ),

@@ -1,4 +1,4 @@
-// The C interface: each call of include/cascade.h, over the call of the same name.
+// The C interface: each call of include/cascade.h, over the call of the same name. Its answers are structs of numbers, one for each call's own, since C has no sum types and their names are C's.
 #![tactic(auto)]
 
 pub mod compare;

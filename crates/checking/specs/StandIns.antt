@@ -49,7 +49,7 @@ merges_only gs = record { left = (reduce_gates gs).left; pairs = 0; merges = 2 *
 pub record StandInLaws : Type 0 where
   -- ours has it, and any that has it is ours
   pub ours : StepOf step_gates
-  pub StepOnly : (f : List Gate → Step (List Gate)) → StepOf f → (gs : List Gate) → all_valid max_lines gs ≡ true → f gs ≡ step_gates gs
+  pub step_only : (f : List Gate → Step (List Gate)) → StepOf f → (gs : List Gate) → all_valid max_lines gs ≡ true → f gs ≡ step_gates gs
   pub none_refuted : StepOf always_none → ⊥
   pub copy_refuted : StepOf copying → ⊥
   pub ours_reduces : ReductionOf reduce_gates

@@ -3,4 +3,3 @@ pub mod Emitter
 pub mod Emission
 pub mod StepCode
 pub mod Narrowing
-pub mod Tested

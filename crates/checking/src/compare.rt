@@ -4,25 +4,21 @@ ghost use Rattle.std.specs.Prelude.{◌≡◌};
 ghost use Rattle.circuit.specs.Outcome.{outcome_of, map_served};
 ghost use Rattle.circuit.specs.Words.{gates_of, pair_outcome};
 ghost use Rattle.checking.specs.Compare.{lowest_from, outputs_differ, Sweeps, Picks, differs_outcome, pick_outcome, of_difference, of_refusal};
-ghost use Rattle.checking.specs.private.Tested.{Tested};
 
+use crate::tested::Tested;
 use circuit::gate::Gate;
 use circuit::refusal::Refusal;
 
 // Whether two cascades, which were tested, give different outputs on a state.
-pub(crate) fn outputs_differ(a: &[u64], b: &[u64], state: u64) -> bool
-    requires first_valid { Tested a.now }
-    requires second_valid { Tested b.now }
-    ensures { result ≡ outputs_differ (gates_of a.now) (gates_of b.now) state }
+pub(crate) fn outputs_differ(a: Tested, b: Tested, state: u64) -> bool
+    ensures { result ≡ outputs_differ (gates_of a.entry.words.now) (gates_of b.entry.words.now) state }
 {
-    circuit::run::run_tested(a, state) != circuit::run::run_tested(b, state)
+    circuit::run::run_tested(a.words, state) != circuit::run::run_tested(b.words, state)
 }
 
 // The lowest of the states below `count` on which two cascades differ.
-fn lowest_difference(a: &[u64], b: &[u64], count: u64) -> Option<u64>
-    requires first_valid { Tested a.now }
-    requires second_valid { Tested b.now }
-    ensures { of_difference result ≡ lowest_from (gates_of a.now) (gates_of b.now) 0 count }
+fn lowest_difference(a: Tested, b: Tested, count: u64) -> Option<u64>
+    ensures { of_difference result ≡ lowest_from (gates_of a.entry.words.now) (gates_of b.entry.words.now) 0 count }
 {
     (0..count).find(|x| outputs_differ(a, b, *x))
 }
@@ -36,7 +32,7 @@ pub fn first_difference(na: u64, a: &[u64], nb: u64, b: &[u64]) -> Result<Option
     if Gate::MAX_SWEEP_LINES < na {
         return Err(Refusal::TooWide);
     }
-    Ok(lowest_difference(a, b, 1 << na))
+    Ok(lowest_difference(Tested { words: a }, Tested { words: b }, 1 << na))
 }
 
 // Whether two cascades differ on a state (01: input check); else what is wrong with the pair, or 9.
@@ -48,7 +44,7 @@ pub fn differs(na: u64, a: &[u64], nb: u64, b: &[u64], state: u64) -> Result<boo
     if !circuit::gate::below(state, na) {
         return Err(Refusal::BadState(0));
     }
-    Ok(outputs_differ(a, b, state))
+    Ok(outputs_differ(Tested { words: a }, Tested { words: b }, state))
 }
 
 // Why `fewer_gates` is refused: what is wrong with the pair; or nothing.

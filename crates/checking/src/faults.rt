@@ -8,8 +8,8 @@ ghost use Rattle.circuit.specs.Words.{gates_of, all_valid};
 ghost use Rattle.checking.specs.Compare.{outputs_differ};
 ghost use Rattle.checking.specs.Faults.{is_free, missing_control, gate_masks, mask_where, masks_from, fault_check, fault_outcome, fault_buffer};
 ghost use Rattle.checking.specs.private.Narrowing.{kept, narrowed, narrowed_by};
-ghost use Rattle.checking.specs.private.Tested.{Tested};
 
+use crate::tested::Tested;
 use circuit::gate::Gate;
 use circuit::refusal::Refusal;
 
@@ -70,11 +70,11 @@ fn start_masks(n: u64, words: &[u64], out: &mut [u64])
 }
 
 // The masks after one state more.
-fn narrow(words: &[u64], state: u64, out: &mut [u64])
-    requires valid_gates { Tested words.now }
-    requires mask_room { gate_masks * (length words.now / 3) ≤ length out.old }
-    ensures { out.new ≡ narrowed (gates_of words.now) state out.old }
+fn narrow(gates: Tested, state: u64, out: &mut [u64])
+    requires { gate_masks * (length gates.words.now / 3) ≤ length out.old }
+    ensures { out.new ≡ narrowed (gates_of gates.entry.words.now) state out.old }
 {
+    let words = gates.words;
     let mut s = state;
     for i in 0..words.len() / Gate::WORDS {
         let g = circuit::words::gate_at(words, i);
@@ -86,13 +86,12 @@ fn narrow(words: &[u64], state: u64, out: &mut [u64])
 }
 
 // The masks after all states.
-fn narrow_all(words: &[u64], states: &[u64], out: &mut [u64])
-    requires valid_gates { Tested words.now }
-    requires mask_room { gate_masks * (length words.now / 3) ≤ length out.old }
-    ensures { out.new ≡ narrowed_by (gates_of words.now) states.now out.old }
+fn narrow_all(gates: Tested, states: &[u64], out: &mut [u64])
+    requires { gate_masks * (length gates.words.now / 3) ≤ length out.old }
+    ensures { out.new ≡ narrowed_by (gates_of gates.entry.words.now) states.now out.old }
 {
     for state in states {
-        narrow(words, *state, out);
+        narrow(gates, *state, out);
     }
 }
 
@@ -104,10 +103,8 @@ fn first_outside(n: u64, states: &[u64]) -> Option<usize>
 }
 
 // The first state on which the cascades agree.
-fn first_agreeing(a: &[u64], b: &[u64], states: &[u64]) -> Option<usize>
-    requires first_valid { Tested a.now }
-    requires second_valid { Tested b.now }
-    ensures { result ≡ position (λ x. not (outputs_differ (gates_of a.now) (gates_of b.now) x)) states.now }
+fn first_agreeing(a: Tested, b: Tested, states: &[u64]) -> Option<usize>
+    ensures { result ≡ position (λ x. not (outputs_differ (gates_of a.entry.words.now) (gates_of b.entry.words.now) x)) states.now }
 {
     states
         .iter()
@@ -129,7 +126,8 @@ fn check_faults(
     if let Some(i) = first_outside(na, states) {
         return Err(Refusal::BadState(i as u64));
     }
-    if let Some(i) = first_agreeing(suspect, reference, states) {
+    let (a, b) = (Tested { words: suspect }, Tested { words: reference });
+    if let Some(i) = first_agreeing(a, b, states) {
         return Err(Refusal::AgreeingState(i as u64));
     }
     Ok(counts.first)
@@ -152,6 +150,6 @@ pub fn fault_masks(
         return Err(Refusal::NoRoom);
     }
     start_masks(na, suspect, out);
-    narrow_all(suspect, states, out);
+    narrow_all(Tested { words: suspect }, states, out);
     Ok(gates)
 }

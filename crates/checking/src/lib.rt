@@ -12,6 +12,7 @@ pub mod faults;
 pub mod miter;
 pub mod reduce;
 pub mod step;
+mod tested;
 
 // Has no effect: its contract is the record of this crate's laws.
 pub fn laws()

@@ -1,13 +1,14 @@
 // The full reduction: steps until none.
 
-ghost use Rattle.std.specs.Prelude.{◌≡◌, ◌%◌, length};
+ghost use Rattle.std.specs.Prelude.{◌≡◌, ◌%◌, true, length};
 ghost use Rattle.circuit.specs.Outcome.{outcome_of, map_served, Yields};
-ghost use Rattle.circuit.specs.Words.{gates_of};
+ghost use Rattle.circuit.specs.Words.{gates_of, all_valid};
 ghost use Rattle.checking.specs.Step.{filled};
 ghost use Rattle.checking.specs.Reduce.{reduce_gates, numbered, reduce_outcome, reduce_buffer, of_reduction};
-ghost use Rattle.checking.specs.private.Tested.{Tested};
+ghost use Rattle.circuit.specs.Gate.{max_lines};
 
 use crate::step::Kind;
+use crate::tested::Tested;
 use circuit::gate::Gate;
 use circuit::refusal::Refusal;
 
@@ -22,13 +23,15 @@ pub struct Reduction {
 // Makes steps on the words of gates until there is none.
 fn reduce_gates(words: &mut [u64]) -> Reduction
     requires whole_gates { length words.old % 3 ≡ 0 }
-    requires valid_gates { Tested words.old }
+    requires valid_gates { all_valid max_lines (gates_of words.old) ≡ true }
     ensures { Yields (of_reduction result) words.new (numbered (reduce_gates (gates_of words.old))) (filled (reduce_gates (gates_of words.old)).left (length words.old)) }
 {
     let mut gates = words.len() / Gate::WORDS;
     let mut pairs = 0;
     let mut merges = 0;
-    while let Some(found) = crate::step::search_gates(&words[..Gate::WORDS * gates]) {
+    while let Some(found) = crate::step::search_gates(Tested {
+        words: &words[..Gate::WORDS * gates],
+    }) {
         let s = crate::step::make_step(&mut words[..Gate::WORDS * gates], found);
         gates = s.gates;
         match s.kind {

@@ -7,8 +7,8 @@ ghost use Rattle.circuit.specs.Words.{gates_of, gate_at};
 ghost use Rattle.checking.specs.Match.{may_pass, match_of, of_matched};
 ghost use Rattle.checking.specs.Step.{scan_from, search_from, replaced, filled, step_gates, with_count, step_words, step_outcome, step_buffer, of_stepped, of_step};
 ghost use Rattle.checking.specs.private.StepCode.{of_search, from_gate, FoundAt};
-ghost use Rattle.checking.specs.private.Tested.{Tested};
 
+use crate::tested::Tested;
 use circuit::gate::Gate;
 use circuit::refusal::Refusal;
 
@@ -95,11 +95,11 @@ pub fn match_gates(g: Gate, h: Gate) -> Option<Match>
 }
 
 // The first gate after gate i that it matches, where it may pass those between.
-fn scan_after(words: &[u64], i: usize) -> Option<Found>
-    requires gate_inside { i < length words.now / 3 }
-    requires valid_gates { Tested words.now }
-    ensures { of_search result ≡ from_gate i (scan_from (i + 1) (gate_at words.now i) (gates_of (drop (3 * (i + 1)) words.now))) }
+fn scan_after(gates: Tested, i: usize) -> Option<Found>
+    requires { i < length gates.words.now / 3 }
+    ensures { of_search result ≡ from_gate i (scan_from (i + 1) (gate_at gates.entry.words.now i) (gates_of (drop (3 * (i + 1)) gates.entry.words.now))) }
 {
+    let words = gates.words;
     let g = circuit::words::gate_at(words, i);
     for j in i + 1..words.len() / Gate::WORDS {
         let h = circuit::words::gate_at(words, j);
@@ -114,12 +114,11 @@ fn scan_after(words: &[u64], i: usize) -> Option<Found>
 }
 
 // The lowest i, then the lowest j above it, of two gates that match.
-pub(crate) fn search_gates(words: &[u64]) -> Option<Found>
-    requires { Tested words.now }
-    ensures { of_search result ≡ search_from 0 (gates_of words.now) }
+pub(crate) fn search_gates(gates: Tested) -> Option<Found>
+    ensures { of_search result ≡ search_from 0 (gates_of gates.entry.words.now) }
 {
-    for i in 0..words.len() / Gate::WORDS {
-        if let Some(found) = scan_after(words, i) {
+    for i in 0..gates.words.len() / Gate::WORDS {
+        if let Some(found) = scan_after(gates, i) {
             return Some(found);
         }
     }
@@ -204,7 +203,7 @@ pub fn step(n: u64, words: &mut [u64]) -> Result<Option<Stepped>, Refusal>
     ensures { Yields (map_served of_step (outcome_of result)) words.new (step_outcome n words.old) (step_buffer n words.old) }
 {
     circuit::words::check_cascade(n, words, Gate::MAX_MITER_GATES)?;
-    match search_gates(words) {
+    match search_gates(Tested { words }) {
         None => Ok(None),
         Some(found) => Ok(Some(make_step(words, found))),
     }

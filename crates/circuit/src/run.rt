@@ -44,7 +44,7 @@ fn run_gates(n: u64, words: &[u64], state: u64) -> Result<u64, Refusal>
     Ok(s)
 }
 
-// The state after all gates of a list, which are tested on the way; else 7.
+// The state after all gates of a list, which are tested on the way; else 7. One loop over words and lists would speak of what an iterator yields, for a body of one line.
 fn run_list(n: u64, gates: &[Gate], state: u64) -> Result<u64, Refusal>
     requires { n ≤ max_lines }
     ensures { outcome_of result ≡ and_then (valid_from n 0 gates.now) (λ k. served (run gates.now state)) }

@@ -49,7 +49,7 @@ pub fn put_gate(out: &mut [u64], g: Gate)
     }
 }
 
-// Whether a cascade may have n lines.
+// Whether a cascade may have n lines. What is tested stays a number in the functions below and above: a struct whose field says n ≤ 64 would be taken apart at each use, as `lines.n` in code and clauses.
 pub fn line_count_good(n: u64) -> bool
     ensures { result ≡ line_count_good n }
 {
@@ -104,6 +104,7 @@ pub fn check_cascade(n: u64, words: &[u64], limit: usize) -> Result<usize, Refus
     check_gates(n, words, limit)
 }
 
+// A caller's cascade is a number and a slice here and in each function that C calls, as C gives them; one that a file held is a struct.
 // The numbers of gates of two cascades on as many lines; else what is wrong with the first, with the second, or 8.
 #[tactic(auto, unfolding(crate::specs::Words::pair_outcome))]
 pub fn check_pair(na: u64, a: &[u64], nb: u64, b: &[u64]) -> Result<Counts, Refusal>

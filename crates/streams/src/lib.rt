@@ -60,6 +60,7 @@ fn failed(rt: &(impl Print + Eprint), what: &[u8], error: Error) -> Error {
     error
 }
 
+// Lends buffers and takes no closure, so that both stand in `main` and their sizes are the program's.
 // Reads the files that arguments 1 and 2 name, each until its buffer is full or the file ends, and tells how many bytes those were. Tells where one failed, by the file's name, and reads no further.
 pub fn read_two(
     rt: &(impl Env + Files + Print + Eprint),

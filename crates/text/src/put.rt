@@ -1,4 +1,4 @@
-// Writing at the start of a buffer: bytes and numbers. Each function tells how many bytes it wrote.
+// Writing numbers at the start of a buffer. Each function tells how many bytes it wrote. By hand, as std's formatting promises nothing of the bytes that it writes, and by arithmetic, as a table holds only the numbers below 100 of a cascade file.
 
 ghost use Rattle.std.specs.Prelude.{◌≡◌, [], ◌∷◌, ◌++◌, ◌+◌, ◌/◌, ◌%◌, ◌≤◌, ◌<◌, length};
 ghost use Rattle.bits.specs.Lists.{Put};

@@ -87,7 +87,7 @@ pub stand_in_laws : StandInLaws
 stand_in_laws =
     record {
       ours = λ gs v. step_is gs v (step_gates gs) refl;
-      StepOnly = λ f h gs v. sym (steps_step gs v (f gs) (h gs v));
+      step_only = λ f h gs v. sym (steps_step gs v (f gs) (h gs v));
       none_refuted = none_refuted;
       copy_refuted = copy_refuted;
       ours_reduces = λ gs v. reduce_is gs v (reduce_gates gs) refl;

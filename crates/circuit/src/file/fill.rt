@@ -57,6 +57,7 @@ fn controls(text: &[u8], first: usize, target: u64) -> GateRead
     let mut at = first;
     let mut positive = 0;
     let mut negative = 0;
+    // Each control says where the next one starts.
     while text[at] == b'\t' {
         let plus = text[at + 1] == b'+';
         let k = number(text, at + 2);

@@ -35,7 +35,7 @@ pub struct HeaderNext {
     pub next: usize,
 }
 
-// What the controls of a gate line come to: the lowest line that may follow, whether they rise, and whether the target is apart.
+// What the controls of a gate line come to: the lowest line that may follow, whether they rise, and whether the target is apart. No refusal yet, as 4 goes before 5 whichever is seen first.
 #[derive(Clone, Copy)]
 pub struct Seen {
     pub low: u64,

@@ -6,10 +6,11 @@ use Rattle.checking.specs.Compare.{lowest_from, of_difference, Says}
 use Rattle.checking.proofs.lemmas.compare.Laws.{pair_gates, difference_made, sweep_says}
 use Rattle.checking.proofs.compare.first_difference.Goals as goal
 
-pub lowest_difference-requires : goal.lowest_difference-requires
-lowest_difference-requires c =
-    let both = pair_gates _ _ _ _ _ (sym c.in_ok-check_pair.ensures) in
-    record { first_valid = both.0; second_valid = both.1 }
+pub invariant_of-lowest_difference : goal.invariant_of-lowest_difference
+invariant_of-lowest_difference c = record { tested = (pair_gates _ _ _ _ _ (sym c.in_ok-check_pair.ensures)).0 }
+
+pub invariant_of-lowest_difference-2 : goal.invariant_of-lowest_difference-2
+invariant_of-lowest_difference-2 c = record { tested = (pair_gates _ _ _ _ _ (sym c.in_ok-check_pair.ensures)).1 }
 
 pub returns : goal.returns
 returns c =

@@ -8,5 +8,5 @@ use Rattle.checking.proofs.compare.lowest_difference.Goals as goal
 
 pub returns : goal.returns
 returns c =
-    lowest_below (gates_of c.args.a.now) (gates_of c.args.b.now) c.args.count c.find.result
-    (first_from_Range _ _ _ c.find.result (λ (x : ℕ). outputs_differ (gates_of c.args.a.now) (gates_of c.args.b.now) x ≡ true) (λ (x : ℕ). outputs_differ (gates_of c.args.a.now) (gates_of c.args.b.now) x ≡ false) c.find.ensures.ran (λ x q k. search rules) (λ x q k. search rules))
+    lowest_below (gates_of c.args.a.words.now) (gates_of c.args.b.words.now) c.args.count c.find.result
+    (first_from_Range _ _ _ c.find.result (λ (x : ℕ). outputs_differ (gates_of c.args.a.words.now) (gates_of c.args.b.words.now) x ≡ true) (λ (x : ℕ). outputs_differ (gates_of c.args.a.words.now) (gates_of c.args.b.words.now) x ≡ false) c.find.ensures.ran (λ x q k. search rules) (λ x q k. search rules))

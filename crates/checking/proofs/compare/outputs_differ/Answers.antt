@@ -5,4 +5,4 @@ use Rattle.checking.proofs.compare.outputs_differ.Goals as goal
 
 pub returns : goal.returns
 returns c =
-    ap₂ (λ (x y : ℕ). not (eqb x y)) (c.run_tested.ensures ∙ tested_run _ c.requires.first_valid _) (c.run_tested-2.ensures ∙ tested_run _ c.requires.second_valid _)
+    ap₂ (λ (x y : ℕ). not (eqb x y)) (c.run_tested.ensures ∙ tested_run _ c.args.a.tested _) (c.run_tested-2.ensures ∙ tested_run _ c.args.b.tested _)

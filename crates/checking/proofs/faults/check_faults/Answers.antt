@@ -7,10 +7,11 @@ use Rattle.checking.proofs.faults.check_faults.Goals as goal
 pub returns-in-Some : goal.returns-in-Some
 returns-in-Some c = sym (fault_state _ _ _ _ _ _ (sym c.in_ok-counts.ensures) _ _ (each_failed _ _ _ _ (sym c.in-Some.ensures)))
 
-pub first_agreeing-requires : goal.first_agreeing-requires
-first_agreeing-requires c =
-    let both = pair_gates _ _ _ _ _ (sym c.in_ok-counts.ensures) in
-    record { first_valid = both.0; second_valid = both.1 }
+pub invariant_of-a : goal.invariant_of-a
+invariant_of-a c = record { tested = (pair_gates _ _ _ _ _ (sym c.in_ok-counts.ensures)).0 }
+
+pub invariant_of-b : goal.invariant_of-b
+invariant_of-b c = record { tested = (pair_gates _ _ _ _ _ (sym c.in_ok-counts.ensures)).1 }
 
 pub returns-in-Some-first_agreeing : goal.returns-in-Some-first_agreeing
 returns-in-Some-first_agreeing c =

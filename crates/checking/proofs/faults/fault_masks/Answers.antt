@@ -21,13 +21,13 @@ start_masks-requires c =
     let k = suspect (goal.at.start_masks-requires c).In_ok-gates in
     record { few_lines = k.lines_high; valid_gates = k.gates; mask_room = omega (arith, k.size) }
 
+pub invariant_of-narrow_all : goal.invariant_of-narrow_all
+invariant_of-narrow_all c =
+    let k = suspect (goal.at.invariant_of-narrow_all c).In_ok-gates in
+    record { tested = valid_all_more c.args.na max_lines (gates_of c.args.suspect.now) k.lines_high k.gates }
+
 pub narrow_all-requires : goal.narrow_all-requires
-narrow_all-requires c =
-    let k = suspect (goal.at.narrow_all-requires c).In_ok-gates in
-    record {
-      valid_gates = valid_all_more c.args.na max_lines (gates_of c.args.suspect.now) k.lines_high k.gates;
-      mask_room = omega (arith, k.size, c.start_masks.auto.out);
-    }
+narrow_all-requires c = omega (arith, (suspect (goal.at.narrow_all-requires c).In_ok-gates).size, c.start_masks.auto.out)
 
 pub returns : goal.returns
 returns c =

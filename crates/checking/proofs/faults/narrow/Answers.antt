@@ -9,7 +9,7 @@ use Rattle.checking.proofs.faults.narrow.Goals.{After-gate_at-g}
 
 -- the gate that is passed is one
 good : (g : After-gate_at-g) → valid max_lines g.gate_at-g.result ≡ true
-good g = valid_next max_lines g.args.words.now g.loop-i.i _ (omega arith) g.gate_at-g.ensures g.loop-i.invariant.0
+good g = valid_next max_lines g.args.gates.words.now g.loop-i.i _ (omega arith) g.gate_at-g.ensures g.loop-i.invariant.0
 
 pub kept_lines-requires : goal.kept_lines-requires
 kept_lines-requires c = good (goal.at.kept_lines-requires c).After-gate_at-g
@@ -20,12 +20,12 @@ kept_lines-requires-in-loop-i c = good (goal.at.kept_lines-requires-in-loop-i c)
 pub loop-i-preserved : goal.loop-i-preserved
 loop-i-preserved c =
     let v : ℕ = bit_and (get_or c.loop-i.out (2 * c.loop-i.i) 0) c.kept_lines.result in (
-      valid_later max_lines c.args.words.now c.loop-i.i (omega arith) c.loop-i.invariant.0,
+      valid_later max_lines c.args.gates.words.now c.loop-i.i (omega arith) c.loop-i.invariant.0,
       c.loop-i.invariant.1
-          ∙ narrow_turn c.args.words.now c.loop-i.out c.loop-i.i _ (omega arith) (omega arith) c.gate_at-g.ensures c.loop-i.s _ _ _ (c.toggle-s.ensures ∙ toggled_apply _ c.loop-i.s (good (goal.at.loop-i-preserved c).After-gate_at-g))
+          ∙ narrow_turn c.args.gates.words.now c.loop-i.out c.loop-i.i _ (omega arith) (omega arith) c.gate_at-g.ensures c.loop-i.s _ _ _ (c.toggle-s.ensures ∙ toggled_apply _ c.loop-i.s (good (goal.at.loop-i-preserved c).After-gate_at-g))
           (ap (bit_and (get_or c.loop-i.out (2 * c.loop-i.i) 0)) c.kept_lines.ensures)
           (ap₂ bit_and (get_or-set_other c.loop-i.out (2 * c.loop-i.i) (2 * c.loop-i.i + 1) v 0 (λ e. omega arith)) c.kept_lines-in-loop-i.ensures),
     )
 
 pub returns : goal.returns
-returns c = sym (c.loop-i.invariant.1 ∙ narrow_end c.args.words.now c.loop-i.out _ c.loop-i.i (omega arith))
+returns c = sym (c.loop-i.invariant.1 ∙ narrow_end c.args.gates.words.now c.loop-i.out _ c.loop-i.i (omega arith))

@@ -7,5 +7,5 @@ use Rattle.checking.proofs.faults.narrow.Given as goal
 
 abbrev pub invariant-loop-i : goal.invariant-loop-i
 invariant-loop-i l =
-    (all_valid max_lines (gates_of (drop (3 * l.i) l.words)) ≡ true)
-    × (narrowed (gates_of l.words) l.state l.initial.out ≡ take (2 * l.i) l.out ++ narrowed (gates_of (drop (3 * l.i) l.words)) l.s (drop (2 * l.i) l.out))
+    (all_valid max_lines (gates_of (drop (3 * l.i) l.gates.words.now)) ≡ true)
+    × (narrowed (gates_of l.gates.words.now) l.state l.initial.out ≡ take (2 * l.i) l.out ++ narrowed (gates_of (drop (3 * l.i) l.gates.words.now)) l.s (drop (2 * l.i) l.out))

@@ -6,4 +6,4 @@ use Rattle.checking.proofs.faults.narrow_all.Given as goal
 
 abbrev pub invariant-loop-state : goal.invariant-loop-state
 invariant-loop-state l =
-    narrowed_by (gates_of l.words) l.states l.initial.out ≡ narrowed_by (gates_of l.words) (drop l.state-index l.states) l.out
+    narrowed_by (gates_of l.gates.words.now) l.states l.initial.out ≡ narrowed_by (gates_of l.gates.words.now) (drop l.state-index l.states) l.out

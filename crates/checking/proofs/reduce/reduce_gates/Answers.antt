@@ -8,8 +8,8 @@ use Rattle.checking.proofs.reduce.reduce_gates.Goals as goal
 pub loop-found-init : goal.loop-found-init
 loop-found-init c = standing_first _ c.requires.whole_gates c.requires.valid_gates
 
-pub search_gates-requires : goal.search_gates-requires
-search_gates-requires c = lent_valid _ c.loop-found.words c.loop-found.gates c.loop-found.pairs c.loop-found.merges c.loop-found.invariant
+pub invariant_of-search_gates : goal.invariant_of-search_gates
+invariant_of-search_gates c = record { tested = lent_valid _ c.loop-found.words c.loop-found.gates c.loop-found.pairs c.loop-found.merges c.loop-found.invariant }
 
 pub make_step-s-requires-clause-found_at : goal.make_step-s-requires-clause-found_at
 make_step-s-requires-clause-found_at c = found_at _ _ (sym c.in-Some.ensures)

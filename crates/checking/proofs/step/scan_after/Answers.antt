@@ -10,10 +10,10 @@ returns-in-Some c =
     sym (ap (from_gate c.args.i) (c.loop-j.invariant ∙ words_hit _ _ _ _ (omega arith) c.gate_at-h.ensures _ (sym c.in-Some.ensures)))
 
 pub may_pass-requires-clause-first_target : goal.may_pass-requires-clause-first_target
-may_pass-requires-clause-first_target c = target_low c.args.words.now c.args.i _ c.requires.valid_gates c.requires.gate_inside c.gate_at-g.ensures
+may_pass-requires-clause-first_target c = target_low c.args.gates.words.now c.args.i _ c.args.gates.tested c.requires c.gate_at-g.ensures
 
 pub may_pass-requires-clause-second_target : goal.may_pass-requires-clause-second_target
-may_pass-requires-clause-second_target c = target_low c.args.words.now c.loop-j.j _ c.requires.valid_gates (omega arith) c.gate_at-h.ensures
+may_pass-requires-clause-second_target c = target_low c.args.gates.words.now c.loop-j.j _ c.args.gates.tested (omega arith) c.gate_at-h.ensures
 
 pub returns-then-not-may_pass : goal.returns-then-not-may_pass
 returns-then-not-may_pass c =

@@ -5,4 +5,4 @@ use Rattle.checking.specs.Step.{search_from}
 use Rattle.checking.proofs.step.search_gates.Given as goal
 
 abbrev pub invariant-loop-i : goal.invariant-loop-i
-invariant-loop-i l = search_from 0 (gates_of l.words) ≡ search_from l.i (gates_of (drop (3 * l.i) l.words))
+invariant-loop-i l = search_from 0 (gates_of l.gates.words.now) ≡ search_from l.i (gates_of (drop (3 * l.i) l.gates.words.now))

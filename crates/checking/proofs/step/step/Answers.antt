@@ -5,8 +5,8 @@ use Rattle.circuit.proofs.Promises.{check_served, valid_all_more}
 use Rattle.checking.proofs.lemmas.step.Calls.{found_at, told_none, step_made}
 use Rattle.checking.proofs.step.step.Goals as goal
 
-pub search_gates-requires : goal.search_gates-requires
-search_gates-requires c = let k = check_served _ _ _ _ (sym c.in_ok-check_cascade.ensures) in valid_all_more _ max_lines _ k.lines_high k.gates
+pub invariant_of-search_gates : goal.invariant_of-search_gates
+invariant_of-search_gates c = let k = check_served _ _ _ _ (sym c.in_ok-check_cascade.ensures) in record { tested = valid_all_more _ max_lines _ k.lines_high k.gates }
 
 pub make_step-requires : goal.make_step-requires
 make_step-requires c =
