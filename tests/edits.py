@@ -61,6 +61,20 @@ pub fn cited(x: u64) -> u64
 {
     x
 }
+
+pub struct Held {
+    pub value: u64,
+}
+
+impl From<Option<u64>> for Held {
+    ghost from_gives = { λ given held. held ≡ held };
+
+    fn from(given: Option<u64>) -> Held {
+        Held {
+            value: given.unwrap_or(5),
+        }
+    }
+}
 """,
     "proofs/small/Answers.antt": """use Rattle.demo.proofs.small.Goals as goal
 
@@ -107,6 +121,7 @@ LAW = "# refused: proofs/Laws.antt even\nfile: specs/Rules.antt\nold: twice x = 
 THIRD = "# refused: proofs/Laws.antt third\nfile: specs/Rules.antt\nold: thrice x = 3 * x\nnew: thrice x = 4 * x\n"
 IMPORT = "# refused: proofs/Blocks.antt two\nfile: specs/Uses.antt\nold: {twice}\nnew: {thrice}\n"
 SIDE = "# refused: proofs/Blocks.antt side\nfile: specs/Rules.antt\nold:   left right : Side\nnew:   left right more : Side\n"
+FROM = "# wrong: none\n# refused: demo::HeldFromOptionU64::from returns\nfile: src/lib.rt\nold: given.unwrap_or(5)\nnew: given.unwrap_or(6)\n"
 CONTRACT = "# wrong: x = 1\n# refused: proofs/double/Answers.antt returns\nfile: src/lib.rt\nold: result ≡ twice x\nnew: result ≡ thrice x\n"
 CONSTANT = "# wrong: x = 7\n# refused: demo::limited returns\nfile: src/lib.rt\nold: LIMIT: u64 = 7;\nnew: LIMIT: u64 = 8;\n"
 
@@ -175,6 +190,7 @@ CASES = [
     ("a name of a function without a proof file", "# renamed: x-lt48 x-lt49\n" + LIMITED, AT_LIMITED, 1, "its function has no proof file"),
     ("two edits of one function", group(one=DOUBLE, two=DOUBLE.replace("old:     x + x", "old:     x")), AT_DOUBLE, 1, "this text stands in src/lib.rt"),
     ("two edits of one function, at two places", group(one=BY_NAME, two=BY_NAME.replace("x < 48", "return true").replace("x < 49", "return false")), AT_SMALL, 1, "they can't share a check"),
+    ("an edit of a trait's function", group(one=FROM, two=TRIPLE), goal("demo::HeldFromOptionU64::from", "returns") + AT_TRIPLE, 0, "2 refused"),
     ("two edits of one label", "# edit: one\n" + DOUBLE + "\n# edit: one\n" + TRIPLE, AT_DOUBLE + AT_TRIPLE, 1, "another edit of the crate has this label"),
     ("an edit of a definition beside one that it does not reach", group(one=LAW, two=TRIPLE), AT_LAW + AT_TRIPLE, 0, "2 refused"),
     ("an edit of a definition, with an error at another place that it reaches", group(one=LAW, two=TRIPLE), AT_LAW + AT_TRIPLE + AT_DOUBLE, 0, "2 refused"),
