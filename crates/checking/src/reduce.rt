@@ -20,7 +20,7 @@ pub struct Reduction {
     pub merges: usize,
 }
 
-// Makes steps on the words of gates until there is none.
+// Makes steps on the words of gates until there is none. The words are lent to be changed, so a `Tested` of them is made for each search alone.
 fn reduce_gates(words: &mut [u64]) -> Reduction
     requires whole_gates { length words.old % 3 ≡ 0 }
     requires valid_gates { all_valid max_lines (gates_of words.old) ≡ true }

@@ -68,7 +68,7 @@ fn text_size(n: u64, words: &[u64]) -> usize
     size
 }
 
-// Writes the gate lines of a cascade and `end`, and tells how many bytes they are.
+// Writes the gate lines of a cascade and `end`, and tells how many bytes they are. That the gates were tested is asked here and of the whole text alone, so no struct says it.
 fn put_lines(words: &[u64], out: &mut [u8]) -> usize
     requires { (all_valid max_lines (gates_of words.now) ≡ true) × (length (gate_lines (gates_of words.now) ++ end_line) ≤ length out.old) }
     ensures { Put result out.new (gate_lines (gates_of words.now) ++ end_line) out.old }

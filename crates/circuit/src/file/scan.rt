@@ -1,4 +1,4 @@
-// Reading at a position of a text: a byte, a field, a line.
+// Reading at a position of a text: a byte, a field, a line. The text and the position stay apart, since the text is the same at each call and the position is not.
 
 ghost use Rattle.std.specs.Prelude.{◌≡◌, ◌+◌, ◌<◌, ◌≤◌, true, false, ◌||◌, [], length, drop, ◌==◌, slice_index_or};
 ghost use Rattle.circuit.specs.Gate.{max_lines};

@@ -35,11 +35,6 @@ module _ (text out : List ℕ) where
   unfolding fit_buffer
   fit_put k last p h = told text out _ last (fit_outcome text (length out)) (served (length text)) (ap served p.count) (fit_fits text (length out) h) p.buffer
 
--- the text of an answer that is known
-pub fit_as : {R : Type 0} (text : R → List ℕ) (x y : R) (r : Outcome ℕ) (last out : List ℕ) → x ≡ y
-    → Yields r last (fit_outcome (text y) (length out)) (fit_buffer (text y) out) → Yields r last (fit_outcome (text x) (length out)) (fit_buffer (text x) out)
-fit_as {R} text x y r last out e t = subst (λ (z : R). Yields r last (fit_outcome (text z) (length out)) (fit_buffer (text z) out)) (sym e) t
-
 -- and of a call that writes it where its rooms are long enough
 pub fit_told : (text due out : List ℕ) (outcome r : Outcome ℕ) (last : List ℕ) → text ≡ due → outcome ≡ fit_outcome due (length out)
     → Yields r last (fit_outcome text (length out)) (fit_buffer text out) → Yields r last outcome (written outcome due out)

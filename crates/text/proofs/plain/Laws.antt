@@ -41,18 +41,6 @@ pub literal_wide : (z : ℤ) → SFits word_width z → length (literal_text z) 
 literal_wide (pos v) f = omega (arith, decimal_few 4 v (omega (arith, size_fits (pos v) f)))
 literal_wide (negsuc i) f = omega (arith, decimal_few 4 (suc i) (omega (arith, size_fits (negsuc i) f)))
 
-pub opposite_wide : (z : ℤ) → variable_of z < word_limit → length (literal_text (neg_ℤ z)) ≤ 6
-opposite_wide z h = literal_wide (neg_ℤ z) (opposite_fits z h)
-
--- a literal's sign is a byte
-pub negative_long : (z : ℤ) → lt_z z (pos 0) ≡ true → length (literal_text z) ≡ length (decimal (variable_of z)) + 1
-negative_long (pos v) h = absurd (omega (arith, ltb-true v 0 h))
-negative_long (negsuc i) h = omega arith
-
-pub positive_long : (z : ℤ) → lt_z z (pos 0) ≡ false → length (literal_text z) ≡ length (decimal (variable_of z))
-positive_long (pos v) h = refl
-positive_long (negsuc i) h = absurd (true≢false h)
-
 -- ---- one record
 
 -- the code's test of a kind word

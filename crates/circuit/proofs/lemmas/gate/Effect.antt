@@ -105,11 +105,6 @@ pub inverted_idle : (g : Gate) (s : ℕ) → fires g s ≡ false → inverted g 
 unfolding inverted
 inverted_idle g s e = cond-false _ _ _ e
 
--- the bit of a test, shifted to line k
-pub shifted : (s k : ℕ) (t : Bool) → k < max_lines → bit_xor s ((bool_byte t * 2 ^ k) % 2 ^ max_lines) ≡ cond t (bit_xor s (2 ^ k)) s
-shifted s k true h = ap (bit_xor s) (shl_exact 1 k max_lines (lit< tt) (omega arith) ∙ one-mul (2 ^ k))
-shifted s k false h = ap (bit_xor s) (ap (λ (x : ℕ). x % 2 ^ max_lines) (zero-mul (2 ^ k))) ∙ xor_zero_r s
-
 pub apply_gate : (g : Gate) (s : ℕ) → valid max_lines g ≡ true → apply g s ≡ inverted g s
 unfolding apply
 apply_gate g s v = cond-true _ _ _ v

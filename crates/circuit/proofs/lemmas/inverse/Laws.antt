@@ -99,12 +99,6 @@ module _ (n : ℕ) (ws : List ℕ) (room : ℕ) where
     unfolding inverse_outcome
     inverse_made h = then_served _ _ k good ∙ demand_met _ _ _ _ (le-leb _ _ h)
 
--- the call owes this where its outcome and the buffer that goes with it are known
-pub inverse_told : (n : ℕ) (ws out : List ℕ) (r o : Outcome ℕ) (last : List ℕ) → r ≡ o → inverse_outcome n ws (length out) ≡ o
-    → last ≡ written o (words_of (inverse (gates_of ws))) out → Yields r last (inverse_outcome n ws (length out)) (inverse_buffer n ws out)
-unfolding inverse_buffer
-inverse_told n ws out r o last e f l = told (words_of (inverse (gates_of ws))) out r last (inverse_outcome n ws (length out)) o e f l
-
 -- the buffer of a served call
 pub inverse_written : (n : ℕ) (ws out : List ℕ) (k : ℕ) → check_outcome n ws max_gates ≡ served k → length ws ≤ length out
     → inverse_buffer n ws out ≡ over (words_of (inverse (gates_of ws))) out
