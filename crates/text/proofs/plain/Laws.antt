@@ -1,19 +1,16 @@
 -- The clauses of one record as OR clauses alone: their texts and how long these are. Assumes nothing.
 use mathlib.Core.Path.{◌≡◌, refl, sym, ap, ap₂, subst, ◌∙◌}
-use mathlib.Core.Bool.{true, false, true≢false}
 use mathlib.Core.List.{List, [], ◌∷◌, ◌++◌, append-nil, append_assoc}
 use Prim.Native.Nat.{ℕ, zero, suc, ◌+◌, ◌*◌, ◌≤◌, ◌<◌}
 use native.Mathlib.Omega.{arith}
 use lib.IntN.{ℤ, pos, negsuc, neg_ℤ, ◌-ℤ◌, +ℤ_idl}
 use lib.ListN.{length, drop, get_or, length-append}
-use lib.Signed.{lt_z}
-use borrow.Author.Tests.{ltb-true}
 use mir.Val.{SFits, to_z, of_z}
 use Rattle.checking.specs.Clauses.{Clause, OR, XOR, max_variables}
 use Rattle.checking.specs.Satisfaction.{variable_of, LiteralsWithin, clause_literals, ClausesWithin}
 use Rattle.checking.specs.Stored.{word_width, word_limit, stored_clause, stored}
 use Rattle.checking.proofs.Promises.{neg_size, stored_next}
-use Rattle.text.specs.Dimacs.{blank, decimal, literal_text, literals_text, closing, clause_text, clauses_text}
+use Rattle.text.specs.Dimacs.{blank, literal_text, literals_text, closing, clause_text, clauses_text}
 use Rattle.text.specs.Plain.{negations, plain_clause, plain_clauses}
 use Rattle.text.specs.Compare.{max_list}
 use Rattle.text.specs.private.Words.{plain_record, TwoOrThree, ShortRecord, ShortClause, AllShort, Plainable}

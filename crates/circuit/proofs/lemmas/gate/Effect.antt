@@ -1,9 +1,8 @@
 -- The laws of a gate's effect: firing by lines and by one test, the new state digit by digit, and that a gate is its own inverse. Assumes nothing.
-use Rattle.std.proofs.Common.{◌≡◌, ℕ, ◌*◌, ◌%◌, ◌^◌, ◌<◌, Bool, true, false, cond, not, ◌&&◌, ◌||◌, eqb, sym, refl, ap, ◌∙◌, ap₂, one-mul, zero-mul, arith, lit<, shl_exact, eq-eqb, eqb-true}
+use Rattle.std.proofs.Common.{◌≡◌, ℕ, ◌%◌, ◌^◌, ◌<◌, Bool, true, false, cond, not, ◌&&◌, ◌||◌, eqb, sym, refl, ap, ◌∙◌, ap₂, arith, eq-eqb, eqb-true}
 use mathlib.Core.Bool.{xor, false≢true}
-use lib.Bits.{bit_and, bit_or, bit_xor, xor_lt, xor_zero_r, xor_self, or_zero_r, xor_add_and, and_le_l, and_le_r}
+use lib.Bits.{bit_and, bit_or, bit_xor, xor_lt, xor_self, or_zero_r, xor_add_and, and_le_l, and_le_r}
 use lib.Pow.{pow-lt}
-use mir.Val.{bool_byte}
 use Rattle.circuit.specs.declared.gate.Gate.{Gate}
 use Rattle.bits.specs.Digits.{bit}
 use Rattle.circuit.specs.Gate.{max_lines, not_gate, fires, valid, inverted, apply, missed, toggled}

@@ -16,7 +16,7 @@ use Rattle.circuit.specs.Inverse.{inverse, put_inverse, inverse_outcome, inverse
 use Rattle.circuit.specs.Run.{run}
 use Rattle.circuit.specs.Laws.{InverseRefused, InverseStands}
 use Rattle.circuit.proofs.lemmas.gate.Effect.{apply_twice}
-use Rattle.circuit.proofs.lemmas.Outcome.{demand_met, demand_failed, then_served, then_refused, then_both, demanded, written_refused, told, above}
+use Rattle.circuit.proofs.lemmas.Outcome.{demand_met, demand_failed, then_served, then_refused, then_both, demanded, written_refused, above}
 use Rattle.circuit.proofs.lemmas.words.Gates.{gates_next, gates_end, gates_length, words_length, gates_words, words_reverse, valid_append}
 use Rattle.circuit.proofs.lemmas.words.Tests.{words_wrong, words_cascade, cascade_count, cascade_words, check_served, served_check}
 
