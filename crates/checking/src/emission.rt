@@ -69,9 +69,9 @@ fn put_difference(hit: bool, d: u64, a: u64, b: u64, out: &mut [ClauseWord]) -> 
     if hit {
         let x = crate::emitter::literal(a, true);
         let y = crate::emitter::literal(b, true);
-        return bits::put(out, &[1, 3, not_d, x, y]);
+        return crate::put::put(out, &[1, 3, not_d, x, y]);
     }
-    bits::put(out, &[0, 1, not_d])
+    crate::put::put(out, &[0, 1, not_d])
 }
 
 // The clauses of the lines at the buffer's start; a line is hit where its last variable is no input.
@@ -94,7 +94,7 @@ fn put_last(n: u64, used: u64, out: &mut [ClauseWord])
     requires out_room { n + 2 ≤ length out.old }
     ensures { out.new ≡ over (last_stored n used) out.old }
 {
-    bits::put(out, &[0, crate::emitter::number(n)]);
+    crate::put::put(out, &[0, crate::emitter::number(n)]);
     for k in 0..n {
         out[k as usize + 2] = crate::emitter::literal(used + 1 + k, true);
     }

@@ -42,14 +42,14 @@ fn put_controls(g: Gate, k: usize, n: u64, current: &[u64], p: u64, out: &mut [C
     let not_p = literal(p, false);
     let mut left = positive | negative;
     let mut i = 0;
-    // A while: its turns go by the bits of the mask, and no range or slice has them.
+    // A while: the mask says when it ends, and by k that would have to be proved of the count.
     while left != 0 {
         let line = circuit::gate::lowest(left);
         let v = current[line as usize];
         let sign = circuit::gate::has(positive, line);
         out[i] = literal(v, !sign);
         let at = k + 4 * i;
-        bits::put(&mut out[at..], &[0, 2, not_p, literal(v, sign)]);
+        crate::put::put(&mut out[at..], &[0, 2, not_p, literal(v, sign)]);
         left &= left - 1;
         i += 1;
     }
@@ -67,10 +67,10 @@ fn put_many(g: Gate, k: u64, n: u64, current: &[u64], used: u64, out: &mut [Clau
     let v = current[target as usize];
     let p = used + 1;
     let controls = k as usize;
-    bits::put(out, &[0, number(k + 1), literal(p, true)]);
+    crate::put::put(out, &[0, number(k + 1), literal(p, true)]);
     put_controls(g, controls, n, current, p, &mut out[3..]);
     let end = 3 + 5 * controls;
-    end + bits::put(
+    end + crate::put::put(
         &mut out[end..],
         &[
             1,
@@ -113,9 +113,9 @@ pub(crate) fn put_gate(g: Gate, n: u64, current: &[u64], used: u64, out: &mut [C
     let target = g.target;
     let v = current[target as usize];
     if k == 0 {
-        return bits::put(out, &[1, 2, literal(used + 1, true), literal(v, true)]);
+        return crate::put::put(out, &[1, 2, literal(used + 1, true), literal(v, true)]);
     }
     let line = circuit::gate::lowest(positive | negative);
     let c = literal(current[line as usize], circuit::gate::has(positive, line));
-    bits::put(out, &[1, 3, literal(used + 1, false), literal(v, true), c])
+    crate::put::put(out, &[1, 3, literal(used + 1, false), literal(v, true), c])
 }

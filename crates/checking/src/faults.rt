@@ -40,7 +40,7 @@ fn free_lines(g: Gate, n: u64) -> u64
     lines_below(n) & !used
 }
 
-// The lines that a state leaves in the mask of missing positive or negative controls.
+// The lines that a state leaves in the mask of missing positive or negative controls. With a flag, as two functions would differ in one test alone.
 fn kept_lines(g: Gate, state: u64, positive: bool) -> u64
     requires { valid max_lines g ≡ true }
     ensures { result ≡ kept (missing_control positive) g state }

@@ -10,6 +10,7 @@ mod emission;
 mod emitter;
 pub mod faults;
 pub mod miter;
+mod put;
 pub mod reduce;
 pub mod step;
 mod tested;

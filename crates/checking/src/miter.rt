@@ -15,7 +15,7 @@ pub fn miter(na: u64, a: &[u64], nb: u64, b: &[u64], out: &mut [u64]) -> Result<
     if out.len() < a.len() + b.len() {
         return Err(Refusal::NoRoom);
     }
-    let at = bits::put(out, a);
+    let at = crate::put::put(out, a);
     circuit::inverse::put_inverse(b, &mut out[at..]);
     Ok(counts.first + counts.second)
 }

@@ -77,7 +77,7 @@ fn put_lines(words: &[u64], out: &mut [u8]) -> usize
     for i in 0..words.len() / Gate::WORDS {
         at += crate::file::put::put_gate_line(&mut out[at..], crate::words::gate_at(words, i));
     }
-    at + bits::put(&mut out[at..], b"end\n")
+    at + crate::file::put::put(&mut out[at..], b"end\n")
 }
 
 // Writes the text of a cascade, and tells how many bytes it is.

@@ -1,4 +1,4 @@
-// Gates and cascades of reversible circuits, and cascade files.
+// Gates and cascades of reversible circuits, and cascade files. There is no heap: the caller lends each buffer, here and in the crates above.
 #![tactic(auto)]
 
 ghost use Rattle.circuit.specs.Laws.{CircuitLaws};

@@ -23,7 +23,8 @@ fn put(out: &mut [u8], word: &[u8]) -> usize
     if out.len() < word.len() {
         return 0;
     }
-    bits::put(out, word)
+    out[..word.len()].copy_from_slice(word);
+    word.len()
 }
 
 // Puts so many gate lines, and tells how many bytes they are.

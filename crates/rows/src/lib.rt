@@ -1,4 +1,4 @@
-// What the programs of rows print.
+// What the programs of rows print. This crate knows no cascade, so each program says how a refusal or a run prints.
 #![tactic(auto)]
 
 // Writes the name, the numbers parted by blanks, and an LF to standard output. What cannot be written is left out.

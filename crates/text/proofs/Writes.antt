@@ -2,8 +2,9 @@
 use mathlib.Core.Path.{◌≡◌, refl, sym, ap, ap₂, ◌∙◌}
 use mathlib.Core.Bool.{Bool, true, false, ◌&&◌, false≢true}
 use mathlib.Core.List.{List}
-use Prim.Native.Nat.{ℕ}
-use lib.ListN.{length}
+use Prim.Native.Nat.{ℕ, ◌≤◌}
+use native.Mathlib.Omega.{arith}
+use lib.ListN.{length, drop, length-append}
 use Rattle.std.proofs.Common.{Result, Ok, Err}
 use Rattle.bits.specs.Lists.{Put}
 use Rattle.bits.proofs.Bools.{either}
@@ -63,6 +64,10 @@ pub served_put : (text out last : List ℕ) (o : Outcome ℕ) (size : ℕ) → o
 served_put text out last o size e f b =
     let g : served size ≡ served (length text) = sym f ∙ e in
     record { count = cc; buffer = b ∙ written_served text out o size f }
+
+-- and stands inside the buffer
+pub put_inside : (r : ℕ) (last new first : List ℕ) → Put r last new first → r ≤ length last
+put_inside r last new first p = omega (arith, p.count, ap length p.buffer, length-append new (drop (length new) first))
 
 -- a call that was served gave its value
 pub served_ok : {A : Type 0} (r : Result A Refusal) (a : A) → outcome_of r ≡ served a → r ≡ Ok a

@@ -23,7 +23,7 @@ fn fit_text(out: &mut [u8], text: &[u8]) -> Result<usize, Refusal>
     if out.len() < text.len() {
         return Err(Refusal::NoRoom);
     }
-    Ok(bits::put(out, text))
+    Ok(crate::put::put(out, text))
 }
 
 // The digits of three numbers.

@@ -25,7 +25,7 @@ fn put_literal(out: &mut [u8], literal: ClauseWord) -> usize
     ensures { Put result out.new (literal_text literal ++ (blank ∷ [])) out.old }
 {
     let at = put_signed(out, literal);
-    at + bits::put(&mut out[at..], b" ")
+    at + crate::put::put(&mut out[at..], b" ")
 }
 
 // Writes literals, each followed by a blank.
@@ -46,7 +46,7 @@ pub(crate) fn put_closed(out: &mut [u8], literals: &[ClauseWord]) -> usize
     ensures { Put result out.new (literals_text literals.now ++ closing) out.old }
 {
     let at = put_literals(out, literals);
-    at + bits::put(&mut out[at..], b"0\n")
+    at + crate::put::put(&mut out[at..], b"0\n")
 }
 
 // Writes a clause by its kind and its literals.
@@ -54,7 +54,11 @@ pub(crate) fn put_clause(out: &mut [u8], kind: ClauseWord, literals: &[ClauseWor
     requires { length (record_text kind literals.now) ≤ length out.old }
     ensures { Put result out.new (record_text kind literals.now) out.old }
 {
-    let at = if kind == 1 { bits::put(out, b"x") } else { 0 };
+    let at = if kind == 1 {
+        crate::put::put(out, b"x")
+    } else {
+        0
+    };
     at + put_closed(&mut out[at..], literals)
 }
 
@@ -66,5 +70,5 @@ pub(crate) fn put_header(out: &mut [u8], variables: u64, clauses: u64) -> usize
 {
     let mut at = crate::put::put_numbered(out, b"p cnf ", variables);
     at += crate::put::put_numbered(&mut out[at..], b" ", clauses);
-    at + bits::put(&mut out[at..], b"\n")
+    at + crate::put::put(&mut out[at..], b"\n")
 }

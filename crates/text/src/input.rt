@@ -61,7 +61,7 @@ fn put_output(out: &mut [u8], n: u64, x: u64) -> usize
     requires { n + 1 ≤ length out.old }
     ensures { Put result out.new (tab ∷ state_text n x) out.old }
 {
-    let at = bits::put(out, b"\t");
+    let at = crate::put::put(out, b"\t");
     at + put_state(&mut out[at..], n, x)
 }
 
@@ -71,9 +71,9 @@ fn put_verdict(out: &mut [u8], first: u64, second: u64) -> usize
     ensures { Put result out.new (cond (first == second) agree_word differ_word) out.old }
 {
     if first == second {
-        return bits::put(out, b"agree");
+        return crate::put::put(out, b"agree");
     }
-    bits::put(out, b"differ")
+    crate::put::put(out, b"differ")
 }
 
 // Writes the same and both outputs, each after a tab, and an LF.
@@ -85,10 +85,10 @@ fn put_checked(out: &mut [u8], n: u64, first: u64, second: u64) -> usize
     let mut at = put_verdict(out, first, second);
     at += put_output(&mut out[at..], n, first);
     at += put_output(&mut out[at..], n, second);
-    at + bits::put(&mut out[at..], b"\n")
+    at + crate::put::put(&mut out[at..], b"\n")
 }
 
-// Writes the same where it fits.
+// Writes the same where it fits. The numbers stay apart, as the definition of the text has them.
 #[tactic(auto, unfolding(crate::specs::Answers::fit_outcome, crate::specs::Answers::fit_buffer))]
 fn fit_outputs(out: &mut [u8], n: u64, first: u64, second: u64) -> Result<usize, Refusal>
     requires { n ≤ max_lines }

@@ -55,7 +55,7 @@ pub fn tomiter(input: &[u8], out: &mut [u8]) -> Result<usize, Refusal>
     if out.len() < size {
         return Err(Refusal::NoRoom);
     }
-    Ok(bits::put(out, &text[..size]))
+    Ok(crate::put::put(out, &text[..size]))
 }
 
 // The rooms are slices, whose lengths the functions inside require: with arrays in their place (`first_chunk_mut`) the proofs of the part that is returned and of the rooms that a refusal leaves did not close.

@@ -20,7 +20,7 @@ pub struct PlainSizes {
     pub clauses: u64,
 }
 
-// The number of digits of a number.
+// The number of digits of any number. Circuit's function is of a number below 100, whose text has at most two.
 pub(crate) fn digits(k: u64) -> usize
     ensures count { result ≡ length (decimal k) }
     ensures few { result ≤ 20 }

@@ -6,6 +6,19 @@ ghost use Rattle.circuit.specs.Text.{line_feed, digit};
 ghost use Rattle.text.specs.Dimacs.{decimal};
 ghost use Rattle.text.specs.FileOutcome.{numbers_text};
 
+// Copies the items to the buffer's start, and tells how many they are. Each crate has its own: one for all would be open and ask for room, and with a test of the room emission with many controls takes half again as long.
+pub(crate) fn put<T: Copy>(out: &mut [T], items: &[T]) -> usize
+    requires { length items.now ≤ length out.old }
+    ensures { Put result out.new items.now out.old }
+{
+    // With copy_from_slice, which compares the two places, an array of four items goes through memory: emission then takes twice as long.
+    let size = items.len();
+    for i in 0..size {
+        out[i] = items[i];
+    }
+    size
+}
+
 // The digit of a number below 10.
 fn digit(k: u64) -> u8
     requires { k < 10 }
@@ -36,7 +49,7 @@ fn put_short(out: &mut [u8], k: u64) -> usize
     put_two(out, k)
 }
 
-// Writes a number below 10,000.
+// Writes a number below 10,000. Of its own, as `put_long` with its recursion is slower.
 #[tactic(auto, using(crate::proofs::Decimal::hundreds_length))]
 fn put_middle(out: &mut [u8], k: u64) -> usize
     requires { (k < 10000) × (length (decimal k) ≤ length out.old) }
@@ -79,7 +92,7 @@ pub(crate) fn put_numbered(out: &mut [u8], word: &[u8], k: u64) -> usize
     requires { length word.now + length (decimal k) ≤ length out.old }
     ensures { Put result out.new (word.now ++ decimal k) out.old }
 {
-    let at = bits::put(out, word);
+    let at = put(out, word);
     at + put_number(&mut out[at..], k)
 }
 
@@ -91,5 +104,5 @@ pub(crate) fn put_three(out: &mut [u8], word: &[u8], a: u64, b: u64, c: u64) -> 
     let mut at = put_numbered(out, word, a);
     at += put_numbered(&mut out[at..], b"\t", b);
     at += put_numbered(&mut out[at..], b"\t", c);
-    at + bits::put(&mut out[at..], b"\n")
+    at + put(&mut out[at..], b"\n")
 }

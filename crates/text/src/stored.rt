@@ -8,7 +8,7 @@ ghost use Rattle.text.specs.private.Words.{Plainable, StoresList, stored_in, cla
 
 use checking::clauses::ClauseWord;
 
-// A clause by its kind, 1 for an XOR, and its literals.
+// A clause by its kind, 1 for an XOR, and its literals. The kind is the word that the list stores: an enum would be made here from the word, and each contract would name that word again.
 #[derive(Clone, Copy)]
 pub(crate) struct Record<'a> {
     pub kind: ClauseWord,
@@ -44,7 +44,7 @@ impl<'a> Iterator for Records<'a> {
     }
 }
 
-// Writes the header and the clauses that words store.
+// Writes the header and the clauses that words store. plain.rt has the same loop with another writer, and says why.
 pub(crate) fn put_list(out: &mut [u8], variables: u64, clauses: u64, words: &[ClauseWord]) -> usize
     requires stores_list { StoresList words.now }
     requires out_room { length (header_text variables clauses ++ clauses_text (stored_in words.now)) ≤ length out.old }

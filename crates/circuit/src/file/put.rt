@@ -15,6 +15,19 @@ const DIGITS: [u8; 200] = *b"0001020304050607080910111213141516171819\
 6061626364656667686970717273747576777879\
 8081828384858687888990919293949596979899";
 
+// Copies the items to the buffer's start, and tells how many they are. Each crate has its own: one for all would be open and ask for room, and with a test of the room emission with many controls takes half again as long.
+pub(crate) fn put<T: Copy>(out: &mut [T], items: &[T]) -> usize
+    requires { length items.now ≤ length out.old }
+    ensures { Put result out.new items.now out.old }
+{
+    // With copy_from_slice, which compares the two places, an array of four items goes through memory: emission then takes twice as long.
+    let size = items.len();
+    for i in 0..size {
+        out[i] = items[i];
+    }
+    size
+}
+
 // The two digits of a number below 100, by the table. The bound stands in the contracts: a type for it would be built from a line or a number of lines before each call, and taken apart in it.
 fn two_digits(k: u64) -> (u8, u8)
     requires { k < 100 }
@@ -55,7 +68,7 @@ fn put_controls(out: &mut [u8], positive: u64, negative: u64) -> usize
     requires { length (controls_text (controls_of (mask_gate positive negative))) ≤ length out.old }
     ensures { Put result out.new (controls_text (controls_of (mask_gate positive negative))) out.old }
 {
-    // One turn for each set bit: the lowest one is taken and cleared.
+    // A while, one turn for each set bit: the lowest one is taken and cleared, which no range does.
     let mut left = positive | negative;
     let mut at = 0;
     while left != 0 {
@@ -71,7 +84,7 @@ fn put_numbered(out: &mut [u8], word: &[u8], k: u64) -> usize
     requires { (k < 100) × (length word.now + length (number_text k) ≤ length out.old) }
     ensures { Put result out.new (word.now ++ number_text k) out.old }
 {
-    let at = bits::put(out, word);
+    let at = put(out, word);
     at + put_number(&mut out[at..], k)
 }
 

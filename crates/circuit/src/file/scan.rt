@@ -1,4 +1,4 @@
-// Reading at a position of a text: a byte, a field, a line. The text and the position stay apart, since the text is the same at each call and the position is not.
+// Reading at a position of a text: a byte, a field, a line. The text, the position, the lines and the place stay apart, since the text is the same at each call and the position is not. What is read comes with the position after it; a struct for each names it, as line or lines, and one over all would not.
 
 ghost use Rattle.std.specs.Prelude.{◌≡◌, ◌+◌, ◌<◌, ◌≤◌, true, false, ◌||◌, [], length, drop, ◌==◌, slice_index_or};
 ghost use Rattle.circuit.specs.Gate.{max_lines};
@@ -64,7 +64,7 @@ fn sign(b: u8) -> bool
     matches!(b, b'+' | b'-')
 }
 
-// How many digits a number below 100 has.
+// How many digits a number below 100 has. Text has a function for any number.
 pub(crate) fn digits(k: u64) -> usize
     ensures { result ≡ width k }
 {

@@ -1,5 +1,5 @@
 -- The laws of the writer: bytes put at the start of a buffer and after those, the lines of a mask, and the controls that it writes. Assumes nothing.
-use Rattle.std.proofs.Common.{◌≡◌, ℕ, zero, suc, ◌+◌, ◌-◌, ◌*◌, ◌/◌, ◌^◌, ◌<◌, ◌≤◌, Bool, true, false, cond, leb, List, [], ◌∷◌, ◌++◌, map, length, take, drop, set, sym, refl, ap, ◌∙◌, subst, ap₂, append_assoc, append-nil, div-lt_iff_lt-mul, arith, drop-drop, length-append, length-drop, length-take, pow_pos, le-leb}
+use Rattle.std.proofs.Common.{◌≡◌, ℕ, zero, suc, ◌+◌, ◌-◌, ◌*◌, ◌/◌, ◌^◌, ◌<◌, ◌≤◌, Bool, true, false, cond, leb, List, [], ◌∷◌, ◌++◌, map, length, take, drop, set, sym, refl, ap, ◌∙◌, subst, ap₂, append_assoc, append-nil, div-lt_iff_lt-mul, arith, drop-drop, length-append, length-drop, length-take, take_all, pow_pos, le-leb}
 use mathlib.Core.List.{map-append}
 use lib.Bits.{bit_and, bit_or, or_lt, and_le_l}
 use lib.Count.{ones, count_trailing_zeros}
@@ -29,6 +29,11 @@ pub record Written (first out : List ℕ) (at : ℕ) (front : List ℕ) : Type 0
 
 pub written_none : (out : List ℕ) → Written out out 0 []
 written_none out = record { is = refl; long = refl; same = refl }
+
+-- a word that the kit copied
+pub copied : (word out last : List ℕ) (r : ℕ) → r ≡ length word → last ≡ take (length word) word ++ drop (length word) out → Put r last word out
+copied word out last r e b =
+    record { count = e; buffer = b ∙ ap (λ (x : List ℕ). x ++ drop (length word) out) (take_all (length word) word (omega arith)) }
 
 -- the rest of the buffer was lent, and `new` put at its start
 pub written_more : (first out : List ℕ) (at : ℕ) (front : List ℕ) → Written first out at front → (r : ℕ) (last new : List ℕ) → at ≤ length out

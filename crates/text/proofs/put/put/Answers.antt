@@ -1,7 +1,7 @@
--- `bits::put` meets its contract.
+-- `text::put::put` meets its contract.
 use Rattle.std.proofs.Common.{set, ap₂, ◌∙◌, arith}
 use Rattle.bits.proofs.Lists.{over_prefix}
-use Rattle.bits.proofs.put.Goals as goal
+use Rattle.text.proofs.put.put.Goals as goal
 
 pub loop-i-preserved : goal.loop-i-preserved
 loop-i-preserved g c =
