@@ -15,7 +15,6 @@ MITER = "crates/checking/proofs/lemmas/miter/Laws.antt"
 GATE = "crates/circuit/src/gate.rt"
 STEP = "crates/checking/src/step.rt"
 BITS = "crates/bits/src/lib.rt"
-COUNT = "crates/capi/src/count.rt"
 FILES = "crates/text/src/lib.rt"
 MATCH = "crates/checking/specs/Match.antt"
 READING = "docs/READING.md"
@@ -76,17 +75,6 @@ CASES = {
         BITS,
         "the open function first has a requires",
     ),
-    "a copy in a user's crate": (
-        {COUNT: "\nfn sample(out: &mut [u64], words: &[u64]) -> usize {\n    bits::put(out, words)\n}\n"},
-        COUNT,
-        "it uses or passes on bits, whose functions are for the crates above alone",
-    ),
-    "a copy in a user's crate by another name": (
-        {COUNT: "\nuse bits as low;\n"},
-        COUNT,
-        "it uses or passes on bits, whose functions are for the crates above alone",
-    ),
-    "a copy passed on": ({GATE: "\npub use bits::{put};\n"}, GATE, "it uses or passes on bits, whose functions are for the crates above alone"),
     "an open function behind a text of two lines": (
         {GATE: '\nconst WORDS: [u8; 4] = *b"ab\\\n    cd";\n\npub fn lowest_line(mask: u64) -> u64\n    requires { 0 < mask }\n    ensures { result ≡ mask }\n{\n    mask\n}\n\nconst MORE: [u8; 1] = *b"e";\n'},
         GATE,
