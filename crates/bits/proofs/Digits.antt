@@ -1,6 +1,6 @@
 -- The laws of `bit` and `lines_in`: of the operations on masks, of a power of two, of a sum, of a bound, of a count, and that a number is its digits. Assumes nothing.
 use mathlib.Core.Path.{◌≡◌, refl, sym, ap, ap₂, ◌∙◌, subst}
-use mathlib.Core.Bool.{Bool, true, false, ◌&&◌, ◌||◌, xor, cond, and-true}
+use mathlib.Core.Bool.{Bool, true, false, ◌&&◌, ◌||◌, xor, cond, and-true, and-or_distrib_left}
 use Prim.Native.Nat.{ℕ, zero, suc, ◌+◌, ◌-◌, ◌*◌, ◌/◌, ◌%◌, ◌^◌, ◌≤◌, ◌<◌, min, max, suc-le-suc}
 use native.Mathlib.Nat.{div-eq_of_lt, mod-lt, pow-suc, lt_of_lt_of_le, zero-lt-suc, div-lt_iff_lt-mul, le-max_left, le-max_right}
 use native.Mathlib.Numerals.{one-add}
@@ -12,9 +12,9 @@ use lib.Pow.{pow_mono, pow_pos, shr-shr, split, field, mod-mod-pow}
 use lib.Count.{ones, ones_step, ones_cat, ones-ones}
 use lib.ListN.{length, length-append}
 use mathlib.Core.List.{List, [], ◌∷◌, ◌++◌}
-use lib.Bits.{bit_and, bit_or, bit_xor, differ, and_step, or_step, xor_step, and_zero_l, or_zero_l, or_disjoint, or_add_and, and_le_l, and_le_r}
+use lib.Bits.{bit_and, bit_or, bit_xor, differ, and_step, or_step, xor_step, and_zero_l, or_zero_l, or_disjoint, or_add_and, or_self, and_le_l, and_le_r}
 use Rattle.bits.specs.Digits.{bit, lines_in}
-use Rattle.bits.proofs.Bools.{and_apart, either}
+use Rattle.bits.proofs.Bools.{and_parts, both, and_apart, either, same_test}
 
 -- the higher digits are those of the half
 pub bit_suc : (x k : ℕ) → bit x (suc k) ≡ bit (x / 2) k
@@ -183,6 +183,23 @@ top_one q n h = two (λ (q : ℕ). length (cond (eqb (q % 2) 1) (n ∷ []) []) �
 -- two masks are 0 where both together are
 pub or_parts : (a b : ℕ) → bit_or a b ≡ 0 → (a ≡ 0) × (b ≡ 0)
 or_parts a b z = (omega (arith, or_add_and a b, and_le_l a b, and_le_r a b), omega (arith, or_add_and a b, and_le_l a b, and_le_r a b))
+
+-- and exactly there
+pub or_zero : (a b : ℕ) → eqb (bit_or a b) 0 ≡ (eqb a 0 && eqb b 0)
+or_zero a b =
+    same_test (eqb (bit_or a b) 0) (eqb a 0 && eqb b 0)
+    (λ e.
+    let (p, q) = or_parts a b (eqb-true (bit_or a b) 0 e) in
+    both (eq-eqb _ _ p) (eq-eqb _ _ q))
+    (λ e. let (p, q) = and_parts (eqb a 0) (eqb b 0) e in eq-eqb _ _ (ap₂ bit_or (eqb-true a 0 p) (eqb-true b 0 q) ∙ or_self 0))
+
+-- what a mask shares with both together
+pub and_both : (m a b : ℕ) → bit_and m (bit_or a b) ≡ bit_or (bit_and m a) (bit_and m b)
+and_both m a b =
+    bits_equal _ _ (λ k.
+    bit-and _ _ k ∙ ap (λ (x : Bool). bit m k && x) (bit-or a b k)
+    ∙ and-or_distrib_left (bit m k) (bit a k) (bit b k)
+    ∙ sym (bit-or _ _ k ∙ ap₂ ◌||◌ (bit-and m a k) (bit-and m b k)))
 
 -- 0 has no set digit
 ones_none : ones 0 ≡ 0

@@ -96,23 +96,19 @@ impl Gate {
     }
 
     // Whether the record is a gate on n lines.
+    #[tactic(auto, using(crate::proofs::lemmas::gate::Valid::target_above, crate::proofs::lemmas::gate::Valid::valid_within, crate::proofs::lemmas::gate::Valid::free_beyond, crate::proofs::lemmas::gate::Valid::shared_beyond))]
     pub fn valid(self, n: u64) -> bool
         ensures { result ≡ valid n self }
     {
-        let controls = self.positive | self.negative;
         if n <= self.target {
             return false;
         }
-        if !below(controls, n) {
-            return false;
-        }
-        if (self.positive & self.negative) != 0 {
-            return false;
-        }
+        let controls = self.positive | self.negative;
+        let shared = self.positive & self.negative;
         if Gate::MAX_LINES < n {
-            return clear(controls, self.target);
+            return shared == 0 && clear(controls, self.target);
         }
-        (controls & line(self.target)) == 0
+        ((controls & (above(n) | line(self.target))) | shared) == 0
     }
 
     // Whether every positive control is 1 and every negative one 0.

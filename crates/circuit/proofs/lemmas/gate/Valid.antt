@@ -1,6 +1,6 @@
 -- The laws of a valid gate: what its tests say as facts and by lines. Assumes nothing.
-use Rattle.std.proofs.Common.{◌≡◌, ℕ, ◌+◌, ◌-◌, ◌*◌, ◌/◌, ◌^◌, ◌<◌, ◌≤◌, Bool, true, false, ◌&&◌, eqb, ltb, leb, length, sym, ap, ◌∙◌, subst, ap₂, lt_of_lt_of_le, le_of_lt, mod-lt, zero-mul, arith, pow_pos, pow_mono, ltb-true, lt-ltb, eq-eqb, eqb-true, leb-false, leb-true}
-use mathlib.Core.Bool.{and_comm}
+use Rattle.std.proofs.Common.{◌≡◌, ℕ, ◌+◌, ◌-◌, ◌*◌, ◌/◌, ◌%◌, ◌^◌, ◌<◌, ◌≤◌, Bool, true, false, ◌&&◌, eqb, ltb, leb, length, sym, ap, ◌∙◌, subst, ap₂, lt_of_lt_of_le, le_of_lt, mod-lt, zero-mul, arith, pow_pos, pow_mono, ltb-true, lt-ltb, eq-eqb, ne_eqb, eqb-true, leb-false, leb-true}
+use mathlib.Core.Bool.{and_comm, and-true}
 use native.Mathlib.Nat.{div-eq_of_lt}
 use lib.Bits.{bit_and, bit_or, or_lt, and_high, and_zero_r, or_add_and, and_le_l, and_le_r}
 use lib.Pow.{split, shr_mod}
@@ -9,7 +9,7 @@ use Rattle.bits.specs.Digits.{bit, lines_in}
 use Rattle.circuit.specs.Gate.{max_lines, valid, control_count}
 use Rattle.circuit.specs.Laws.{ValidByLines}
 use Rattle.bits.proofs.Bools.{and_parts, both, not_held, either, same_test, and_apart, or_none, none_or}
-use Rattle.bits.proofs.Digits.{bit-and, bit-or, bit_none, bits_equal, bit_above, below_of_bits, shared_none, line_clear, clear_line, lines_ones, ones_both}
+use Rattle.bits.proofs.Digits.{bit-and, bit-or, bit_none, bits_equal, bit_above, below_of_bits, shared_none, line_clear, clear_line, lines_ones, ones_both, or_zero, and_both}
 
 -- ---- `valid` as facts
 
@@ -35,15 +35,9 @@ facts_valid n g v =
     both (lt-ltb _ _ v.target_below)
     (both (lt-ltb _ _ v.positive_below) (both (lt-ltb _ _ v.negative_below) (both (eq-eqb _ _ v.apart) (eq-eqb _ _ v.free))))
 
-pub not_valid : (n : ℕ) (g : Gate) → (Valid n g → ⊥) → valid n g ≡ false
-not_valid n g h = not_held (valid n g) (λ e. h (valid_facts n g e))
-
--- where the first four tests hold, the last one decides
-pub valid_last : (n : ℕ) (g : Gate) → g.target < n → g.positive < 2 ^ n → g.negative < 2 ^ n → bit_and g.positive g.negative ≡ 0
-    → valid n g ≡ eqb (bit_and (bit_or g.positive g.negative) (2 ^ g.target)) 0
-unfolding valid
-valid_last n g a b c d =
-    ap₂ ◌&&◌ (lt-ltb _ _ a) (ap₂ ◌&&◌ (lt-ltb _ _ b) (ap₂ ◌&&◌ (lt-ltb _ _ c) (ap (λ (t : Bool). t && eqb (bit_and (bit_or g.positive g.negative) (2 ^ g.target)) 0) (eq-eqb _ _ d))))
+-- a target at n or above
+pub target_above : (n : ℕ) (g : Gate) → n ≤ g.target → false ≡ valid n g
+target_above n g h = sym (not_held (valid n g) (λ e. omega (arith, (valid_facts n g e).target_below)))
 
 -- ---- the target stands in neither mask
 
@@ -85,6 +79,50 @@ both_below n p q e =
     let h : bit_or p q < 2 ^ n = ltb-true _ _ e in
     let l : bit_or p q + bit_and p q ≡ p + q = or_add_and p q in
     (omega (arith, and_le_l p q, and_le_r p q), omega (arith, and_le_l p q, and_le_r p q))
+
+-- the tests of the masks, where the target is below n: none of the controls is at n or above, none is the target, and none is of both kinds
+masks_valid : (n : ℕ) (g : Gate) → g.target < n → ((ltb (bit_or g.positive g.negative) (2 ^ n) && eqb (bit_and (bit_or g.positive g.negative) (2 ^ g.target)) 0) && eqb (bit_and g.positive g.negative) 0) ≡ valid n g
+masks_valid n g t =
+    same_test _ (valid n g)
+    (λ e.
+    let (d, a) = and_parts _ _ e in
+    let (b, f) = and_parts _ _ d in
+    let (p, q) = both_below n g.positive g.negative b in
+    facts_valid n g (record { target_below = t; positive_below = p; negative_below = q; apart = eqb-true _ _ a; free = eqb-true _ _ f }))
+    (λ e.
+    let v = valid_facts n g e in
+    both (both (lt-ltb _ _ (or_lt n g.positive g.negative v.positive_below v.negative_below)) (eq-eqb _ _ v.free)) (eq-eqb _ _ v.apart))
+
+module _ (n : ℕ) (g : Gate) (hp : g.positive < 2 ^ max_lines) (hq : g.negative < 2 ^ max_lines) (t : g.target < n) where
+  below_all : bit_or g.positive g.negative < 2 ^ max_lines
+  below_all = or_lt max_lines g.positive g.negative hp hq
+
+  -- on at most 64 lines, by one mask
+  pub valid_within : (x y : ℕ) → n ≤ max_lines → x ≡ 2 ^ max_lines - 2 ^ n → y ≡ 2 ^ (g.target % max_lines)
+      → eqb (bit_or (bit_and (bit_or g.positive g.negative) (bit_or x y)) (bit_and g.positive g.negative)) 0 ≡ valid n g
+  valid_within x y l is_x is_y =
+      let c : ℕ = bit_or g.positive g.negative in
+      let k : g.target % max_lines ≡ g.target = omega arith in
+      or_zero (bit_and c (bit_or x y)) (bit_and g.positive g.negative)
+      ∙ ap (λ (b : Bool). b && eqb (bit_and g.positive g.negative) 0)
+      (ap (λ (z : ℕ). eqb z 0) (and_both c x y)
+      ∙ or_zero (bit_and c x) (bit_and c y)
+      ∙ ap₂ (λ (u v : ℕ). eqb (bit_and c u) 0 && eqb (bit_and c v) 0) is_x (is_y ∙ ap (◌^◌ 2) k)
+      ∙ ap (λ (b : Bool). b && eqb (bit_and c (2 ^ g.target)) 0) (above_none n c below_all))
+      ∙ masks_valid n g t
+
+  -- on more, where every mask is below 2 ^ n
+  beyond : max_lines < n → (eqb (bit_and (bit_or g.positive g.negative) (2 ^ g.target)) 0 && eqb (bit_and g.positive g.negative) 0) ≡ valid n g
+  beyond l =
+      ap (λ (b : Bool). (b && eqb (bit_and (bit_or g.positive g.negative) (2 ^ g.target)) 0) && eqb (bit_and g.positive g.negative) 0)
+      (sym (lt-ltb _ _ (lt_of_lt_of_le below_all (pow_mono (le_of_lt l)))))
+      ∙ masks_valid n g t
+
+  pub free_beyond : (b : Bool) → max_lines < n → b ≡ eqb (bit_and (bit_or g.positive g.negative) (2 ^ g.target)) 0 → bit_and g.positive g.negative ≡ 0 → b ≡ valid n g
+  free_beyond b l e z = e ∙ sym (and-true _) ∙ ap (λ (a : Bool). eqb (bit_and (bit_or g.positive g.negative) (2 ^ g.target)) 0 && a) (sym (eq-eqb _ _ z)) ∙ beyond l
+
+  pub shared_beyond : max_lines < n → (bit_and g.positive g.negative ≡ 0 → ⊥) → eqb (bit_and g.positive g.negative) 0 ≡ valid n g
+  shared_beyond l d = ne_eqb _ _ d ∙ sym (not_held (valid n g) (λ e. d (valid_facts n g e).apart))
 
 -- two masks that share no line
 pub valid_apart : (n : ℕ) (g : Gate) → Valid n g → (k : ℕ) → bit g.positive k ≡ true → bit g.negative k ≡ false
