@@ -1,5 +1,6 @@
 //! Times the C interface of the library against plain Rust, in one run and on the same inputs. Fails
-//! where the library takes more than `LIMIT` times as long.
+//! where the library takes more than `LIMIT` times as long. With the argument `steps` it times a step and
+//! a reduction alone and judges nothing: bench/steps_at does, over several places of the code.
 
 #[allow(dead_code)]
 #[path = "../tests/capi.rs"]
@@ -272,7 +273,20 @@ fn rows<F: Copy>(call: &str, works: &[Work], time: fn(&Work, F) -> f64, sides: [
     works.iter().map(ratio).fold(0.0, f64::max)
 }
 
+/// Code that moves what stands after it, by the bytes that bench/steps_at asks for.
+#[inline(never)]
+fn shift() {
+    #[cfg(shifted)]
+    unsafe {
+        core::arch::asm!(concat!(".skip ", env!("SHIFT"), ", 0x90"))
+    }
+}
+
 fn main() {
+    shift();
+    if std::env::args().nth(1).as_deref() == Some("steps") {
+        return steps::rows();
+    }
     let works = works();
     check_equal(&works);
     let head = ["call", "cascades", "ns", "plain ns", "ratio"];
@@ -282,7 +296,7 @@ fn main() {
         rows("cascade_run", &works, time_run, RUN),
         rows("cascade_inverse", &works, time_inverse, INVERSE),
         rows("cascade_sizes", &works, time_sizes, SIZES),
-        steps::highest(),
+        steps::miter_highest(),
         faults::highest(),
         emit::highest(),
     ];

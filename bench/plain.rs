@@ -241,7 +241,9 @@ fn search(gates: &[[u64; 3]]) -> Option<(usize, usize, u64, u64)> {
                 }
             } else {
                 let other_lines = other_positive | other_negative;
-                if (other_lines & bit) | (lines & 1u64.wrapping_shl(other as u32)) != 0 {
+                let targets_read = (other_lines & bit) | (lines & 1u64.wrapping_shl(other as u32));
+                let opposing = (positive & other_negative) | (negative & other_positive);
+                if targets_read != 0 && opposing == 0 {
                     break;
                 }
             }

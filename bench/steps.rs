@@ -63,18 +63,35 @@ fn open_cascade(random: &mut Random) -> Vec<u64> {
     words
 }
 
+/// Gates of which none blocks another and none matches, though each has every line of 12 to 63 but its
+/// target for a positive control: on lines 0 to 11 each has polarities of its own, which differ from those
+/// of any other on two lines at least. `numbers` has as many numbers below 2,048 as there are gates.
+fn passing_cascade(random: &mut Random, numbers: std::ops::Range<u64>) -> Vec<u64> {
+    const POLARITIES: u64 = 0xfff;
+    let mut words = Vec::new();
+    for number in numbers {
+        let positive = number << 1 | u64::from(number.count_ones() % 2);
+        let target = 12 + random.below(52);
+        let others = !POLARITIES & !(1 << target);
+        words.extend([positive | others, POLARITIES & !positive, target]);
+    }
+    words
+}
+
 fn works() -> Vec<Work> {
     let random = &mut Random::new(4);
     let mut cascade = |lines| inputs::few_controls(random, lines, GATES);
     let (narrow, wide) = (cascade(16), cascade(64));
     let (other_narrow, other_wide) = (cascade(16), cascade(64));
     let (open, other_open) = (open_cascade(random), open_cascade(random));
+    let (passing, other_passing) = (passing_cascade(random, 0..1024), passing_cascade(random, 1024..2048));
     vec![
         work("equal, 16 lines", 16, narrow.clone(), narrow.clone()),
         work("equal, 64 lines", 64, wide.clone(), wide.clone()),
         work("unequal, 16 lines", 16, narrow, other_narrow),
         work("unequal, 64 lines", 64, wide, other_wide),
         work("no match, nothing blocks", 64, open, other_open),
+        work("no match, all pass by opposition", 64, passing, other_passing),
     ]
 }
 
@@ -113,36 +130,35 @@ fn time_miter(work: &Work, call: Miter) -> f64 {
     })
 }
 
-/// Prints a row of a call on the miter, and gives the ratio.
+/// Prints a row of a call on the miter, of about a fifth of a second of each side.
 fn row<A>(
     name: &str,
     work: &Work,
-    rounds: usize,
     library: fn(u64, &mut [u64]) -> A,
     plain: fn(u64, &mut [u64]) -> A,
-) -> f64 {
+) {
     let side = |call| move || time_on_miter(work, call);
-    compare(name, work.name, rounds, side(library), side(plain))
+    let rounds = (2e8 / time_on_miter(work, plain)) as usize;
+    compare(name, work.name, rounds.clamp(31, 1001), side(library), side(plain));
 }
 
-/// Prints a row for each call and work, and gives the highest ratio.
-pub fn highest() -> f64 {
+/// Prints a row for each call in place and work.
+pub fn rows() {
+    for work in &works() {
+        check_equal(work);
+        row("cascade_step", work, library_step, plain::step);
+        row("cascade_reduce", work, library_reduce, plain::reduce);
+    }
+}
+
+/// Prints a row of the miter for each work, and gives the highest ratio.
+pub fn miter_highest() -> f64 {
     let mut highest: f64 = 0.0;
     for work in &works() {
         check_equal(work);
-        let (steps, reductions) = (101, 31);
-        let step = row("cascade_step", work, steps, library_step, plain::step);
-        let reduce = row(
-            "cascade_reduce",
-            work,
-            reductions,
-            library_reduce,
-            plain::reduce,
-        );
         let side = |call: Miter| move || time_miter(work, call);
         let (library, plain) = (side(library_miter), side(plain::miter));
-        let miter = compare("cascade_miter", work.name, steps, library, plain);
-        highest = highest.max(step).max(reduce).max(miter);
+        highest = highest.max(compare("cascade_miter", work.name, 101, library, plain));
     }
     highest
 }

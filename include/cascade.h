@@ -176,7 +176,10 @@ struct cascade_count_answer cascade_inverse(uint64_t lines, const uint64_t *word
  * order. Refused with 2, 11, 6, 7 of the first, the same of the second, 8, 10. */
 struct cascade_count_answer cascade_miter(uint64_t na, const uint64_t *a, size_t a_len, uint64_t nb, const uint64_t *b, size_t b_len, uint64_t *out, size_t out_len);
 
-/* One reduction step, in place. Refused with 2, 11, 6, 7. */
+/* One reduction step, in place: on the lowest i, then the lowest j above it, such that gates i and j
+ * match and gate i may pass every gate between. Two gates may pass each other where neither's target
+ * is a control of the other, or some line is a positive control of one and a negative control of the
+ * other: exactly where swapping them changes no output. Refused with 2, 11, 6, 7. */
 struct cascade_step_answer cascade_step(uint64_t lines, uint64_t *words, size_t words_len);
 
 /* Steps until none, in place: the gates left, the pairs and the merges (drops and turns). Refused

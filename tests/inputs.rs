@@ -1,7 +1,7 @@
 //! Inputs of the calls: line counts, gates, cascades good and damaged, states, buffer lengths.
 
 use crate::random::Random;
-use crate::reference::{self, CASCADE_GATES, MITER_GATES};
+use crate::reference::{self, Gate, CASCADE_GATES, MITER_GATES};
 
 /// A line count and words as a call gets them, good or bad, and a state to start from.
 #[derive(Clone, Debug)]
@@ -118,6 +118,22 @@ fn control_lines(random: &mut Random, n: u64) -> u64 {
         5 => random.word(),
         _ => u64::MAX,
     }
+}
+
+/// All gates on n lines, where these are few.
+pub fn every_gate(n: u64) -> Vec<Gate> {
+    let mut gates = Vec::new();
+    for positive in 0..1 << n {
+        for negative in 0..1 << n {
+            gates.extend((0..n).map(|target| Gate {
+                positive,
+                negative,
+                target,
+            }));
+        }
+    }
+    gates.retain(|gate| gate.valid(n));
+    gates
 }
 
 /// Changes a gate on n lines in one of the ways that 01 forbids.

@@ -19,6 +19,9 @@ const PAIRS: usize = 3_000;
 const SOLVED: usize = 400;
 /// Lists with more variables are not tried by every assignment.
 const MOST_VARIABLES: u64 = 18;
+/// Pairs, equal ones and others, of which at least so many are tried after a step that only T-01's rule
+/// allows.
+const AFTER_PASSING: u64 = 100;
 
 // ---- cascades by simulation, written out line by line
 
@@ -49,6 +52,36 @@ fn random_gate(random: &mut Random, lines: u64) -> Gate {
     [positive, controls & !positive, target]
 }
 
+/// Two gates that T-01's rule lets pass and 01's does not, where the draw gives such: the second has the
+/// first's target for a control, and a control of opposite polarity on another line.
+fn passing_gates(random: &mut Random, lines: u64) -> Option<[Gate; 2]> {
+    let g = random_gate(random, lines);
+    let own = g[0] | g[1];
+    let opposing = random.below(lines);
+    if !bit(own, opposing) {
+        return None;
+    }
+    let target = random.below(lines);
+    if target == g[2] || target == opposing {
+        return None;
+    }
+    let mut masks = [1 << g[2], 0];
+    masks.swap(0, random.below(2) as usize);
+    masks[usize::from(bit(g[0], opposing))] |= 1 << opposing;
+    Some([g, [masks[0], masks[1], target]])
+}
+
+/// A is g h g of such gates, and B is h, or two gates of which one is h: the first step of the miter takes
+/// out both g, which only T-01's rule allows.
+fn passing_pair(random: &mut Random, lines: u64) -> Option<(Vec<Gate>, Vec<Gate>)> {
+    let [g, h] = passing_gates(random, lines)?;
+    let mut b = vec![h];
+    if random.one_in(2) {
+        b.insert(random.index(2), random_gate(random, lines));
+    }
+    Some((vec![g, h, g], b))
+}
+
 /// B is often A with few changes, so that steps find matches and many pairs are equal.
 fn random_pair(random: &mut Random, lines: u64) -> (Vec<Gate>, Vec<Gate>) {
     let a: Vec<Gate> = (0..random.below(4)).map(|_| random_gate(random, lines)).collect();
@@ -66,6 +99,9 @@ fn random_pair(random: &mut Random, lines: u64) -> (Vec<Gate>, Vec<Gate>) {
 }
 
 // ---- the calls
+
+const EQUAL_AFTER_PASSING: &str = "pair: equal, after a step that only T-01's rule allows";
+const DIFFERS_AFTER_PASSING: &str = "pair: differs, after a step that only T-01's rule allows";
 
 /// How often each kind of call and answer occurred.
 type Seen = BTreeMap<&'static str, u64>;
@@ -85,15 +121,25 @@ fn any_lines(random: &mut Random, lines: u64) -> u64 {
     }
 }
 
-fn step(words: &mut Vec<u64>, lines: u64, seen: &mut Seen) {
+/// Whether the target of one of two gates is a control of the other.
+fn reads(g: &[u64], h: &[u64]) -> bool {
+    bit(h[0] | h[1], g[2]) || bit(g[0] | g[1], h[2])
+}
+
+/// Makes a step, and tells whether only T-01's rule allows it.
+fn step(words: &mut Vec<u64>, lines: u64, seen: &mut Seen) -> bool {
     let before = words.clone();
     let answer = unsafe { capi::cascade_step(lines, words.as_mut_ptr(), words.len()) };
     if answer.number == 0 && answer.found == 1 {
         words.truncate(3 * answer.gates as usize);
         see(seen, "step: found");
+        let gates: Vec<&[u64]> = before.chunks(3).collect();
+        let (i, j) = (answer.i as usize, answer.j as usize);
+        gates[i + 1..j].iter().any(|between| reads(gates[i], between))
     } else {
         assert_eq!(*words, before, "a step that found nothing changed the words");
         see(seen, if answer.number == 0 { "step: none" } else { "step: refused" });
+        false
     }
 }
 
@@ -196,15 +242,24 @@ fn main() {
     let (mut tried, mut solved) = (0, 0);
     while tried < PAIRS {
         let lines = 1 + random.below(3);
-        let (a, b) = random_pair(&mut random, lines);
+        let mut passing = None;
+        if lines == 3 && !random.one_in(3) {
+            passing = (0..100).find_map(|_| passing_pair(&mut random, lines));
+        }
+        let fewest = u64::from(passing.is_some());
+        let (a, b) = match passing {
+            Some(pair) => pair,
+            None => random_pair(&mut random, lines),
+        };
         let mut words = miter(lines, &a, &b);
-        let calls = random.below(4);
+        let calls = fewest + random.below(4 - fewest);
+        let mut wider = false;
         for _ in 0..calls {
             let number = any_lines(&mut random, lines);
             if random.one_in(3) {
                 reduce(&mut words, number, &mut seen);
             } else {
-                step(&mut words, number, &mut seen);
+                wider |= step(&mut words, number, &mut seen);
             }
         }
         let list = emit(lines, &words);
@@ -216,6 +271,9 @@ fn main() {
         assert_eq!(enumerate(lines, &list), right, "lines {lines}, A {a:?}, B {b:?}, words {words:?}");
         see(&mut seen, if right.is_empty() { "pair: equal" } else { "pair: differs" });
         see(&mut seen, if calls == 0 { "pair: no call" } else { "pair: after calls" });
+        if wider {
+            see(&mut seen, if right.is_empty() { EQUAL_AFTER_PASSING } else { DIFFERS_AFTER_PASSING });
+        }
         if with_solver && solved < SOLVED {
             assert_eq!(solve(lines, &list), right, "the solver: lines {lines}, A {a:?}, B {b:?}, words {words:?}");
             solved += 1;
@@ -237,6 +295,10 @@ fn main() {
         "pair: after calls",
     ] {
         assert!(seen.contains_key(what), "never seen: {what}");
+    }
+    for what in [EQUAL_AFTER_PASSING, DIFFERS_AFTER_PASSING] {
+        let count = seen.get(what).copied().unwrap_or(0);
+        assert!(count >= AFTER_PASSING, "seen {count} times: {what}");
     }
     if !with_solver {
         println!("****************************************************************");

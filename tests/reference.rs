@@ -1,6 +1,7 @@
-//! The rules of document 01, a second time. Every rule is spelled line by line and in 01's order,
-//! so that it can be held against the text. No code is shared with the crates, and speed is no aim.
-//! A call of 01 is a function here: it answers its values, or the refusal.
+//! The rules of document 01, a second time, with the requests of document 02 that have landed (T-01).
+//! Every rule is spelled line by line and in the document's order, so that it can be held against the
+//! text. No code is shared with the crates, and speed is no aim. A call of 01 is a function here: it
+//! answers its values, or the refusal.
 
 /// The most gates of one cascade.
 pub const CASCADE_GATES: usize = 1024;
@@ -284,9 +285,19 @@ pub enum Match {
     Turn,
 }
 
-/// Neither's target is a control of the other.
-pub fn may_pass(g: Gate, h: Gate) -> bool {
+/// 01: neither's target is a control of the other.
+pub fn targets_uncontrolled(g: Gate, h: Gate) -> bool {
     h.control(g.target).is_none() && g.control(h.target).is_none()
+}
+
+/// T-01: neither target is a control of the other, or some line is a positive control of one and a
+/// negative control of the other.
+pub fn may_pass(g: Gate, h: Gate) -> bool {
+    let opposing = |k| match (g.control(k), h.control(k)) {
+        (Some(first), Some(second)) => first != second,
+        _ => false,
+    };
+    targets_uncontrolled(g, h) || (0..64).any(opposing)
 }
 
 /// Which match holds of two gates, and the gate that remains.

@@ -1,5 +1,7 @@
-//! Checks of the reference itself: the starred rows of document 01 and small cases worked by hand.
+//! Checks of the reference itself: the starred rows of document 01, rows of the requests of document
+//! 02, and small cases worked by hand.
 
+use crate::inputs;
 use crate::reference::{self, Clause, ClauseList, Found, Gate};
 use crate::reference::{Match, Picked, Reduced, Refusal, Sizes};
 
@@ -14,6 +16,7 @@ pub fn check() {
     emission();
     miter();
     starred_steps();
+    passing_steps();
     reductions();
     comparisons();
     faults();
@@ -204,6 +207,20 @@ fn starred_steps() {
     assert_eq!(words, [t2_with_1, t1, t2_with_1].concat());
 }
 
+/// T-01: t2+0 passes t1+2-0, which reads its target, since line 0 is opposed; and not t1+2.
+fn passing_steps() {
+    let t2_with_0 = [1, 0, 2];
+    let t1_with_2 = [4, 0, 1];
+    let t1_with_2_not_0 = [4, 1, 1];
+    let (step, words) = after_step(&[t2_with_0, t1_with_2_not_0, t2_with_0]);
+    let (i, j, kind, gates) = (0, 2, Match::Pair, 1);
+    assert_eq!(step, Some(Found { i, j, kind, gates }));
+    assert_eq!(words, [t1_with_2_not_0, [0; 3], [0; 3]].concat());
+    let (step, words) = after_step(&[t2_with_0, t1_with_2, t2_with_0]);
+    assert_eq!(step, None);
+    assert_eq!(words, [t2_with_0, t1_with_2, t2_with_0].concat());
+}
+
 /// Two pairs; a drop whose gate then makes a pair; nothing.
 fn reductions() {
     let reduce = |gates: &[[u64; 3]]| reference::reduce(3, &mut gates.concat());
@@ -277,17 +294,7 @@ fn faults() {
 /// Every assignment of small lists: an input that the gates change is spelled by exactly one that
 /// satisfies, and no other input by any.
 fn models() {
-    let mut gates = Vec::new();
-    for words in 0..3 * 8 * 8 {
-        let gate = Gate {
-            positive: words % 8,
-            negative: words / 8 % 8,
-            target: words / 64,
-        };
-        if gate.valid(3) {
-            gates.push(gate);
-        }
-    }
+    let gates = inputs::every_gate(3);
     for first in &gates {
         for second in &gates {
             check_models(3, &[*first, *second]);

@@ -19,6 +19,7 @@ const CLASSES: &[&str] = &[
     "reduced: pairs and merges",
     "reduced: all gates gone",
     "reduced: a chain of three steps or more",
+    "reduced: with a step that only T-01's rule allows",
     "reduced: 2,048 gates to none",
     "the same with another n",
 ];
@@ -49,20 +50,23 @@ fn check(case: &Single, counts: &mut Counts) {
     case.check("cascade_reduce", call, answer, &wanted);
     classes::count_single(counts, case, MITER_GATES, &[], answer.number);
     if answer.number == 0 {
-        check_chain(cascade, &wanted, answer);
+        let wider = check_chain(cascade, &wanted, answer);
+        counts.add_if(wider, "reduced: with a step that only T-01's rule allows");
         cases::check_other_lines(cascade, &[64], call, answer, &wanted, counts);
         count(cascade, answer, counts);
     }
 }
 
-/// Steps of the library, each on the gates that then stand and with any n that serves.
-fn check_chain(case: &Cascade, after: &[u64], answer: ReduceAnswer) {
+/// Steps of the library, each on the gates that then stand and with any n that serves. Tells whether
+/// 01's own rule forbids one of them.
+fn check_chain(case: &Cascade, after: &[u64], answer: ReduceAnswer) -> bool {
     let mut words = case.words.clone();
-    let (mut pairs, mut merges) = (0, 0);
+    let (mut pairs, mut merges, mut wider) = (0, 0, false);
     loop {
         let lines = if pairs % 2 == 0 { case.lines } else { 64 };
         let mut buffer = Buffer::new(&words);
         let step = step::call(lines, &mut buffer);
+        wider |= step::only_wider(&reference::gates_of(&words), step);
         words = buffer.contents()[..3 * step.gates as usize].to_vec();
         if step.found == 0 {
             break;
@@ -93,6 +97,7 @@ fn check_chain(case: &Cascade, after: &[u64], answer: ReduceAnswer) {
         before,
         gates + 2 * pairs + merges,
     );
+    wider
 }
 
 fn count(case: &Cascade, answer: ReduceAnswer, counts: &mut Counts) {

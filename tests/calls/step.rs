@@ -1,4 +1,5 @@
-//! cascade_step, and the laws that a step keeps the run and does not depend on the n given.
+//! cascade_step, and the laws that a step keeps the run and does not depend on the n given, and that
+//! gates pass exactly when the two orders give the same on every state.
 
 use crate::capi::{self, StepAnswer};
 use crate::cases::{self, Single};
@@ -11,6 +12,8 @@ use crate::reference::{self, Gate, Match, MITER_GATES};
 
 const RANDOM_CASES: u64 = 100_000;
 
+const TURN_WIDER: &str = "found: turn, only by T-01's rule";
+
 const CLASSES: &[&str] = &[
     "found: pair",
     "found: drop",
@@ -20,6 +23,12 @@ const CLASSES: &[&str] = &[
     "found: gates passed",
     "found: not from the first gate",
     "found: gates after it move",
+    "found: pair, only by T-01's rule",
+    "found: drop, only by T-01's rule",
+    TURN_WIDER,
+    "the two orders are alike by 01's rule",
+    "the two orders are alike only by T-01's rule",
+    "the two orders differ",
     "blocked: two gates match behind one that may not be passed",
     "none: gates of one target that do not match",
     "none: no gates",
@@ -33,6 +42,9 @@ pub fn section(random: &mut Random) -> Counts {
     cases::each_edge(random, MITER_GATES, &mut check);
     each_two_gates(&mut check);
     cases::each_drawn(random, RANDOM_CASES, inputs::any_or_matching, &mut check);
+    for lines in [3, 4] {
+        check_orders(lines, &mut counts);
+    }
     counts
 }
 
@@ -52,6 +64,34 @@ fn each_two_gates(check: &mut impl FnMut(Single)) {
                 let cascade = inputs::from_zero(3, words);
                 check(Single::new(Cascade { state, ..cascade }, false));
             }
+        }
+    }
+}
+
+/// Every two gates g and h on the lines, as g h g. Gates may pass exactly when the two orders give the
+/// same on every state. Where g and h do not match, only the first and the third gate do, so that the
+/// step takes out both or finds nothing.
+fn check_orders(lines: u64, counts: &mut Counts) {
+    let gates = inputs::every_gate(lines);
+    for g in &gates {
+        for h in &gates {
+            let words = [g, h, g].map(|gate| [gate.positive, gate.negative, gate.target]);
+            let case = Single::new(inputs::from_zero(lines, words.concat()), false);
+            check(&case, counts);
+            let alike = (0..1 << lines).all(|s| h.apply(g.apply(s)) == g.apply(h.apply(s)));
+            let passes = reference::may_pass(*g, *h);
+            compare(&case, "the reference passes where the orders are alike", passes, alike);
+            if reference::matched(*g, *h).is_none() {
+                let answer = call(lines, &mut Buffer::new(&case.cascade.words));
+                let told = [answer.found, answer.i, answer.j, answer.kind, answer.gates];
+                let wanted = if alike { [1, 0, 2, 0, 1] } else { [0, 0, 0, 0, 3] };
+                compare(&case, "a step passes where the orders are alike", told, wanted);
+            }
+            counts.add(match (alike, reference::targets_uncontrolled(*g, *h)) {
+                (true, true) => "the two orders are alike by 01's rule",
+                (true, false) => "the two orders are alike only by T-01's rule",
+                (false, _) => "the two orders differ",
+            });
         }
     }
 }
@@ -114,16 +154,25 @@ fn count_found(gates: &[Gate], answer: StepAnswer, counts: &mut Counts) {
     let (i, j) = (answer.i as usize, answer.j as usize);
     let controls = |g: Gate| (0..64).filter(|k| g.control(*k).is_some()).count();
     let first_longer = controls(gates[i]) > controls(gates[j]);
-    match reference::matched(gates[i], gates[j]).map(|found| found.0) {
-        Some(Match::Pair) => counts.add("found: pair"),
-        Some(Match::Drop) => counts.add("found: drop"),
-        _ if first_longer => counts.add("found: turn, the first gate is longer"),
-        _ => counts.add("found: turn, the second gate is longer"),
-    }
+    let (found, wider) = match reference::matched(gates[i], gates[j]).map(|found| found.0) {
+        Some(Match::Pair) => ("found: pair", "found: pair, only by T-01's rule"),
+        Some(Match::Drop) => ("found: drop", "found: drop, only by T-01's rule"),
+        _ if first_longer => ("found: turn, the first gate is longer", TURN_WIDER),
+        _ => ("found: turn, the second gate is longer", TURN_WIDER),
+    };
+    counts.add(found);
+    counts.add_if(only_wider(gates, answer), wider);
     counts.add_if(j == i + 1, "found: neighbours");
     counts.add_if(j > i + 1, "found: gates passed");
     counts.add_if(i > 0, "found: not from the first gate");
     counts.add_if(j + 1 < gates.len(), "found: gates after it move");
+}
+
+/// Whether 01's own rule forbids the step that was found: gate i passes one that it may pass only by
+/// T-01.
+pub fn only_wider(gates: &[Gate], answer: StepAnswer) -> bool {
+    let (i, j) = (answer.i as usize, answer.j as usize);
+    (i + 1..j).any(|k| !reference::targets_uncontrolled(gates[i], gates[k]))
 }
 
 /// Whether two gates match of which the first may not pass one between.

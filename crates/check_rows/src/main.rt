@@ -49,6 +49,19 @@ fn main(rt: HostRuntime) {
     print_check(&rt, 3, &a, 3, &b, &calls, &mut out);
     // A and A: the reduction leaves no gate.
     print_check(&rt, 3, &a, 3, &a, &[Call::ReduceOn(3)], &mut out);
+    // Rows of T-01, a step each: t2+0 passes t1+2-0 in t2+0 t1+2-0 t2+0 (against t1+2-0), and not t1+2 in t2+0 t1+2 t2+0 (against no gate).
+    let opposed = [1, 0, 2, 4, 1, 1, 1, 0, 2];
+    print_check(
+        &rt,
+        3,
+        &opposed,
+        3,
+        &[4, 1, 1],
+        &[Call::StepOn(3)],
+        &mut out,
+    );
+    let blocked = [1, 0, 2, 4, 0, 1, 1, 0, 2];
+    print_check(&rt, 3, &blocked, 3, &[], &[Call::StepOn(3)], &mut out);
     // 8 and 7 of the miter; 10 of the miter and of the emission.
     print_check(&rt, 3, &a, 4, &b, &calls, &mut out);
     print_check(&rt, 3, &a, 3, &[4, 0, 3], &calls, &mut out);

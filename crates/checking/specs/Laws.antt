@@ -1,7 +1,6 @@
 -- What this crate proves, one record of laws a group.
 use Rattle.checking.specs.MiterLaws.{MiterLaws}
 use Rattle.checking.specs.StepLaws.{StepLaws}
-use Rattle.checking.specs.Wider.{WiderLaws}
 use Rattle.checking.specs.ReduceLaws.{ReduceLaws}
 use Rattle.checking.specs.StandIns.{StandInLaws}
 use Rattle.checking.specs.ClauseLaws.{ClauseLaws}
@@ -14,7 +13,6 @@ use Rattle.checking.specs.FaultLaws.{FaultLaws}
 pub record CheckingLaws : Type 0 where
   pub miter : MiterLaws
   pub steps : StepLaws
-  pub wider : WiderLaws
   pub reductions : ReduceLaws
   pub stand_ins : StandInLaws
   pub clauses : ClauseLaws

@@ -4,7 +4,6 @@ pub mod Step
 pub mod Reduce
 pub mod MiterLaws
 pub mod StepLaws
-pub mod Wider
 pub mod ReduceLaws
 pub mod StandIns
 pub mod Clauses

@@ -1,5 +1,5 @@
--- Two gates: whether they may pass each other, how they match, and what remains, by document 01.
-use Rattle.std.specs.Prelude.{ℕ, ◌^◌, Bool, cond, ◌&&◌, List, [], ◌∷◌, ◌==◌, bit_and, bit_or, bit_xor, count_ones}
+-- Two gates: how they match, and what remains, by document 01; whether they may pass each other, by T-01 of document 02.
+use Rattle.std.specs.Prelude.{ℕ, ◌^◌, Bool, cond, not, ◌&&◌, ◌||◌, List, [], ◌∷◌, ◌==◌, bit_and, bit_or, bit_xor, count_ones}
 use Rattle.std.specs.declared.option.Option.{Option}
 use Rattle.std.specs.declared.option.Option.TheVariants.{None, Some}
 use Rattle.circuit.specs.declared.gate.Gate.{Gate}
@@ -13,8 +13,16 @@ unfoldable pub control_lines : Gate → ℕ
 control_lines g = bit_or g.positive g.negative
 
 -- neither's target is a control of the other
+unfoldable pub targets_uncontrolled : Gate → Gate → Bool
+targets_uncontrolled g h = bit_and (control_lines h) (2 ^ g.target) == 0 && bit_and (control_lines g) (2 ^ h.target) == 0
+
+-- the lines that are a positive control of one and a negative control of the other
+unfoldable pub opposing : Gate → Gate → ℕ
+opposing g h = bit_or (bit_and g.positive h.negative) (bit_and g.negative h.positive)
+
+-- neither's target is a control of the other, or some line is a positive control of one and a negative control of the other
 unfoldable pub may_pass : Gate → Gate → Bool
-may_pass g h = bit_and (control_lines h) (2 ^ g.target) == 0 && bit_and (control_lines g) (2 ^ h.target) == 0
+may_pass g h = targets_uncontrolled g h || not (opposing g h == 0)
 
 -- what two gates that differ on one control line leave: without that control, and with it reversed
 unfoldable pub control_removed : Gate → Gate → Gate

@@ -1,4 +1,4 @@
--- The starred rows of document 01, as one table with one fact about all its rows.
+-- The starred rows of document 01, as one table with one fact about all its rows; and rows of T-01 of document 02.
 use Rattle.std.specs.Prelude.{◌≡◌, ℕ, ◌+◌, ◌*◌, Bool, true, false, ◌&&◌, List, [], ◌∷◌, length, take, replicate, ◌==◌}
 use Rattle.bits.specs.Lists.{All}
 use Rattle.circuit.specs.declared.gate.Gate.{Gate}
@@ -49,6 +49,12 @@ t2+0-1 = gate 2 1 2
 abbrev pub t2_0_1 : Gate
 t2_0_1 = gate 2 0 3
 
+abbrev pub t1+2 : Gate
+t1+2 = gate 1 4 0
+
+abbrev pub t1+2-0 : Gate
+t1+2-0 = gate 1 4 1
+
 abbrev pub rows : List Row
 rows =
     run 3 (t2+0+1 ∷ []) 3 7
@@ -65,6 +71,13 @@ rows =
     ∷ sizes 1 [] [] 2 2 6
     ∷ sizes 3 (t2+0+1 ∷ []) [] 8 8 34
     ∷ faults 3 (t2+0 ∷ []) (t2+0+1 ∷ []) (1 ∷ []) (2 ∷ 0 ∷ [])
+    ∷ []
+
+-- T-01: t2+0 may pass t1+2-0, since line 0 is a positive control of one and a negative control of the other. It may not pass t1+2. Its target is a control of both.
+abbrev pub passing_rows : List Row
+passing_rows =
+    step 3 (t2+0 ∷ t1+2-0 ∷ t2+0 ∷ []) (t1+2-0 ∷ [])
+    ∷ step_none 3 (t2+0 ∷ t1+2 ∷ t2+0 ∷ [])
     ∷ []
 
 -- a call is served with this number
@@ -114,3 +127,4 @@ RowsHold rs = All (λ (r : Row). right r ≡ true) rs
 -- every row is right
 pub record RowLaws : Type 0 where
   pub all : RowsHold rows
+  pub passing : RowsHold passing_rows

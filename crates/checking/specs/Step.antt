@@ -1,4 +1,4 @@
--- The reduction step: the search, and what a step answers and leaves, by document 01.
+-- The reduction step: the search, and what a step answers and leaves, by document 01, with T-01's rule of passing.
 use Rattle.std.specs.Prelude.{ℕ, ◌+◌, ◌-◌, ◌*◌, cond, List, [], ◌∷◌, ◌++◌, length, take, drop, replicate, Option, Some, None}
 use Rattle.circuit.specs.declared.gate.Gate.{Gate}
 use Rattle.circuit.specs.Gate.{max_miter_gates}

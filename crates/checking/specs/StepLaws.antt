@@ -1,18 +1,33 @@
--- What is proved of gates that may pass, of matches and of a step, in document 01's words.
+-- What is proved of gates that may pass, in the words of document 02's T-01, and of matches and of a step, in document 01's words.
 use Rattle.std.specs.Prelude.{◌≡◌, ℕ, ◌+◌, ◌*◌, ◌<◌, ◌≤◌, Bool, true, false, not, ◌↔◌, List, [], ◌∷◌, length, take, ◌≢◌, slice_index_or}
 use Rattle.bits.specs.Digits.{bit}
 use Rattle.circuit.specs.declared.gate.Gate.{Gate}
 use Rattle.circuit.specs.Gate.{max_lines, max_miter_gates, valid, apply}
 use Rattle.circuit.specs.Outcome.{served, refused, Untouched}
 use Rattle.circuit.specs.Words.{gates_of, gate_in, all_valid, Cascade, WordsRefused}
-use Rattle.circuit.specs.Run.{run}
-use Rattle.checking.specs.Match.{may_pass, Kind, Match, matched, match_of, kind_of, remaining}
+use Rattle.circuit.specs.Run.{run, Equal}
+use Rattle.checking.specs.Match.{targets_uncontrolled, may_pass, Kind, Match, matched, match_of, kind_of, remaining}
 use Rattle.checking.specs.Step.{replaced, Step, found, none, step_gates, with_count, step_outcome, step_buffer}
 
 -- line t is no control of g
 pub record Uncontrolled (g : Gate) (t : ℕ) : Type 0 where
   pub not_positive : bit g.positive t ≡ false
   pub not_negative : bit g.negative t ≡ false
+
+-- line k is a positive control of one and a negative control of the other
+pub data Opposed (g h : Gate) (k : ℕ) : Type 0 where
+  first_positive : bit g.positive k ≡ true → bit h.negative k ≡ true → Opposed g h k
+  second_positive : bit g.negative k ≡ true → bit h.positive k ≡ true → Opposed g h k
+
+-- neither's target is a control of the other, or there is such a line
+pub data PassesByLines (g h : Gate) : Type 0 where
+  both_uncontrolled : Uncontrolled h g.target → Uncontrolled g h.target → PassesByLines g h
+  opposed : (k : ℕ) → Opposed g h k → PassesByLines g h
+
+-- a rule by which two gates pass exactly when swapping them leaves the function unchanged on every state of the lines
+abbrev pub PassingOf : (Gate → Gate → Bool) → Type 0
+PassingOf rule =
+    (n : ℕ) (g h : Gate) → n ≤ max_lines → valid n g ≡ true → valid n h ≡ true → (rule g h ≡ true) ↔ Equal n (g ∷ h ∷ []) (h ∷ g ∷ [])
 
 -- g has all controls of `less` and exactly one more, on line k, positive or negative
 pub record OneMore (g less : Gate) (k : ℕ) (positive : Bool) : Type 0 where
@@ -68,8 +83,12 @@ pub record Stands (n : ℕ) (ws last : List ℕ) (hs : List Gate) : Type 0 where
   pub freed : (k : ℕ) → 3 * length hs ≤ k → k < length last → slice_index_or last k 1 ≡ 0
 
 pub record StepLaws : Type 0 where
-  -- may pass: neither's target is a control of the other
-  pub pass_lines : (g h : Gate) → (may_pass g h ≡ true) ↔ ((Uncontrolled h g.target) × (Uncontrolled g h.target))
+  -- that neither's target is a control of the other, by masks, is that by lines
+  pub uncontrolled_lines : (g h : Gate) → (targets_uncontrolled g h ≡ true) ↔ ((Uncontrolled h g.target) × (Uncontrolled g h.target))
+  -- may pass by masks is that by lines
+  pub pass_lines : (g h : Gate) → (may_pass g h ≡ true) ↔ PassesByLines g h
+  -- gates may pass exactly when swapping them leaves the function unchanged
+  pub pass_exactly : PassingOf may_pass
   -- gates that may pass commute on every state
   pub pass_commute : (g h : Gate) → valid max_lines g ≡ true → valid max_lines h ≡ true → may_pass g h ≡ true → (s : ℕ) → apply h (apply g s) ≡ apply g (apply h s)
   -- the match by masks is that by lines, and at most one holds of two gates

@@ -45,7 +45,8 @@ pub struct Stepped {
     pub gates: usize,
 }
 
-// Whether two gates may pass each other: neither's target is a control of the other.
+// Whether two gates may pass each other: neither's target is a control of the other, or some line is a positive control of one and a negative control of the other.
+#[tactic(auto, using(crate::proofs::lemmas::step::Passing::pass_unread, crate::proofs::lemmas::step::Passing::pass_opposed))]
 fn may_pass(g: Gate, h: Gate) -> bool
     requires first_target { g.target < max_lines }
     requires second_target { h.target < max_lines }
@@ -55,7 +56,10 @@ fn may_pass(g: Gate, h: Gate) -> bool
     let g_target = g.target;
     let h_lines = h.positive | h.negative;
     let h_target = h.target;
-    ((h_lines & circuit::gate::line(g_target)) | (g_lines & circuit::gate::line(h_target))) == 0
+    let targets_read = (h_lines & circuit::gate::line(g_target))
+        | (g_lines & circuit::gate::line(h_target));
+    let opposing = (g.positive & h.negative) | (g.negative & h.positive);
+    targets_read == 0 || opposing != 0
 }
 
 // How two gates match, if they do.

@@ -93,7 +93,7 @@ pub fn check_gates(n: u64, words: &[u64], limit: usize) -> Result<usize, Refusal
     check_each(n, words)
 }
 
-// The number of gates, at most `limit`, of a cascade on n lines; else 2, 11, 6 or 7. Not inlined, so that its loop has the registers for itself.
+// The number of gates, at most `limit`, of a cascade on n lines; else 2, 11, 6 or 7. Not inlined: a loop of its own takes less time (docs/DECISIONS.md, Speed).
 #[inline(never)]
 #[tactic(auto, unfolding(crate::specs::Words::check_outcome))]
 pub fn check_cascade(n: u64, words: &[u64], limit: usize) -> Result<usize, Refusal>

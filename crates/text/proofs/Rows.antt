@@ -4,7 +4,7 @@ use Rattle.bits.specs.Lists.{fold}
 use Rattle.bits.specs.Digits.{bit}
 use Rattle.circuit.specs.Gate.{valid, fires, inverted, apply, controls_below}
 use Rattle.circuit.specs.File.{lines_of, parted_by, same, number_of, line_of, control_of, controls_from, among, rising_from, mask_of, closed_gate, gate_fields, header_fields, read_from, reading}
-use Rattle.checking.specs.Match.{control_lines, may_pass, control_removed, control_inverted, differing, match_of}
+use Rattle.checking.specs.Match.{control_lines, targets_uncontrolled, opposing, may_pass, control_removed, control_inverted, differing, match_of}
 use Rattle.checking.specs.Step.{scan_from, search_from, replaced, step_gates}
 use Rattle.checking.specs.Reduce.{reduce_by, reduce_gates}
 use Rattle.checking.specs.Compare.{lowest_from}
@@ -24,7 +24,7 @@ unfolding bit controls_below lines_of parted_by same number_of line_of control_o
 rows_hold = (refl, (refl, (refl, (refl, (refl, (refl, (refl, tt)))))))
 
 pub files_hold : FilesHold files_rows
-unfolding bit fold valid fires inverted apply lines_of parted_by same number_of line_of control_of controls_from among rising_from mask_of closed_gate gate_fields header_fields read_from reading whole_file second_file files_of control_lines may_pass control_removed control_inverted differing match_of scan_from search_from replaced step_gates reduce_by reduce_gates lowest_from controls_below moved gates_clauses used_after current_after targeted up_from difference_clauses clauses_of variables_of stored negations plain_clauses decimal_within decimal literals_text clauses_text header_text dimacs_of refusal_text list_as compared comparison differ_text compare_text
+unfolding bit fold valid fires inverted apply lines_of parted_by same number_of line_of control_of controls_from among rising_from mask_of closed_gate gate_fields header_fields read_from reading whole_file second_file files_of control_lines targets_uncontrolled opposing may_pass control_removed control_inverted differing match_of scan_from search_from replaced step_gates reduce_by reduce_gates lowest_from controls_below moved gates_clauses used_after current_after targeted up_from difference_clauses clauses_of variables_of stored negations plain_clauses decimal_within decimal literals_text clauses_text header_text dimacs_of refusal_text list_as compared comparison differ_text compare_text
 files_hold = (refl, (refl, (refl, (refl, (refl, (refl, tt))))))
 
 pub inputs_hold : InputsHold input_rows

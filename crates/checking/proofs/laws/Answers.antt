@@ -2,7 +2,7 @@
 use Rattle.checking.proofs.lemmas.miter.Laws.{miter_laws}
 use Rattle.checking.proofs.lemmas.step.Laws.{step_laws}
 use Rattle.checking.proofs.lemmas.reduce.Relation.{reduce_laws}
-use Rattle.checking.proofs.lemmas.StandIns.{stand_in_laws, wider_laws}
+use Rattle.checking.proofs.lemmas.StandIns.{stand_in_laws}
 use Rattle.checking.proofs.lemmas.clauses.Laws.{clause_laws}
 use Rattle.checking.proofs.lemmas.EqualityLaws.{equality_laws}
 use Rattle.checking.proofs.lemmas.clauses.Answers.{emit_laws}
@@ -16,7 +16,6 @@ returns c =
     record {
       miter = miter_laws;
       steps = step_laws;
-      wider = wider_laws;
       reductions = reduce_laws;
       stand_ins = stand_in_laws;
       clauses = clause_laws;

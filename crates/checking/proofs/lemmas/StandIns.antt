@@ -1,18 +1,28 @@
--- The stand-ins of `specs/StandIns.antt` have not the relation, by two and by four equal gates; rules of passing that are wrong have not the law of `specs/Wider.antt`. Assumes nothing.
-use Rattle.std.proofs.Common.{◌≡◌, ℕ, Bool, true, false, List, [], ◌∷◌, length, sym, refl, ap, ◌∙◌, arith}
+-- The stand-ins of `specs/StandIns.antt` have not the relation, rules of passing by two gates on three lines, steps and reductions by two and by four equal gates. Assumes nothing.
+use Rattle.std.proofs.Common.{◌≡◌, ℕ, ◌≤◌, Bool, true, false, List, [], ◌∷◌, length, sym, refl, ap, ◌∙◌, arith}
 use Rattle.circuit.specs.declared.gate.Gate.{Gate}
 use Rattle.circuit.specs.Gate.{max_lines, not_gate, valid}
 use Rattle.circuit.specs.Words.{all_valid}
-use Rattle.checking.specs.Match.{control_lines, may_pass, differing, Kind, match_of}
-use Rattle.checking.specs.Wider.{opposing, wider_pass, PassingOf, always_pass, WiderLaws}
-use Rattle.checking.specs.Rows.{t1, t2+0, t2+1}
+use Rattle.checking.specs.Match.{control_lines, targets_uncontrolled, opposing, may_pass, differing, Kind, match_of}
+use Rattle.checking.specs.Rows.{t1, t2+0, t2+1, t1+2-0}
 use Rattle.checking.specs.Step.{scan_from, search_from, replaced, found, none, step_gates}
 use Rattle.checking.specs.Reduce.{Reduced, reduce_by, reduce_gates}
-use Rattle.checking.specs.StandIns.{StepOf, ReductionOf, always_none, copying, idle, once_only, inventing, exchanging, merges_only, StandInLaws}
+use Rattle.checking.specs.StepLaws.{PassingOf}
+use Rattle.checking.specs.StandIns.{always_pass, StepOf, ReductionOf, always_none, copying, idle, once_only, inventing, exchanging, merges_only, StandInLaws}
 use Rattle.bits.proofs.Bools.{refuted}
-use Rattle.checking.proofs.lemmas.step.Wider.{pass_lines, lines_pass, pass_exactly, passing_only}
+use Rattle.checking.proofs.lemmas.step.Passing.{passing_only}
 use Rattle.checking.proofs.lemmas.step.Laws.{step_is, steps_step}
 use Rattle.checking.proofs.lemmas.reduce.Relation.{reduce_is, reduces_reduce}
+
+-- t2+0 and t1+2-0 pass, since line 0 is a positive control of one and a negative control of the other
+narrow_refuted : (rule : Gate → Gate → Bool) → ((n : ℕ) (g h : Gate) → n ≤ max_lines → valid n g ≡ true → valid n h ≡ true → rule g h ≡ true → targets_uncontrolled g h ≡ true) → PassingOf rule → ⊥
+unfolding valid control_lines targets_uncontrolled opposing may_pass
+narrow_refuted rule narrow is = refuted {b = false} refl (narrow 3 t2+0 t1+2-0 (omega arith) refl refl (passing_only rule is 3 t2+0 t1+2-0 (omega arith) refl refl))
+
+-- the second inverts a line that the first reads
+always_refuted : PassingOf always_pass → ⊥
+unfolding valid control_lines targets_uncontrolled opposing may_pass
+always_refuted is = refuted {b = false} refl (sym (passing_only always_pass is 3 t2+1 t1 (omega arith) refl refl))
 
 -- two, and four, equal gates
 abbrev two : List Gate
@@ -86,6 +96,9 @@ merges_only_refuted h =
 pub stand_in_laws : StandInLaws
 stand_in_laws =
     record {
+      passing_only = passing_only;
+      narrow_refuted = narrow_refuted;
+      always_refuted = always_refuted;
       ours = λ gs v. step_is gs v (step_gates gs) refl;
       step_only = λ f h gs v. sym (steps_step gs v (f gs) (h gs v));
       none_refuted = none_refuted;
@@ -97,30 +110,4 @@ stand_in_laws =
       invented_refuted = invented_refuted;
       exchanged_refuted = exchanged_refuted;
       merges_only_refuted = merges_only_refuted;
-    }
-
--- ---- rules of passing
-
--- t1+2-0
-abbrev t1+2-0 : Gate
-t1+2-0 = record { positive = 4; negative = 1; target = 1 }
-
--- t2+0 and t1+2-0 pass since line 0 is opposed
-narrow_refuted : (rule : Gate → Gate → Bool) → ((g h : Gate) → rule g h ≡ true → may_pass g h ≡ true) → PassingOf rule → ⊥
-unfolding valid control_lines may_pass opposing wider_pass
-narrow_refuted rule narrow is = refuted {b = false} refl (narrow t2+0 t1+2-0 (passing_only rule is 3 t2+0 t1+2-0 (omega arith) refl refl))
-
--- the second inverts a line that the first reads
-always_refuted : PassingOf always_pass → ⊥
-unfolding valid control_lines may_pass opposing wider_pass
-always_refuted is = refuted {b = false} refl (sym (passing_only always_pass is 3 t2+1 t1 (omega arith) refl refl))
-
-pub wider_laws : WiderLaws
-wider_laws =
-    record {
-      pass_lines = λ g h. (pass_lines g h, lines_pass g h);
-      pass_exactly = pass_exactly;
-      passing_only = passing_only;
-      narrow_refuted = narrow_refuted;
-      always_refuted = always_refuted;
     }

@@ -9,7 +9,8 @@ use Rattle.circuit.proofs.Promises.{valid_append, run_append, valid_parts, valid
 use Rattle.checking.specs.Match.{may_pass, Match, kind_of, remaining}
 use Rattle.checking.specs.Step.{between, replaced}
 use Rattle.checking.specs.StepLaws.{Meets, taken}
-use Rattle.checking.proofs.lemmas.step.TwoGates.{passing, match_run, match_valid}
+use Rattle.checking.proofs.lemmas.step.TwoGates.{match_run, match_valid}
+use Rattle.checking.proofs.lemmas.step.Passing.{passing}
 
 -- a gate goes past gates that it may pass
 past : (g : Gate) (bs rest : List Gate) → valid max_lines g ≡ true → all_valid max_lines bs ≡ true → ((k : ℕ) → k < length bs → may_pass g (gate_in bs k) ≡ true)

@@ -9,7 +9,8 @@ use Rattle.circuit.proofs.Promises.{never, then_served, then_refused, then_both,
 use Rattle.checking.specs.Match.{Kind, Match, remaining}
 use Rattle.checking.specs.Step.{filled, Step, found, none, step_gates, with_count, step_words, served_words, step_outcome, step_buffer}
 use Rattle.checking.specs.StepLaws.{Matches, Steps, finds, taken, Keeps, Stands, StepLaws}
-use Rattle.checking.proofs.lemmas.step.TwoGates.{pass_clear, clear_pass, passing, match_run, match_valid}
+use Rattle.checking.proofs.lemmas.step.TwoGates.{match_run, match_valid}
+use Rattle.checking.proofs.lemmas.step.Passing.{uncontrolled_lines, lines_uncontrolled, pass_lines, lines_pass, passing, pass_exactly}
 use Rattle.checking.proofs.lemmas.step.Verdicts.{match_found, found_match, match_unique}
 use Rattle.checking.proofs.lemmas.step.Relation.{step_relation, steps_unique}
 use Rattle.checking.proofs.lemmas.step.Keeping.{candidate_run, candidate_valid, match_taken}
@@ -130,7 +131,9 @@ module _ (n : ℕ) (ws : List ℕ) where
 pub step_laws : StepLaws
 step_laws =
     record {
-      pass_lines = λ g h. (pass_clear g h, (λ c. clear_pass g h c.0 c.1));
+      uncontrolled_lines = λ g h. (uncontrolled_lines g h, (λ c. lines_uncontrolled g h c.0 c.1));
+      pass_lines = λ g h. (pass_lines g h, lines_pass g h);
+      pass_exactly = pass_exactly;
       pass_commute = passing;
       match_lines = λ g h m vg vh. (found_match g h m vg vh, match_found g h m);
       match_one = match_unique;

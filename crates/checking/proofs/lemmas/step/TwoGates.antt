@@ -1,16 +1,15 @@
--- The laws of two gates by lines: gates that may pass commute, and a match keeps the function and validity. Assumes nothing.
-use Rattle.std.proofs.Common.{◌≡◌, ℕ, ◌^◌, Bool, true, false, not, ◌&&◌, eqb, [], sym, refl, ap, ◌∙◌, subst, ap₂, eq-eqb, ne_eqb, eqb-true}
+-- The laws of two gates by lines: what one does after the other, and that a match keeps the function and validity. Assumes nothing.
+use Rattle.std.proofs.Common.{◌≡◌, ℕ, Bool, true, false, not, ◌&&◌, eqb, [], sym, refl, ap, ◌∙◌, subst, ap₂, ne_eqb}
 use mathlib.Core.Bool.{xor}
-use lib.Bits.{bit_and, bit_or, or_self}
 use Rattle.bits.specs.Digits.{bit}
-use Rattle.bits.proofs.Bools.{and_parts, both, same_test, refuted, or_none, none_or, table₂, table₃, table₄}
-use Rattle.bits.proofs.Digits.{bit-or, bits_equal, line_clear, clear_line, or_parts}
+use Rattle.bits.proofs.Bools.{same_test, refuted, table₂, table₄}
+use Rattle.bits.proofs.Digits.{bits_equal}
 use Rattle.circuit.specs.declared.gate.Gate.{Gate}
 use Rattle.circuit.specs.Gate.{max_lines, fires, valid, apply}
 use Rattle.circuit.specs.Words.{all_valid}
 use Rattle.circuit.specs.Run.{run}
 use Rattle.circuit.proofs.Promises.{fires_lines, lines_fires, valid_by_lines, apply_bit, apply_twice, valid_none, valid_both, run_none, run_one}
-use Rattle.checking.specs.Match.{may_pass, control_lines, Match, remaining}
+use Rattle.checking.specs.Match.{Match, remaining}
 use Rattle.checking.specs.StepLaws.{Uncontrolled, OneMore, Matches, pair, drop, turn_first, turn_second}
 use Rattle.checking.proofs.lemmas.step.OneMore.{meets, meets_not, more_valid, more_fires, less_valid, more_below, more_aside}
 
@@ -41,57 +40,6 @@ module _ (g h : Gate) (vg : valid max_lines g ≡ true) (clear : Uncontrolled h 
   two_bit vh l =
       apply_bit h (apply g s) l vh
       ∙ ap₂ (λ (x f : Bool). xor x (f && eqb l h.target)) (apply_bit g s l vg) fires_past
-
--- ---- gates that may pass commute
-
--- two masks are 0 exactly where both together are
-or_zero : (a b : ℕ) → eqb (bit_or a b) 0 ≡ (eqb a 0 && eqb b 0)
-or_zero a b =
-    same_test (eqb (bit_or a b) 0) (eqb a 0 && eqb b 0)
-    (λ e.
-    let (p, q) = or_parts a b (eqb-true (bit_or a b) 0 e) in
-    both (eq-eqb _ _ p) (eq-eqb _ _ q))
-    (λ e. let (p, q) = and_parts (eqb a 0) (eqb b 0) e in eq-eqb _ _ (ap₂ bit_or (eqb-true a 0 p) (eqb-true b 0 q) ∙ or_self 0))
-
--- the test of passing by one mask
-pub pass_test : (g h : Gate) (x y : ℕ) → x ≡ 2 ^ g.target → y ≡ 2 ^ h.target
-    → eqb (bit_or (bit_and (bit_or h.positive h.negative) x) (bit_and (bit_or g.positive g.negative) y)) 0 ≡ may_pass g h
-unfolding may_pass control_lines
-pass_test g h x y e f =
-    or_zero (bit_and (bit_or h.positive h.negative) x) (bit_and (bit_or g.positive g.negative) y)
-    ∙ ap₂ (λ (u v : ℕ). eqb (bit_and (bit_or h.positive h.negative) u) 0 && eqb (bit_and (bit_or g.positive g.negative) v) 0) e f
-
-clear_lines : (p q t : ℕ) → bit_and (bit_or p q) (2 ^ t) ≡ 0 → (bit p t ≡ false) × (bit q t ≡ false)
-clear_lines p q t e = or_none (bit p t) (bit q t) (sym (bit-or p q t) ∙ clear_line (bit_or p q) t e)
-
-pub pass_clear : (g h : Gate) → may_pass g h ≡ true → (Uncontrolled h g.target) × (Uncontrolled g h.target)
-unfolding may_pass control_lines
-pass_clear g h e =
-    let (a, b) = and_parts (eqb (bit_and (bit_or h.positive h.negative) (2 ^ g.target)) 0) (eqb (bit_and (bit_or g.positive g.negative) (2 ^ h.target)) 0) e in
-    let (p, q) = clear_lines h.positive h.negative g.target (eqb-true _ _ a) in
-    let (u, v) = clear_lines g.positive g.negative h.target (eqb-true _ _ b) in
-    (record { not_positive = p; not_negative = q }, record { not_positive = u; not_negative = v })
-
-lines_clear : (p q t : ℕ) → bit p t ≡ false → bit q t ≡ false → bit_and (bit_or p q) (2 ^ t) ≡ 0
-lines_clear p q t a b = line_clear (bit_or p q) t (bit-or p q t ∙ none_or a b)
-
-pub clear_pass : (g h : Gate) → Uncontrolled h g.target → Uncontrolled g h.target → may_pass g h ≡ true
-unfolding may_pass control_lines
-clear_pass g h c d =
-    both (eq-eqb _ _ (lines_clear h.positive h.negative g.target c.not_positive c.not_negative))
-    (eq-eqb _ _ (lines_clear g.positive g.negative h.target d.not_positive d.not_negative))
-
-xor_swap : (a b c : Bool) → xor (xor a b) c ≡ xor (xor a c) b
-unfolding xor
-xor_swap = table₃ _ _ refl
-
-pub clear_commute : (g h : Gate) → valid max_lines g ≡ true → valid max_lines h ≡ true → Uncontrolled h g.target → Uncontrolled g h.target
-    → (s : ℕ) → apply h (apply g s) ≡ apply g (apply h s)
-clear_commute g h vg vh c d s =
-    bits_equal _ _ (λ l. two_bit g h vg c s vh l ∙ xor_swap (bit s l) _ _ ∙ sym (two_bit h g vh d s vg l))
-
-pub passing : (g h : Gate) → valid max_lines g ≡ true → valid max_lines h ≡ true → may_pass g h ≡ true → (s : ℕ) → apply h (apply g s) ≡ apply g (apply h s)
-passing g h vg vh e = let (c, d) = pass_clear g h e in clear_commute g h vg vh c d
 
 -- ---- a match keeps the function and validity
 
