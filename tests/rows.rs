@@ -207,7 +207,8 @@ fn starred_steps() {
     assert_eq!(words, [t2_with_1, t1, t2_with_1].concat());
 }
 
-/// T-01: t2+0 passes t1+2-0, which reads its target, since line 0 is opposed; and not t1+2.
+/// T-01: t2+0 may pass t1+2-0, since line 0 is a positive control of one and a negative control of the
+/// other; it may not pass t1+2. Its target is a control of both.
 fn passing_steps() {
     let t2_with_0 = [1, 0, 2];
     let t1_with_2 = [4, 0, 1];

@@ -50,11 +50,11 @@ fn main(rt: HostRuntime) {
     // A and A: the reduction leaves no gate.
     print_check(&rt, 3, &a, 3, &a, &[Call::ReduceOn(3)], &mut out);
     // Rows of T-01, a step each: t2+0 passes t1+2-0 in t2+0 t1+2-0 t2+0 (against t1+2-0), and not t1+2 in t2+0 t1+2 t2+0 (against no gate).
-    let opposed = [1, 0, 2, 4, 1, 1, 1, 0, 2];
+    let passing = [1, 0, 2, 4, 1, 1, 1, 0, 2];
     print_check(
         &rt,
         3,
-        &opposed,
+        &passing,
         3,
         &[4, 1, 1],
         &[Call::StepOn(3)],
