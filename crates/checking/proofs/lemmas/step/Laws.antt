@@ -2,15 +2,15 @@
 use Rattle.std.proofs.Common.{◌≡◌, ℕ, ◌+◌, ◌-◌, ◌*◌, ◌<◌, ◌≤◌, true, ◌↔◌, List, [], ◌∷◌, ◌++◌, length, get_or, take, replicate, sym, refl, ap, ◌∙◌, ap₂, arith, take_at, get_or-append-add}
 use lib.ListN.{get_or-replicate}
 use Rattle.circuit.specs.declared.gate.Gate.{Gate}
-use Rattle.circuit.specs.Gate.{max_lines, max_miter_gates, valid, apply}
+use Rattle.circuit.specs.Gate.{max_lines, max_miter_gates, valid}
 use Rattle.circuit.specs.Outcome.{Outcome, served, refused, and_then, Untouched}
 use Rattle.circuit.specs.Words.{gates_of, words_of, all_valid, check_outcome, Cascade, WordsRefused}
-use Rattle.circuit.proofs.Promises.{never, then_served, then_refused, then_both, valid_more, gates_length, gates_words, words_length, valid_all_more, served_check, check_refused, refused_check, run_one, run_next}
+use Rattle.circuit.proofs.Promises.{never, then_served, then_refused, then_both, valid_more, gates_length, gates_words, words_length, valid_all_more, served_check, check_refused, refused_check}
 use Rattle.checking.specs.Match.{Kind, Match, remaining}
 use Rattle.checking.specs.Step.{filled, Step, found, none, step_gates, with_count, step_words, served_words, step_outcome, step_buffer}
 use Rattle.checking.specs.StepLaws.{Matches, Steps, finds, taken, Keeps, Stands, StepLaws}
 use Rattle.checking.proofs.lemmas.step.TwoGates.{match_run, match_valid}
-use Rattle.checking.proofs.lemmas.step.Passing.{uncontrolled_lines, lines_uncontrolled, pass_lines, lines_pass, passing, pass_exactly}
+use Rattle.checking.proofs.lemmas.step.Passing.{uncontrolled_lines, lines_uncontrolled, pass_lines, lines_pass, passing, two_run, pass_exactly}
 use Rattle.checking.proofs.lemmas.step.Verdicts.{match_found, found_match, match_unique}
 use Rattle.checking.proofs.lemmas.step.Relation.{step_relation, steps_unique}
 use Rattle.checking.proofs.lemmas.step.Keeping.{candidate_run, candidate_valid, match_taken}
@@ -21,7 +21,7 @@ use Rattle.checking.proofs.lemmas.step.Moving.{replaced_length, filled_length}
 match_keeps : (n : ℕ) (g h : Gate) (m : Match) → n ≤ max_lines → valid n g ≡ true → valid n h ≡ true → Matches g h m → Keeps n (g ∷ h ∷ []) (remaining m)
 match_keeps n g h m l vg vh c =
     record {
-      same = λ s. match_run g h (valid_more n max_lines g l vg) (valid_more n max_lines h l vh) s m c ∙ sym (run_next g (h ∷ []) s ∙ run_one h (apply g s));
+      same = λ s. match_run g h (valid_more n max_lines g l vg) (valid_more n max_lines h l vh) s m c ∙ sym (two_run g h s);
       good = match_valid n g h m c vg vh;
     }
 
