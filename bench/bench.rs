@@ -1,6 +1,7 @@
 //! Times the C interface of the library against plain Rust, in one run and on the same inputs. Fails
 //! where the library takes more than `LIMIT` times as long. With the argument `steps` it times a step and
-//! a reduction alone and judges nothing: bench/steps_at does, over several places of the code.
+//! a reduction alone, with `write` writing against an earlier archive (bench/write_before), and judges
+//! nothing: bench/at_places does, over several places of the code.
 
 #[allow(dead_code)]
 #[path = "../tests/capi.rs"]
@@ -69,6 +70,22 @@ fn library_read(text: &[u8], out: &mut [u64]) -> ReadAnswer {
 fn library_write(n: u64, words: &[u64], out: &mut [u8]) -> WriteAnswer {
     let (start, room) = (out.as_mut_ptr(), out.len());
     unsafe { capi::cascade_write(n, words.as_ptr(), words.len(), start, room) }
+}
+
+/// Writing by an earlier archive, whose calls have names of their own.
+#[cfg(before)]
+fn earlier_write(n: u64, words: &[u64], out: &mut [u8]) -> WriteAnswer {
+    extern "C" {
+        fn before_cascade_write(
+            n: u64,
+            words: *const u64,
+            words_len: usize,
+            out: *mut u8,
+            out_len: usize,
+        ) -> WriteAnswer;
+    }
+    let (start, room) = (out.as_mut_ptr(), out.len());
+    unsafe { before_cascade_write(n, words.as_ptr(), words.len(), start, room) }
 }
 
 // ---- inputs
@@ -169,6 +186,17 @@ fn same_file(n: u64, words: &[u64]) {
     }
 }
 
+/// The earlier archive writes the same text.
+#[cfg(before)]
+fn check_earlier(work: &Work) {
+    for words in &work.cascades {
+        let mut texts = [vec![9; 1 << 18], vec![9; 1 << 18]];
+        let library = library_write(work.lines, words, &mut texts[0]);
+        assert_eq!(library, earlier_write(work.lines, words, &mut texts[1]));
+        assert_eq!(texts[0], texts[1]);
+    }
+}
+
 // ---- time
 
 /// Nanoseconds of one of so many calls.
@@ -260,7 +288,7 @@ fn compare(
     }
     let ratio = median(ratios);
     let (ours, theirs) = (median(ours), median(theirs));
-    println!("{call:<16} {work:<38} {ours:>9.1} {theirs:>9.1} {ratio:>6.2}");
+    println!("{call:<16} {work:<38} {ours:>9.1} {theirs:>9.1} {ratio:>6.3}");
     ratio
 }
 
@@ -273,7 +301,7 @@ fn rows<F: Copy>(call: &str, works: &[Work], time: fn(&Work, F) -> f64, sides: [
     works.iter().map(ratio).fold(0.0, f64::max)
 }
 
-/// Code that moves what stands after it, by the bytes that bench/steps_at asks for.
+/// Code that moves what stands after it, by the bytes that bench/at_places asks for.
 #[inline(never)]
 fn shift() {
     #[cfg(shifted)]
@@ -284,11 +312,18 @@ fn shift() {
 
 fn main() {
     shift();
-    if std::env::args().nth(1).as_deref() == Some("steps") {
+    let what = std::env::args().nth(1);
+    if what.as_deref() == Some("steps") {
         return steps::rows();
     }
     let works = works();
     check_equal(&works);
+    #[cfg(before)]
+    if what.as_deref() == Some("write") {
+        works.iter().for_each(check_earlier);
+        rows("cascade_write", &works, time_write, [library_write, earlier_write]);
+        return;
+    }
     let head = ["call", "cascades", "ns", "plain ns", "ratio"];
     let [call, work, ours, theirs, ratio] = head;
     println!("{call:<16} {work:<38} {ours:>9} {theirs:>9} {ratio:>6}");

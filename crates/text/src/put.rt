@@ -1,4 +1,4 @@
-// Writing numbers at the start of a buffer. Each function tells how many bytes it wrote. By hand, as std's formatting promises nothing of the bytes that it writes, and by arithmetic, as a table holds only the numbers below 100 of a cascade file.
+// Writing numbers at the start of a buffer. Each function tells how many bytes it wrote. By hand, as std's formatting promises nothing of the bytes that it writes.
 
 ghost use Rattle.std.specs.Prelude.{◌≡◌, [], ◌∷◌, ◌++◌, ◌+◌, ◌/◌, ◌%◌, ◌≤◌, ◌<◌, length};
 ghost use Rattle.bits.specs.Lists.{Put};
@@ -24,7 +24,7 @@ fn digit(k: u64) -> u8
     requires { k < 10 }
     ensures { result ≡ digit k }
 {
-    48 + k as u8
+    b'0' + k as u8
 }
 
 // Writes the two digits of a number below 100.

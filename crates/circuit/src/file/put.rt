@@ -1,19 +1,12 @@
 // Writing at the start of a buffer: a number, a control, a line. Each function tells how many bytes it wrote.
 
-ghost use Rattle.std.specs.Prelude.{◌≡◌, ◌+◌, ◌/◌, ◌%◌, ◌<◌, ◌≤◌, ◌∷◌, ◌++◌, length, if◌then◌else◌};
+ghost use Rattle.std.specs.Prelude.{◌≡◌, ◌+◌, ◌<◌, ◌≤◌, ◌∷◌, ◌++◌, length, if◌then◌else◌};
 ghost use Rattle.bits.specs.Lists.{Put};
 ghost use Rattle.circuit.specs.Gate.{controls_of};
 ghost use Rattle.circuit.specs.Text.{tab, digit, number_text, control_text, controls_text, header_line, gate_text, gate_line, plus_sign, minus_sign};
 ghost use Rattle.circuit.specs.private.Put.{mask_gate};
 
 use crate::gate::Gate;
-
-// The texts 00 to 99.
-const DIGITS: [u8; 200] = *b"0001020304050607080910111213141516171819\
-2021222324252627282930313233343536373839\
-4041424344454647484950515253545556575859\
-6061626364656667686970717273747576777879\
-8081828384858687888990919293949596979899";
 
 // Copies the items to the buffer's start, and tells how many they are. Each crate has its own: one for all would be open and ask for room, and with a test of the room emission with many controls takes half again as long.
 pub(crate) fn put<T: Copy>(out: &mut [T], items: &[T]) -> usize
@@ -28,13 +21,12 @@ pub(crate) fn put<T: Copy>(out: &mut [T], items: &[T]) -> usize
     size
 }
 
-// The two digits of a number below 100, by the table. The bound stands in the contracts: a type for it would be built from a line or a number of lines before each call, and taken apart in it.
-fn two_digits(k: u64) -> (u8, u8)
-    requires { k < 100 }
-    ensures { (result.0 ≡ digit (k / 10)) × (result.1 ≡ digit (k % 10)) }
+// The digit of a number below 10.
+fn digit(k: u8) -> u8
+    requires { k < 10 }
+    ensures { result ≡ digit k }
 {
-    let at = 2 * k as usize;
-    (DIGITS[at], DIGITS[at + 1])
+    b'0' + k
 }
 
 // Writes a number below 100.
@@ -43,13 +35,14 @@ fn put_number(out: &mut [u8], k: u64) -> usize
     requires { (k < 100) × (length (number_text k) ≤ length out.old) }
     ensures { Put result out.new (number_text k) out.old }
 {
-    let (tens, ones) = two_digits(k);
+    // Divisions of a u8 are faster than those of a u64.
+    let k = k as u8;
     if 10 <= k {
-        out[0] = tens;
-        out[1] = ones;
+        out[0] = digit(k / 10);
+        out[1] = digit(k % 10);
         return 2;
     }
-    out[0] = ones;
+    out[0] = digit(k);
     1
 }
 
