@@ -141,6 +141,11 @@ def goal(function, *facts, more=""):
     return f"{notes}help: if the code is right, say so\nfn {function}: no proof: expected answers in ./proofs/f/Answers.antt; `search` did not prove {listed}; it calls `demo::double`, which is not proved\n"
 
 
+# An edit that makes two goals false.
+BOTH = DOUBLE.replace("returns\n", "returns\n# refused: proofs/double/Answers.antt high\n")
+AT_HIGH = error("proofs/double/Answers.antt", "high")
+AT_LOW = error("proofs/double/Answers.antt", "low")
+
 AT_DOUBLE = error("proofs/double/Answers.antt", "returns")
 AT_TRIPLE = error("proofs/triple/Answers.antt", "returns")
 AT_LIMITED = goal("demo::limited", "returns")
@@ -164,6 +169,14 @@ CASES = [
     ("an edit alone, at another fact too", DOUBLE, AT_DOUBLE + error("proofs/double/Answers.antt", "loop-i-preserved"), 0, "1 refused"),
     ("an edit alone, at another fact", DOUBLE, error("proofs/double/Answers.antt", "loop-i-preserved"), 1, "proofs/double/Answers.antt returns is not refused; of the facts that it reaches these are:\n    # refused: proofs/double/Answers.antt loop-i-preserved"),
     ("an edit alone that names no fact", DOUBLE.replace("# refused: proofs/double/Answers.antt returns\n", ""), AT_DOUBLE, 1, "it names no fact; of those that it reaches these are refused:\n    # refused: proofs/double/Answers.antt returns"),
+    ("two facts of an edit", BOTH, AT_DOUBLE + AT_HIGH, 0, "demo/tried: refused at proofs/double/Answers.antt returns, proofs/double/Answers.antt high"),
+    ("two facts of an edit, in another order and with one more after them", BOTH, AT_HIGH + AT_DOUBLE + AT_LOW, 0, "1 refused"),
+    ("two facts of an edit, and one is not refused", BOTH, AT_DOUBLE, 1, "proofs/double/Answers.antt high is not refused"),
+    ("two facts of an edit, and another before one", BOTH, AT_DOUBLE + AT_LOW + AT_HIGH, 1, "proofs/double/Answers.antt high is refused after another fact of that place; the first is:\n    # refused: proofs/double/Answers.antt low"),
+    ("two facts of an edit, and one does not say that it is false", BOTH, AT_DOUBLE + error("proofs/double/Answers.antt", "high", "no proof"), 1, "the error does not say that a fact does not hold"),
+    ("two facts of two places", DOUBLE + "# refused: proofs/triple/Answers.antt returns\n", AT_DOUBLE + AT_TRIPLE, 1, "names facts of more than one place"),
+    ("a fact named twice", DOUBLE + "# refused: proofs/double/Answers.antt returns\n", AT_DOUBLE, 1, "or one twice"),
+    ("an edit of a group that reaches the second fact of another", group(one=BOTH, two=CONTRACT.replace("returns", "low")), AT_DOUBLE + AT_HIGH + AT_LOW, 1, "they can't share a check"),
     ("an edit alone that was proved", DOUBLE, None, 1, "did not refuse it"),
     ("an edit whose old text is not there", DOUBLE.replace("x + x", "x + y"), AT_DOUBLE, 1, "this text stands in src/lib.rt 0 times, and not once"),
     ("a group", group(one=DOUBLE, two=TRIPLE, three=LIMITED), AT_DOUBLE + AT_TRIPLE + AT_LIMITED, 0, "3 refused at the fact that they name, 0 not, in 1 checks"),
@@ -228,6 +241,33 @@ UNREAD = [
     ("names that are passed on", {"proofs/Blocks.antt": "pub use Rattle.demo.specs.Rules.{twice}\n", "proofs/More.antt": "use Rattle.demo.proofs.Blocks.{twice}\n"}, "proofs/More.antt imports from proofs/Blocks.antt, which passes on names"),
 ]
 
+# What rt ci says of a file of edits: the first error, cut.
+SHOWN = "rt: must-fail demo/tried.edit: refused, as it must be: "
+AT_FACT = SHOWN + AT_DOUBLE
+OF_GOAL = SHOWN + "note: src/lib.rt:{}:5: it is not proved that what the function ensures holds when it returns (`{}`); `search` gave up\n"
+
+# An edit and what rt ci said, and whether .ci/edits takes that in place of a check.
+SAID = [
+    ("the named fact", DOUBLE, AT_FACT, True),
+    ("the named fact, among other lines", DOUBLE, f"rt: demo proved\n{AT_FACT}rt: ok\n", True),
+    ("nothing", DOUBLE, "rt: demo proved\n", False),
+    ("another file of edits", DOUBLE, AT_FACT.replace("tried", "other"), False),
+    ("another crate", DOUBLE, AT_FACT.replace("demo/", "other/"), False),
+    ("an edit that is not refused", DOUBLE, AT_FACT.replace("refused, as it must be", "NOT REFUSED"), False),
+    ("another fact", DOUBLE, SHOWN + error("proofs/double/Answers.antt", "high"), False),
+    ("another place", DOUBLE, SHOWN + AT_TRIPLE, False),
+    ("a fact that is not said to be false", DOUBLE, SHOWN + error("proofs/double/Answers.antt", "returns", "no"), False),
+    ("a value of another type", DOUBLE, SHOWN + error("proofs/double/Answers.antt", "returns", "expected type `ℕ`, but this has type `Bool`"), False),
+    ("a type in part", DOUBLE, SHOWN + error("proofs/double/Answers.antt", "returns", "expected type `x ≡ y`, but this has type `x ≡"), False),
+    ("a goal of the function of that line", LIMITED, OF_GOAL.format(23, "returns"), True),
+    ("a goal of another function", LIMITED, OF_GOAL.format(16, "returns"), False),
+    ("a goal outside of all", LIMITED, OF_GOAL.format(1, "returns"), False),
+    ("another goal of the function", LIMITED, OF_GOAL.format(23, "high"), False),
+    ("one of two facts", BOTH, AT_FACT, False),
+    ("an edit that changes names", BY_NAME, SHOWN + AT_SMALL, False),
+    ("a group", group(tried=DOUBLE), AT_FACT, False),
+]
+
 # What stands for rt: it notes each check, proves the crate as it stands, where it is to, and says of a copy what the log has.
 RT = """#!/bin/sh
 case $1 in
@@ -272,9 +312,9 @@ class Tree:
     def say(self, log):
         write(os.path.join(self.room, "log"), "logic=proved functions=3\n" if log is None else log + "logic=not-proved functions=3\n")
 
-    def run(self):
+    def run(self, *words):
         found = dict(os.environ, TRIED=self.room, PATH=os.path.join(self.room, "bin") + os.pathsep + os.environ["PATH"])
-        return subprocess.run((sys.executable, os.path.join(self.top, ".ci", "edits")), capture_output=True, text=True, encoding="utf-8", env=found)
+        return subprocess.run((sys.executable, os.path.join(self.top, ".ci", "edits"), *words), capture_output=True, text=True, encoding="utf-8", env=found)
 
     def noted(self, name):
         path = os.path.join(self.room, name)
@@ -293,6 +333,25 @@ def answers():
             answer = Tree(os.path.realpath(room), edits, log, files).run()
         fits = answer.returncode == status and part in answer.stdout
         yield name, fits, f"status {answer.returncode}, expected {status} and '{part}':\n{answer.stdout}{answer.stderr}"
+
+
+def taken():
+    """Whether .ci/edits takes what rt ci said in place of a check, beside whether it has to."""
+    log = AT_DOUBLE + AT_LIMITED + AT_HIGH + AT_SMALL
+    for name, edits, said, whole in SAID:
+        with tempfile.TemporaryDirectory() as room:
+            tree = Tree(os.path.realpath(room), edits, log)
+            write(os.path.join(tree.room, "said"), said)
+            answer = tree.run("--said", os.path.join(tree.room, "said"))
+            checks = tree.noted("checks")
+        fits = not checks and answer.returncode == 0 and "1 refused" in answer.stdout if whole else "base" in checks
+        yield f"what rt ci said: {name}", fits, f"status {answer.returncode}, the checks:\n{checks}{answer.stdout}{answer.stderr}"
+    with tempfile.TemporaryDirectory() as room:
+        tree = Tree(os.path.realpath(room), DOUBLE, AT_DOUBLE)
+        write(os.path.join(tree.room, "said"), "")
+        for name in ("said", "none"):
+            answer = tree.run("--said", os.path.join(tree.room, name))
+            yield f"what rt ci said: {name} is empty, or not there", answer.returncode == 1, f"status {answer.returncode}:\n{answer.stdout}{answer.stderr}"
 
 
 def steps():
@@ -326,7 +385,7 @@ def steps():
 
 def main():
     failed = tried = 0
-    for name, fits, told in [*answers(), *steps()]:
+    for name, fits, told in [*answers(), *taken(), *steps()]:
         tried += 1
         if not fits:
             failed += 1

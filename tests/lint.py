@@ -43,6 +43,7 @@ CASES = {
         unfolds("run_outcome"),
     ),
     "a run as a fold": ({PAIRS: "\nuse Rattle.circuit.specs.Run.{run}\n" + law("unfolding fold")}, PAIRS, unfolds("fold")),
+    "a run of another name as a fold": ({PAIRS: "\nuse Rattle.circuit.specs.Run.{run as r}\n" + law("unfolding fold")}, PAIRS, unfolds("fold")),
     "of checking": ({PAIRS: "\nuse Rattle.checking.specs.Match.{may_pass}\n" + law("unfolding may_pass")}, PAIRS, unfolds("may_pass", "checking")),
     "in checking": ({MITER: "\nuse Rattle.circuit.specs.Run.{run_outcome}\n" + law("unfolding run_outcome")}, MITER, unfolds("run_outcome")),
     "a private lemma": ({PAIRS: "\nuse Rattle.circuit.proofs.lemmas.gate.Valid.{valid_facts}\n"}, PAIRS, "which circuit does not promise"),

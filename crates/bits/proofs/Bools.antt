@@ -27,6 +27,10 @@ beq_true true false e = sym e
 beq_true false true e = e
 beq_true false false e = refl
 
+pub beq_self : (a : Bool) → beq a a ≡ true
+beq_self true = refl
+beq_self false = refl
+
 pub table₁ : (f g : Bool → Bool) → rows₁ f g ≡ true → (a : Bool) → f a ≡ g a
 table₁ f g e true = beq_true (f true) (g true) (and_parts (beq (f true) (g true)) (beq (f false) (g false)) e).0
 table₁ f g e false = beq_true (f false) (g false) (and_parts (beq (f true) (g true)) (beq (f false) (g false)) e).1

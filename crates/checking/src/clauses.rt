@@ -70,9 +70,9 @@ pub(crate) fn list_sizes(n: u64, words: &[u64]) -> Result<Totals, Refusal>
     })
 }
 
-// The sizes of the clause list of a cascade; else 2, 11, 6 or 7.
+// The totals of the clause list of a cascade; else 2, 11, 6 or 7.
 #[tactic(auto, unfolding(crate::specs::Sizes::sizes_outcome))]
-pub fn sizes(n: u64, words: &[u64]) -> Result<Totals, Refusal>
+fn cascade_totals(n: u64, words: &[u64]) -> Result<Totals, Refusal>
     ensures { outcome_of result ≡ sizes_outcome n words.now }
 {
     if !circuit::words::line_count_good(n) {
@@ -82,12 +82,19 @@ pub fn sizes(n: u64, words: &[u64]) -> Result<Totals, Refusal>
     list_sizes(n, words)
 }
 
+// The sizes of the clause list of a cascade; else 2, 11, 6 or 7.
+pub fn sizes(n: u64, words: &[u64]) -> Result<Totals, Refusal>
+    ensures { outcome_of result ≡ sizes_outcome n words.now }
+{
+    cascade_totals(n, words)
+}
+
 // The stored clauses of a cascade at the buffer's start, and their totals; else 2, 11, 6, 7 or 10.
 #[tactic(auto, unfolding(crate::specs::Emit::emit_outcome, crate::specs::Emit::emit_buffer))]
 pub fn emit(n: u64, words: &[u64], out: &mut [ClauseWord]) -> Result<Totals, Refusal>
     ensures { Yields (outcome_of result) out.new (emit_outcome n words.now (length out.old)) (emit_buffer n words.now out.old) }
 {
-    let totals = sizes(n, words)?;
+    let totals = cascade_totals(n, words)?;
     if (out.len() as u64) < totals.words {
         return Err(Refusal::NoRoom);
     }

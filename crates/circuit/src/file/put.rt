@@ -13,7 +13,7 @@ pub(crate) fn put<T: Copy>(out: &mut [T], items: &[T]) -> usize
     requires { length items.now ≤ length out.old }
     ensures { Put result out.new items.now out.old }
 {
-    // With copy_from_slice, which compares the two places, an array of four items goes through memory: emission then takes twice as long.
+    // With copy_from_slice, which compares the two places, writing takes longer.
     let size = items.len();
     for i in 0..size {
         out[i] = items[i];

@@ -1,10 +1,10 @@
 -- An assignment satisfies the clause list exactly when it is the one that its own inputs force and the run changes them. Assumes nothing.
 use Rattle.std.proofs.Common.{◌≡◌, ℕ, zero, suc, ◌+◌, ◌^◌, ◌<◌, ◌≤◌, Bool, true, false, cond, not, ◌&&◌, ◌||◌, ◌↔◌, List, [], ◌∷◌, ◌++◌, map, length, take, sym, refl, ap, ◌∙◌, subst, ap₂, true≢false, append_assoc, arith, length-append, lt-ltb}
-use mathlib.Core.Bool.{xor, and_assoc, and-true}
+use mathlib.Core.Bool.{xor, and_assoc, and-true, beq}
 use lib.ListN.{length-map}
 use Rattle.bits.specs.Digits.{bit}
 use Rattle.bits.specs.Lists.{All}
-use Rattle.bits.proofs.Bools.{and_parts, both, either, cond-true, cond-false, or_none, xor_false, xor_self, and_cong, table₁}
+use Rattle.bits.proofs.Bools.{beq_self, and_parts, both, either, cond-true, cond-false, or_none, xor_false, xor_self, and_cong, table₁}
 use Rattle.bits.proofs.Digits.{bits_below}
 use Rattle.circuit.specs.declared.gate.Gate.{Gate}
 use Rattle.circuit.specs.Gate.{max_lines, apply, Control, controls_of}
@@ -16,7 +16,7 @@ use Rattle.checking.specs.Satisfaction.{variable, holds, satisfies, spelled}
 use Rattle.checking.specs.Faults.{mask_where}
 use Rattle.checking.specs.Forced.{gate_values, gates_values, differences, traced, forced}
 use Rattle.checking.proofs.lemmas.faults.Masks.{mask_below, mask_bit}
-use Rattle.checking.proofs.lemmas.clauses.Tests.{same, same_self, shape_d, some_true, holds_or, holds_xor, satisfies_append}
+use Rattle.checking.proofs.lemmas.clauses.Tests.{shape_d, some_true, holds_or, holds_xor, satisfies_append}
 use Rattle.checking.proofs.lemmas.clauses.Gates.{agree, agree_head, agree_tail, agree_gate, Reads, gates_law, after_reads, untouched}
 
 -- ---- the state that the first variables spell
@@ -50,7 +50,7 @@ below_up_from n i (suc m) h = (omega arith, below_up_from n (suc i) m (omega ari
 -- where the states differ only on the lines that are hit, the clauses hold exactly when each d tells whether they do
 module _ (n : ℕ) (σ : List Bool) (hit : ℕ → Bool) (left right : ℕ → ℕ) (s r : ℕ) (before : Reads n σ left s) (after : Reads n σ right r)
     (unhit : (k : ℕ) → k < n → hit k ≡ false → bit r k ≡ bit s k) where
-  difference_law : (d k : ℕ) → k < n → holds σ (difference_clause (hit k) (suc d) (left k) (right k)) ≡ same (variable σ (suc d)) (xor (bit s k) (bit r k))
+  difference_law : (d k : ℕ) → k < n → holds σ (difference_clause (hit k) (suc d) (left k) (right k)) ≡ beq (variable σ (suc d)) (xor (bit s k) (bit r k))
   difference_law d k h =
       either (hit k)
       (λ e.
@@ -62,9 +62,9 @@ module _ (n : ℕ) (σ : List Bool) (hit : ℕ → Bool) (left right : ℕ → �
       ap (holds σ) (cond-false (hit k) _ _ e)
       ∙ holds_or σ (minus (suc d) ∷ [])
       ∙ off (variable σ (suc d))
-      ∙ ap (same (variable σ (suc d))) (sym (ap (xor (bit s k)) (unhit k h e) ∙ xor_self (bit s k))))
+      ∙ ap (beq (variable σ (suc d))) (sym (ap (xor (bit s k)) (unhit k h e) ∙ xor_self (bit s k))))
     where
-      off : (a : Bool) → (not a || false) ≡ same a false
+      off : (a : Bool) → (not a || false) ≡ beq a false
       off = table₁ _ _ refl
 
   pub differences_law : (used : ℕ) (ks : List ℕ) → Below n ks → satisfies σ (difference_clauses hit left right used ks) ≡ agree σ used (differences s r ks)
@@ -100,11 +100,11 @@ agree_gates σ used s (g ∷ gs) vs =
 -- agree, as an equation of lists
 agree_suc : (x : Bool) (σ : List Bool) (i : ℕ) (vs : List Bool) → agree (x ∷ σ) (suc i) vs ≡ agree σ i vs
 agree_suc x σ i [] = refl
-agree_suc x σ i (v ∷ vs) = ap (λ (b : Bool). same (variable σ (suc i)) v && b) (agree_suc x σ (suc i) vs)
+agree_suc x σ i (v ∷ vs) = ap (λ (b : Bool). beq (variable σ (suc i)) v && b) (agree_suc x σ (suc i) vs)
 
 agree_there : (xs vs : List Bool) → agree (xs ++ vs) (length xs) vs ≡ true
 agree_there [] [] = refl
-agree_there [] (v ∷ vs) = both (same_self v) (agree_suc v vs 0 vs ∙ agree_there [] vs)
+agree_there [] (v ∷ vs) = both (beq_self v) (agree_suc v vs 0 vs ∙ agree_there [] vs)
 agree_there (x ∷ xs) vs = agree_suc x (xs ++ vs) (length xs) vs ∙ agree_there xs vs
 
 agree_is : (σ : List Bool) (i : ℕ) (vs : List Bool) → length σ ≡ i + length vs → agree σ i vs ≡ true → σ ≡ take i σ ++ vs

@@ -1,8 +1,8 @@
 -- The clauses of gates hold exactly when their new variables have the values that the state forces. Assumes nothing.
 use Rattle.std.proofs.Common.{◌≡◌, ℕ, zero, suc, ◌<◌, ◌≤◌, Bool, true, false, cond, not, ◌&&◌, ◌||◌, eqb, List, [], ◌∷◌, ◌++◌, map, length, pos, neg_ℤ, sym, refl, ap, ◌∙◌, subst, ap₂, arith, eqb-true}
-use mathlib.Core.Bool.{xor, and_assoc, and-true, and-false, or-false, or-true, or-and_distrib_left}
+use mathlib.Core.Bool.{xor, beq, and_assoc, and-true, and-false, or-false, or-true, or-and_distrib_left}
 use Rattle.bits.specs.Digits.{bit}
-use Rattle.bits.proofs.Bools.{and_parts, either, cond-true, cond-false, or_none, and_cong, not_and, xor_none}
+use Rattle.bits.proofs.Bools.{beq_true, and_parts, either, cond-true, cond-false, or_none, and_cong, not_and, xor_none}
 use Rattle.circuit.specs.declared.gate.Gate.{Gate}
 use Rattle.circuit.specs.Gate.{max_lines, valid, fires, apply, Control, Inside, controls_of, met, all_met}
 use Rattle.circuit.specs.Words.{all_valid}
@@ -11,19 +11,19 @@ use Rattle.circuit.proofs.Promises.{valid_facts, valid_more, apply_bit, controls
 use Rattle.checking.specs.Clauses.{XOR, plus, minus, literal_of, implied, many_clauses, gate_clauses, new_variable, used_by, moved, clauses_of_gate, gates_clauses, current_after, targeted}
 use Rattle.checking.specs.Satisfaction.{variable, value, satisfies, variable_of}
 use Rattle.checking.specs.Forced.{gate_values, gates_values}
-use Rattle.checking.proofs.lemmas.clauses.Tests.{same, same_true, shape_0, shape_1, shape_2, some_true, holds_or, holds_xor, value_neg, satisfies_append}
+use Rattle.checking.proofs.lemmas.clauses.Tests.{shape_0, shape_1, shape_2, some_true, holds_or, holds_xor, value_neg, satisfies_append}
 
 -- ---- values of variables from i + 1 on
 
 abbrev pub agree : List Bool → ℕ → List Bool → Bool
 agree σ i [] = true
-agree σ i (v ∷ vs) = same (variable σ (suc i)) v && agree σ (suc i) vs
+agree σ i (v ∷ vs) = beq (variable σ (suc i)) v && agree σ (suc i) vs
 
 pub agree_head : (σ : List Bool) (i : ℕ) (v : Bool) (vs : List Bool) → agree σ i (v ∷ vs) ≡ true → variable σ (suc i) ≡ v
-agree_head σ i v vs h = same_true _ v (and_parts (same (variable σ (suc i)) v) (agree σ (suc i) vs) h).0
+agree_head σ i v vs h = beq_true _ v (and_parts (beq (variable σ (suc i)) v) (agree σ (suc i) vs) h).0
 
 pub agree_tail : (σ : List Bool) (i : ℕ) (v : Bool) (vs : List Bool) → agree σ i (v ∷ vs) ≡ true → agree σ (suc i) vs ≡ true
-agree_tail σ i v vs h = (and_parts (same (variable σ (suc i)) v) (agree σ (suc i) vs) h).1
+agree_tail σ i v vs h = (and_parts (beq (variable σ (suc i)) v) (agree σ (suc i) vs) h).1
 
 -- ---- an assignment whose current variables have the values of a state's lines
 
@@ -68,7 +68,7 @@ module _ (n : ℕ) (σ : List Bool) (current : ℕ → ℕ) (s : ℕ) (reads : R
   -- the clauses with a p, for any number of controls
   many_law : (used t : ℕ) (cs : List Control) → t < n → Inside n cs
       → satisfies σ (many_clauses (suc used) (suc (suc used)) (current t) (map (literal_of current) cs))
-      ≡ (same (variable σ (suc used)) (all_met s cs) && (same (variable σ (suc (suc used))) (xor (bit s t) (all_met s cs)) && true))
+      ≡ (beq (variable σ (suc used)) (all_met s cs) && (beq (variable σ (suc (suc used))) (xor (bit s t) (all_met s cs)) && true))
   unfolding satisfies
   many_law used t cs ht h =
       let p = variable σ (suc used) in
@@ -94,7 +94,7 @@ module _ (n : ℕ) (σ : List Bool) (current : ℕ → ℕ) (s : ℕ) (reads : R
       (holds_xor σ (minus (suc used) ∷ plus (current t) ∷ literal_of current c ∷ [])
       ∙ ap₂ (λ (a b : Bool). xor (not (variable σ (suc used))) (xor a (xor b false))) (reads.read t ht) (control_value c h.0))
       ∙ shape_1 (variable σ (suc used)) (bit s t) (met s c)
-      ∙ ap (λ (b : Bool). same (variable σ (suc used)) (xor (bit s t) b) && true) (sym (met_one s c))
+      ∙ ap (λ (b : Bool). beq (variable σ (suc used)) (xor (bit s t) b) && true) (sym (met_one s c))
   gate_law used t (c ∷ d ∷ cs) ht h = many_law used t (c ∷ d ∷ cs) ht h
 
 -- what the clauses say of w

@@ -1,35 +1,25 @@
--- Truth tables, and the two kinds of clauses as folds over their literals. Assumes nothing.
+-- The shapes of clauses by truth tables, and the two kinds of clauses as folds over their literals. Assumes nothing.
 use Rattle.std.proofs.Common.{◌≡◌, ℕ, zero, suc, ◌+◌, ◌%◌, ◌<◌, ◌≤◌, Bool, true, false, cond, not, ◌&&◌, ◌||◌, eqb, leb, List, [], ◌∷◌, ◌++◌, ℤ, pos, negsuc, neg_ℤ, sym, refl, ap, ◌∙◌, arith, le-leb}
 use mathlib.Core.Bool.{xor, and_assoc, beq, not-not}
-use Rattle.bits.proofs.Bools.{beq_true, none_xor, table₁, table₂, table₃, table₄}
+use Rattle.bits.proofs.Bools.{none_xor, table₂, table₃, table₄}
 use Rattle.checking.specs.Clauses.{Clause, OR, XOR}
 use Rattle.checking.specs.Satisfaction.{variable, value, true_count, holds, satisfies, variable_of}
 
--- two truth values are the same
-abbrev pub same : Bool → Bool → Bool
-same a b = cond a b (not b)
-
-pub same_true : (a b : Bool) → same a b ≡ true → a ≡ b
-same_true a b h = beq_true a b (sym (table₂ same beq refl a b) ∙ h)
-
-pub same_self : (a : Bool) → same a a ≡ true
-same_self = table₁ _ _ refl
-
 -- ---- the shapes of a gate's clauses, and of a line's
 
-pub shape_0 : (w v : Bool) → (xor w (xor v false) && true) ≡ (same w (xor v true) && true)
+pub shape_0 : (w v : Bool) → (xor w (xor v false) && true) ≡ (beq w (xor v true) && true)
 unfolding xor
 shape_0 = table₂ _ _ refl
 
-pub shape_1 : (w v f : Bool) → (xor (not w) (xor v (xor f false)) && true) ≡ (same w (xor v f) && true)
+pub shape_1 : (w v f : Bool) → (xor (not w) (xor v (xor f false)) && true) ≡ (beq w (xor v f) && true)
 unfolding xor
 shape_1 = table₃ _ _ refl
 
-pub shape_2 : (p w v f : Bool) → ((p || not f) && ((not p || f) && (xor (not w) (xor v (xor p false)) && true))) ≡ (same p f && (same w (xor v f) && true))
+pub shape_2 : (p w v f : Bool) → ((p || not f) && ((not p || f) && (xor (not w) (xor v (xor p false)) && true))) ≡ (beq p f && (beq w (xor v f) && true))
 unfolding xor
 shape_2 = table₄ _ _ refl
 
-pub shape_d : (d a b : Bool) → xor (not d) (xor a (xor b false)) ≡ same d (xor a b)
+pub shape_d : (d a b : Bool) → xor (not d) (xor a (xor b false)) ≡ beq d (xor a b)
 unfolding xor
 shape_d = table₃ _ _ refl
 

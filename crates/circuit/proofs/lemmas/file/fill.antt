@@ -1,2 +1,2 @@
--- The laws of `specs/Fill.antt`.
+-- The laws of `specs/private/Fill.antt`.
 pub mod Laws

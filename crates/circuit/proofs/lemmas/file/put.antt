@@ -1,2 +1,2 @@
--- The laws of `specs/Put.antt` and of what the writer's functions make.
+-- The laws of `specs/private/Put.antt` and of what the writer's functions make.
 pub mod Laws

@@ -1,9 +1,9 @@
--- `checking::clauses::sizes` meets its contract. Assumes nothing.
+-- `checking::clauses::cascade_totals` meets its contract. Assumes nothing.
 use Rattle.std.proofs.Common.{sym, ◌∙◌}
 use Rattle.std.proofs.lemmas.Result.{err_from_is_err_and}
 use Rattle.circuit.proofs.Promises.{lines_good, size_served}
 use Rattle.checking.proofs.lemmas.clauses.Loop.{sizes_lines, sizes_refused, sizes_tested}
-use Rattle.checking.proofs.clauses.sizes.Goals as goal
+use Rattle.checking.proofs.clauses.cascade_totals.Goals as goal
 
 pub returns-then-not-line_count_good : goal.returns-then-not-line_count_good
 returns-then-not-line_count_good c = sym (sizes_lines _ _ (sym c.line_count_good.ensures ∙ c.if-not-line_count_good.true))
