@@ -4,6 +4,7 @@
 #[allow(dead_code)]
 #[path = "../tests/capi.rs"]
 mod capi;
+#[allow(dead_code)]
 #[path = "../tests/lists.rs"]
 mod lists;
 #[path = "../tests/pairs.rs"]
@@ -15,10 +16,9 @@ mod random;
 #[path = "../tests/reference.rs"]
 mod reference;
 
-use lists::List;
 use pairs::Rewrites;
 use random::Random;
-use reference::Gate;
+use reference::{Gate, Header};
 use std::process::Command;
 use std::time::Instant;
 
@@ -41,19 +41,6 @@ fn seconds(time: Option<f64>) -> String {
     time.map_or(format!("more than {PATIENCE}"), |time| format!("{time:.2}"))
 }
 
-/// A clause list as the solver's text.
-fn dimacs(list: &List) -> String {
-    let mut text = format!("p cnf {} {}\n", list.variables, list.clauses.len());
-    for clause in &list.clauses {
-        text += if clause.xor { "x" } else { "" };
-        for literal in &clause.literals {
-            text += &format!("{literal} ");
-        }
-        text += "0\n";
-    }
-    text
-}
-
 /// The words of each gate.
 fn words(gates: &[Gate]) -> Vec<[u64; 3]> {
     gates.iter().map(|gate| [gate.positive, gate.negative, gate.target]).collect()
@@ -68,8 +55,8 @@ fn solved() -> Option<f64> {
 
 fn row(random: &mut Random, lines: u64, gates: usize, kind: Rewrites) {
     let (a, b) = pairs::equal_pair(random, lines, gates, kind);
-    std::fs::write(A, reference::text_of(lines, &a)).unwrap();
-    std::fs::write(B, reference::text_of(lines, &b)).unwrap();
+    std::fs::write(A, reference::text_of(Header::unmarked(lines), &a)).unwrap();
+    std::fs::write(B, reference::text_of(Header::unmarked(lines), &b)).unwrap();
     let equal = run(&format!("./equal {A} {B}"));
     let by = equal.as_ref().map_or("no verdict", |(by, _)| by);
     let made = Instant::now();
@@ -79,7 +66,7 @@ fn row(random: &mut Random, lines: u64, gates: usize, kind: Rewrites) {
         Some(0) => seconds(solved().map(|time| made + time)),
         Some(1) => {
             let list = lists::emit(lines, &lists::miter(lines, &words(&a), &words(&b)));
-            std::fs::write(CLAUSES, dimacs(&list)).unwrap();
+            std::fs::write(CLAUSES, lists::dimacs(&list)).unwrap();
             format!("refused; solver alone {}", seconds(solved()))
         }
         _ => panic!("./tomiter failed"),

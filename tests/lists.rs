@@ -1,6 +1,6 @@
-//! The miter of two cascades and its clause list, by the C interface.
+//! The miter of two cascades, its clause list and that of the two, by the C interface.
 
-use crate::capi;
+use crate::capi::{self, Header, SizesAnswer};
 
 /// The words of the miter of two cascades, a gate as its three words.
 pub fn miter(lines: u64, a: &[[u64; 3]], b: &[[u64; 3]]) -> Vec<u64> {
@@ -33,14 +33,34 @@ pub struct List {
     pub clauses: Vec<Clause>,
 }
 
-/// The clause list of a cascade's words, read strictly.
+/// The clause list of a cascade's words.
 pub fn emit(lines: u64, words: &[u64]) -> List {
     let sizes = unsafe { capi::cascade_sizes(lines, words.as_ptr(), words.len()) };
+    read(sizes, |out: &mut [i16]| {
+        let (start, room) = (out.as_mut_ptr(), out.len());
+        unsafe { capi::cascade_emit(lines, words.as_ptr(), words.len(), start, room) }
+    })
+}
+
+/// The clause list of the words of two cascades with the same header.
+pub fn pair(header: Header, a: &[u64], b: &[u64]) -> List {
+    let (first, second) = (a.as_ptr(), b.as_ptr());
+    let sizes = unsafe {
+        capi::cascade_pair_sizes(header, first, a.len(), header, second, b.len())
+    };
+    read(sizes, |out: &mut [i16]| {
+        let (start, room) = (out.as_mut_ptr(), out.len());
+        unsafe {
+            capi::cascade_pair_emit(header, first, a.len(), header, second, b.len(), start, room)
+        }
+    })
+}
+
+/// The list of those sizes that is emitted, read strictly.
+fn read(sizes: SizesAnswer, emit: impl FnOnce(&mut [i16]) -> SizesAnswer) -> List {
     assert_eq!(sizes.number, 0, "sizes are refused");
     let mut out = vec![0i16; sizes.words as usize];
-    let answer = unsafe {
-        capi::cascade_emit(lines, words.as_ptr(), words.len(), out.as_mut_ptr(), out.len())
-    };
+    let answer = emit(&mut out);
     assert_eq!(answer, sizes, "the emission's totals are not the sizes");
     let mut clauses = Vec::new();
     let mut rest = &out[..];
@@ -63,4 +83,16 @@ pub fn emit(lines: u64, words: &[u64]) -> List {
         variables: answer.variables,
         clauses,
     }
+}
+
+/// The list as the solver's text: an XOR has `x` joined to its first literal, ` 0` closes a clause.
+pub fn dimacs(list: &List) -> String {
+    let mut text = format!("p cnf {} {}\n", list.variables, list.clauses.len());
+    for clause in &list.clauses {
+        let literals: Vec<String> = clause.literals.iter().map(i64::to_string).collect();
+        text += if clause.xor { "x" } else { "" };
+        text += &literals.join(" ");
+        text += " 0\n";
+    }
+    text
 }

@@ -1,6 +1,7 @@
 //! The satisfying assignments of emitted clauses on small cascades, against simulation: pairs, also
-//! after lists of steps and reductions on their miter. Every assignment is tried, and CryptoMiniSat
-//! is asked as well where it is there. The spelled inputs are compared, and not just counted.
+//! after lists of steps and reductions on their miter; and pairs with constants and junk lines, also
+//! after such lists on each of the two alone. Every assignment is tried, and CryptoMiniSat is asked as
+//! well where it is there. The spelled inputs are compared, and not just counted.
 
 #[allow(dead_code)]
 mod capi;
@@ -9,7 +10,8 @@ mod lists;
 mod random;
 mod solver;
 
-use lists::{Clause, List, emit, miter};
+use capi::Header;
+use lists::{Clause, List, dimacs, emit, miter};
 use random::Random;
 use std::collections::BTreeMap;
 
@@ -17,6 +19,9 @@ const SEED: u64 = 20_240_601;
 /// Pairs that are tried by every assignment, and of these the ones that the solver gets too.
 const PAIRS: usize = 3_000;
 const SOLVED: usize = 400;
+/// The same of pairs with marks.
+const MARKED_PAIRS: usize = 6_000;
+const MARKED_SOLVED: usize = 400;
 /// Lists with more variables are not tried by every assignment.
 const MOST_VARIABLES: u64 = 18;
 /// Pairs, equal ones and others, of which at least so many are tried after a step that only T-01's rule
@@ -98,9 +103,25 @@ fn random_pair(random: &mut Random, lines: u64) -> (Vec<Gate>, Vec<Gate>) {
     (a, b)
 }
 
+fn unmarked(lines: u64) -> Header {
+    Header { lines, constants: 0, values: 0, junk: 0 }
+}
+
+/// Constants and junk lines, often all lines, and not without any.
+fn random_marks(random: &mut Random, lines: u64) -> Header {
+    let all = (1 << lines) - 1;
+    let mut mask = || if random.one_in(4) { all } else { random.word() & random.word() & all };
+    let (constants, junk) = (mask(), mask());
+    if constants | junk == 0 {
+        return random_marks(random, lines);
+    }
+    Header { lines, constants, values: constants & random.word(), junk }
+}
+
 // ---- the calls
 
 const EQUAL_AFTER_PASSING: &str = "pair: equal, after a step that only T-01's rule allows";
+const SOLVED_EMPTY: &str = "marked pair: a clause without literals, by the solver";
 const DIFFERS_AFTER_PASSING: &str = "pair: differs, after a step that only T-01's rule allows";
 
 /// How often each kind of call and answer occurred.
@@ -183,32 +204,25 @@ fn enumerate(lines: u64, list: &List) -> Spelled {
     spelled
 }
 
-/// The clauses as a file of the solver: an XOR has `x` joined to its first literal.
-fn text_of(list: &List) -> String {
-    let mut text = format!("p cnf {} {}\n", list.variables, list.clauses.len());
-    for clause in &list.clauses {
-        text.push_str(if clause.xor { "x" } else { "" });
-        for literal in &clause.literals {
-            text.push_str(&format!("{literal} "));
-        }
-        text.push_str("0\n");
-    }
-    text
-}
-
-/// The same from the solver.
-fn solve(lines: u64, list: &List) -> Spelled {
+/// The same from the solver, of the list's text.
+fn solve(lines: u64, text: &str) -> Spelled {
     let mut spelled = Spelled::new();
-    for input in solver::spelled(lines, text_of(list).as_bytes()) {
+    for input in solver::spelled(lines, text.as_bytes()) {
         *spelled.entry(input).or_default() += 1;
     }
     spelled
 }
 
-/// The inputs on which two cascades differ, once each.
-fn differing(lines: u64, a: &[Gate], b: &[Gate]) -> Spelled {
-    let differ = |&input: &u64| simulate(a, input) != simulate(b, input);
-    (0..1 << lines).filter(differ).map(|input| (input, 1)).collect()
+/// The inputs that honour the constants and on which a line that is not junk comes out differently, once
+/// each.
+fn differing(header: Header, a: &[Gate], b: &[Gate]) -> Spelled {
+    let honours = |input, line| !bit(header.constants, line) || bit(input, line) == bit(header.values, line);
+    let differ = |&input: &u64| {
+        let (one, other) = (simulate(a, input), simulate(b, input));
+        let counts = |line| !bit(header.junk, line) && bit(one, line) != bit(other, line);
+        (0..header.lines).all(|line| honours(input, line)) && (0..header.lines).any(counts)
+    };
+    (0..1 << header.lines).filter(differ).map(|input| (input, 1)).collect()
 }
 
 // ---- paper 001, example 5
@@ -230,6 +244,128 @@ fn example_five() {
     assert!(enumerate(3, &list).is_empty(), "example 5 has a model");
 }
 
+// ---- pairs
+
+/// A list of up to so many calls on the words. Tells whether only T-01's rule allows a step of it.
+fn any_calls(random: &mut Random, words: &mut Vec<u64>, lines: u64, calls: u64, seen: &mut Seen) -> bool {
+    let mut wider = false;
+    for _ in 0..calls {
+        let number = any_lines(random, lines);
+        if random.one_in(3) {
+            reduce(words, number, seen);
+        } else {
+            wider |= step(words, number, seen);
+        }
+    }
+    wider
+}
+
+/// Pairs without marks, also after calls on their miter.
+fn check_pairs(random: &mut Random, with_solver: bool, seen: &mut Seen) {
+    let (mut tried, mut solved) = (0, 0);
+    while tried < PAIRS {
+        let lines = 1 + random.below(3);
+        let mut passing = None;
+        if lines == 3 && !random.one_in(3) {
+            passing = (0..100).find_map(|_| passing_pair(random, lines));
+        }
+        let fewest = u64::from(passing.is_some());
+        let (a, b) = match passing {
+            Some(pair) => pair,
+            None => random_pair(random, lines),
+        };
+        let mut words = miter(lines, &a, &b);
+        let calls = fewest + random.below(4 - fewest);
+        let wider = any_calls(random, &mut words, lines, calls, seen);
+        let list = emit(lines, &words);
+        if list.variables > MOST_VARIABLES {
+            see(seen, "too many variables, not tried");
+            continue;
+        }
+        let right = differing(unmarked(lines), &a, &b);
+        assert_eq!(enumerate(lines, &list), right, "lines {lines}, A {a:?}, B {b:?}, words {words:?}");
+        see(seen, if right.is_empty() { "pair: equal" } else { "pair: differs" });
+        see(seen, if calls == 0 { "pair: no call" } else { "pair: after calls" });
+        if wider {
+            see(seen, if right.is_empty() { EQUAL_AFTER_PASSING } else { DIFFERS_AFTER_PASSING });
+        }
+        if with_solver && solved < SOLVED {
+            let by_solver = solve(lines, &dimacs(&list));
+            assert_eq!(by_solver, right, "the solver: lines {lines}, A {a:?}, B {b:?}, words {words:?}");
+            solved += 1;
+        }
+        tried += 1;
+    }
+    println!("models: {tried} pairs by every assignment, {solved} of them by the solver, 0 mismatches");
+}
+
+/// Pairs with marks, also after calls on each of the two alone.
+fn check_marked_pairs(random: &mut Random, with_solver: bool, seen: &mut Seen) {
+    let (mut tried, mut solved) = (0, 0);
+    while tried < MARKED_PAIRS {
+        let lines = 1 + random.below(3);
+        let header = random_marks(random, lines);
+        let (a, b) = random_pair(random, lines);
+        let (mut first, mut second) = (a.concat(), b.concat());
+        let calls = [random.below(3), random.below(3)];
+        any_calls(random, &mut first, lines, calls[0], seen);
+        any_calls(random, &mut second, lines, calls[1], seen);
+        let list = lists::pair(header, &first, &second);
+        if list.variables > MOST_VARIABLES {
+            see(seen, "too many variables, not tried");
+            continue;
+        }
+        let right = differing(header, &a, &b);
+        assert_eq!(enumerate(lines, &list), right, "{header:?}, A {a:?}, B {b:?}, {first:?}, {second:?}");
+        see(seen, if right.is_empty() { "marked pair: equal" } else { "marked pair: differs" });
+        see_marks(header, &a, &b, &right, seen);
+        if first.len() + second.len() < 3 * (a.len() + b.len()) {
+            see(seen, if right.is_empty() { "marked pair: equal, after calls" } else { "marked pair: differs, after calls" });
+        }
+        if with_solver && solved < MARKED_SOLVED {
+            let text = dimacs(&list);
+            assert_eq!(solve(lines, &text), right, "the solver: {header:?}, A {a:?}, B {b:?}, {first:?}, {second:?}");
+            check_empty(lines, &text, seen);
+            solved += 1;
+        }
+        tried += 1;
+    }
+    println!("models: {tried} pairs with marks by every assignment, {solved} of them by the solver, 0 mismatches");
+}
+
+/// How the marks bear on a pair.
+fn see_marks(header: Header, a: &[Gate], b: &[Gate], right: &Spelled, seen: &mut Seen) {
+    let Header { lines, constants, junk, .. } = header;
+    let all = (1 << lines) - 1;
+    let differ = |header| !differing(header, a, b).is_empty();
+    let targeted = |mask| a.iter().chain(b).any(|gate| bit(mask, gate[2]));
+    let kinds = [
+        ("marked pair: constants alone", junk == 0),
+        ("marked pair: junk lines alone", constants == 0),
+        ("marked pair: all lines junk, other outputs", junk == all && differ(unmarked(lines))),
+        ("marked pair: all lines constant", constants == all),
+        ("marked pair: differs, all lines constant", constants == all && !right.is_empty()),
+        ("marked pair: a line both constant and junk", constants & junk != 0),
+        ("marked pair: a constant on a target", targeted(constants)),
+        ("marked pair: a junk line on a target", targeted(junk)),
+        ("marked pair: equal by the constants", right.is_empty() && differ(Header { constants: 0, values: 0, ..header })),
+        ("marked pair: equal by the junk lines", right.is_empty() && differ(Header { junk: 0, ..header })),
+    ];
+    for (what, holds) in kinds {
+        let count = seen.entry(what).or_default();
+        *count += u64::from(holds);
+    }
+}
+
+/// A text whose last clause has no literal is written with ` 0`. The solver has no model of it, nor where
+/// the line is `0`, and has one where the clause is left out.
+fn check_empty(lines: u64, text: &str, seen: &mut Seen) {
+    let Some(others) = text.strip_suffix("\n 0\n") else { return };
+    assert!(solve(lines, &format!("{others}\n0\n")).is_empty(), "the solver has a model of an empty clause, 0:\n{text}");
+    assert!(!solve(lines, &format!("{others}\n")).is_empty(), "the solver has no model without the empty clause:\n{text}");
+    see(seen, SOLVED_EMPTY);
+}
+
 fn main() {
     let with_solver = solver::is_there();
     let seed = match std::env::args().nth(1) {
@@ -239,47 +375,8 @@ fn main() {
     let mut random = Random::new(seed);
     let mut seen = Seen::new();
     example_five();
-    let (mut tried, mut solved) = (0, 0);
-    while tried < PAIRS {
-        let lines = 1 + random.below(3);
-        let mut passing = None;
-        if lines == 3 && !random.one_in(3) {
-            passing = (0..100).find_map(|_| passing_pair(&mut random, lines));
-        }
-        let fewest = u64::from(passing.is_some());
-        let (a, b) = match passing {
-            Some(pair) => pair,
-            None => random_pair(&mut random, lines),
-        };
-        let mut words = miter(lines, &a, &b);
-        let calls = fewest + random.below(4 - fewest);
-        let mut wider = false;
-        for _ in 0..calls {
-            let number = any_lines(&mut random, lines);
-            if random.one_in(3) {
-                reduce(&mut words, number, &mut seen);
-            } else {
-                wider |= step(&mut words, number, &mut seen);
-            }
-        }
-        let list = emit(lines, &words);
-        if list.variables > MOST_VARIABLES {
-            see(&mut seen, "too many variables, not tried");
-            continue;
-        }
-        let right = differing(lines, &a, &b);
-        assert_eq!(enumerate(lines, &list), right, "lines {lines}, A {a:?}, B {b:?}, words {words:?}");
-        see(&mut seen, if right.is_empty() { "pair: equal" } else { "pair: differs" });
-        see(&mut seen, if calls == 0 { "pair: no call" } else { "pair: after calls" });
-        if wider {
-            see(&mut seen, if right.is_empty() { EQUAL_AFTER_PASSING } else { DIFFERS_AFTER_PASSING });
-        }
-        if with_solver && solved < SOLVED {
-            assert_eq!(solve(lines, &list), right, "the solver: lines {lines}, A {a:?}, B {b:?}, words {words:?}");
-            solved += 1;
-        }
-        tried += 1;
-    }
+    check_pairs(&mut random, with_solver, &mut seen);
+    check_marked_pairs(&mut random, with_solver, &mut seen);
     for (what, count) in &seen {
         println!("{count:>9}  {what}");
     }
@@ -293,17 +390,25 @@ fn main() {
         "pair: differs",
         "pair: no call",
         "pair: after calls",
+        "marked pair: equal",
+        "marked pair: differs",
+        "marked pair: equal, after calls",
+        "marked pair: differs, after calls",
     ] {
         assert!(seen.contains_key(what), "never seen: {what}");
+    }
+    for (what, count) in &seen {
+        assert!(*count > 0, "never seen: {what}");
     }
     for what in [EQUAL_AFTER_PASSING, DIFFERS_AFTER_PASSING] {
         let count = seen.get(what).copied().unwrap_or(0);
         assert!(count >= AFTER_PASSING, "seen {count} times: {what}");
     }
-    if !with_solver {
+    if with_solver {
+        assert!(seen.contains_key(SOLVED_EMPTY), "never seen: {SOLVED_EMPTY}");
+    } else {
         println!("****************************************************************");
         println!("models: NO cryptominisat5: the solver was not asked");
         println!("****************************************************************");
     }
-    println!("models: {tried} pairs by every assignment, {solved} of them by the solver, 0 mismatches");
 }
