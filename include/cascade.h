@@ -9,10 +9,20 @@
  * FILES. A cascade file is text. Lines end in LF, fields are parted by one tab (written -> here):
  *
  *     lines->3             first: the number of lines, 1 to 64
+ *     const->2->0          a constant: a line and the value that its input has, 0 or 1
+ *     junk->1              a junk line, whose output is ignored
  *     g->2->+0->-1         a gate: its target, then each control as + or - and its line, by rising line
  *     end                  last
  *
+ * All constants stand before all junk lines, each by rising line, and all of these before the gates.
  * Numbers are decimal, of one or two digits, without a leading zero.
+ *
+ * HEADERS. A header has the line count and the marks of a cascade: the mask of its constants, that of
+ * those with value 1, and that of its junk lines. A line may be both; without marks all three are 0. A
+ * state is permitted where it has the value of each constant. Two cascades with the same marks are equal
+ * where on each permitted state all lines but the junk ones come out alike. Run, inverse, miter, step,
+ * reduce, sizes, emit and the pick of the one with fewer gates take gates without marks; steps and
+ * reductions on each of two marked cascades alone change nothing of whether and where the two differ.
  *
  * ANSWERS. Every call tests its input. `number` is 0 where the call is served, and else says why it
  * is refused (enum cascade_number); `place` says where, and is 0 where nothing else is said. So test
@@ -32,6 +42,7 @@
  *     cascade_inverse       the words of the cascade
  *     cascade_miter         the words of both together; CASCADE_MAX_MITER_GATES * 3 hold every miter
  *     cascade_emit          the `words` that cascade_sizes gives; CASCADE_MAX_CLAUSE_WORDS hold all
+ *     cascade_pair_emit     the `words` that cascade_pair_sizes gives; CASCADE_MAX_PAIR_WORDS hold all
  *     cascade_fault_masks   CASCADE_GATE_MASKS words a gate of the suspect
  *
  * The calls keep no state and take no memory from the system, so threads may call at the same time,
@@ -48,10 +59,11 @@
  *         gates = r.gates;                        // the count that stands, after none too
  *     } while (r.found);
  *
- * EQUALITY. The clauses that cascade_emit gives of the miter of two cascades, as it was made or after
- * steps and reductions on it, can be satisfied exactly where the two cascades differ: variables 1 to
- * n of a satisfying assignment are lines 0 to n - 1 of an input on which they do. An OR clause needs a
- * true literal, and an XOR clause an odd number of them.
+ * EQUALITY. The clauses that cascade_emit gives of the miter of two cascades without marks, as it was
+ * made or after steps and reductions on it, can be satisfied exactly where the two cascades differ, and
+ * so can those that cascade_pair_emit gives of any two cascades: variables 1 to n of a satisfying
+ * assignment are lines 0 to n - 1 of a permitted state on which they do. An OR clause needs a true
+ * literal, and an XOR clause an odd number of them; where every line is junk, the last OR has none.
  *
  * examples/editor.c uses all of this. `tests/archive` proves the library and writes it, for Linux on
  * x86-64-v2, to target/staticlib/libcapi.a; it is linked by cc -Iinclude PROGRAM.c target/staticlib/libcapi.a
@@ -67,13 +79,14 @@ extern "C" {
 #endif
 
 #define CASCADE_MAX_LINES 64
-#define CASCADE_MAX_GATES 1024         /* of a cascade: read, write, run, inverse, miter, comparisons, faults */
+#define CASCADE_MAX_GATES 1024         /* of a cascade: read, write, run, inverse, miter, pairs, comparisons, faults */
 #define CASCADE_MAX_MITER_GATES 2048   /* of what step, reduce, sizes and emit are given */
 #define CASCADE_MAX_SWEEP_LINES 16     /* of cascade_first_difference */
 #define CASCADE_GATE_WORDS 3           /* words a gate */
 #define CASCADE_GATE_MASKS 2           /* masks a gate, of cascade_fault_masks */
-#define CASCADE_MAX_TEXT 252941        /* bytes of the longest text of a cascade */
-#define CASCADE_MAX_CLAUSE_WORDS 661890 /* words of the longest clause list */
+#define CASCADE_MAX_TEXT 254137        /* bytes of the longest text of a cascade */
+#define CASCADE_MAX_CLAUSE_WORDS 661890 /* words of the longest clause list of a miter */
+#define CASCADE_MAX_PAIR_WORDS 662082  /* words of the longest clause list of two cascades */
 #define CASCADE_STACK 2048             /* bytes of stack that a call stays below */
 
 /* Why a call is refused. */
@@ -87,11 +100,13 @@ enum cascade_number {
     CASCADE_TOO_MANY_GATES = 6,     /* more gates than the limit; of a file: at the first gate line too many */
     CASCADE_NO_GATE = 7,            /* words that form no gate on these lines; at the gate's index */
     CASCADE_LINE_COUNTS_DIFFER = 8, /* two cascades on different line counts */
-    CASCADE_BAD_STATE = 9,          /* a state with a bit above the lines; at its index in a list of states */
+    CASCADE_BAD_STATE = 9,          /* a state that is not permitted, or has a bit above the lines; at its index in a list of states */
     CASCADE_NO_ROOM = 10,           /* the buffer is shorter than the answer */
     CASCADE_BAD_WORD_COUNT = 11,    /* the number of words is no multiple of three */
     CASCADE_AGREEING_STATE = 12,    /* a state on which suspect and reference agree; at its index */
-    CASCADE_TOO_WIDE = 13           /* a sweep over more than 16 lines */
+    CASCADE_TOO_WIDE = 13,          /* a sweep over more than 16 lines */
+    CASCADE_BAD_MARK = 14,          /* a mark on no line, value 1 on no constant; of a file: a mark on no line or not above the one before, at the file line */
+    CASCADE_MARKS_DIFFER = 15       /* two cascades with different marks */
 };
 /* File lines count from 0, the header being 0; a missing line has the next index. Gates and states
  * count from 0. Of two cascades, the place of 7 is the index within the one that it was found in. */
@@ -111,6 +126,11 @@ struct cascade_gate {
     uint64_t positive, negative, target;
 };
 
+/* The line count; the masks of the constants, of those with value 1, and of the junk lines. */
+struct cascade_header {
+    uint64_t lines, constants, values, junk;
+};
+
 struct cascade_run_answer {
     uint64_t number, place, state;
 };
@@ -120,7 +140,7 @@ struct cascade_count_answer {
 };
 
 struct cascade_read_answer {
-    uint64_t number, place, lines, gates, taken;
+    uint64_t number, place, lines, constants, values, junk, gates, taken;
 };
 
 struct cascade_write_answer {
@@ -142,7 +162,7 @@ struct cascade_sizes_answer {
     uint64_t number, place, variables, clauses, words;
 };
 
-/* found is 1 where the two differ, and then state is the lowest input on which they do. */
+/* found is 1 where the two differ, and then state is the lowest permitted one on which they do. */
 struct cascade_state_answer {
     uint64_t number, place, found, state;
 };
@@ -157,11 +177,11 @@ struct cascade_fewer_answer {
 };
 
 /* The cascade at the start of a text, and how many bytes it took: reading stops after `end`. Refused
- * with 1 to 6 by file line, then 10. */
+ * with 1 to 6 and 14 by file line, then 10. */
 struct cascade_read_answer cascade_read(const uint8_t *text, size_t text_len, uint64_t *out, size_t out_len);
 
-/* The text of a cascade, and its length. Refused with 2, 11, 6, 7, 10, tested in this order. */
-struct cascade_write_answer cascade_write(uint64_t lines, const uint64_t *words, size_t words_len, uint8_t *out, size_t out_len);
+/* The text of a cascade, and its length. Refused with 2, 14, 11, 6, 7, 10, tested in this order. */
+struct cascade_write_answer cascade_write(struct cascade_header header, const uint64_t *words, size_t words_len, uint8_t *out, size_t out_len);
 
 /* The output state of a cascade. Refused with 2, 11, 6, 7, 9. */
 struct cascade_run_answer cascade_run(uint64_t lines, const uint64_t *words, size_t words_len, uint64_t state);
@@ -194,20 +214,29 @@ struct cascade_sizes_answer cascade_sizes(uint64_t lines, const uint64_t *words,
  * 11, 6, 7, 10. */
 struct cascade_sizes_answer cascade_emit(uint64_t lines, const uint64_t *words, size_t words_len, int16_t *out, size_t out_len);
 
-/* The lowest input on which two cascades differ, found by trying all. Refused with 2, 11, 6, 7 of the
- * first, the same of the second, 8, 13. */
-struct cascade_state_answer cascade_first_difference(uint64_t na, const uint64_t *a, size_t a_len, uint64_t nb, const uint64_t *b, size_t b_len);
+/* The sizes of the clause list of two cascades. Refused with 2, 14, 11, 6, 7 of the first, the same of
+ * the second, 8, 15. */
+struct cascade_sizes_answer cascade_pair_sizes(struct cascade_header a_header, const uint64_t *a, size_t a_len, struct cascade_header b_header, const uint64_t *b, size_t b_len);
 
-/* Whether two cascades differ on a state. Refused with 2, 11, 6, 7 of each, 8, 9. */
-struct cascade_differs_answer cascade_differs(uint64_t na, const uint64_t *a, size_t a_len, uint64_t nb, const uint64_t *b, size_t b_len, uint64_t state);
+/* The clause list of two cascades. With marks: an OR of one literal for each constant, the first's
+ * gates, the second's from the same inputs, the lines that count. Without marks it is that of their
+ * miter. Refused with 2, 14, 11, 6, 7 of each, 8, 15, 10. */
+struct cascade_sizes_answer cascade_pair_emit(struct cascade_header a_header, const uint64_t *a, size_t a_len, struct cascade_header b_header, const uint64_t *b, size_t b_len, int16_t *out, size_t out_len);
+
+/* The lowest permitted state on which two cascades differ, found by trying all. Refused with 2, 14, 11,
+ * 6, 7 of each, 8, 15, 13. */
+struct cascade_state_answer cascade_first_difference(struct cascade_header a_header, const uint64_t *a, size_t a_len, struct cascade_header b_header, const uint64_t *b, size_t b_len);
+
+/* Whether two cascades differ on a state. Refused with 2, 14, 11, 6, 7 of each, 8, 15, 9. */
+struct cascade_differs_answer cascade_differs(struct cascade_header a_header, const uint64_t *a, size_t a_len, struct cascade_header b_header, const uint64_t *b, size_t b_len, uint64_t state);
 
 /* The one of two cascades with fewer gates, the first on a tie. Refused with 2, 11, 6, 7 of each, 8. */
 struct cascade_fewer_answer cascade_fewer_gates(uint64_t na, const uint64_t *a, size_t a_len, uint64_t nb, const uint64_t *b, size_t b_len);
 
 /* Two masks a gate of the suspect: the lines that may be a missing positive control of it, and a
  * missing negative one, for all given states, on each of which suspect and reference differ. The
- * answer counts the suspect's gates. Refused with 2, 11, 6, 7 of each, 8, 9, 12, 10. */
-struct cascade_count_answer cascade_fault_masks(uint64_t na, const uint64_t *suspect, size_t suspect_len, uint64_t nb, const uint64_t *reference, size_t reference_len, const uint64_t *states, size_t states_len, uint64_t *out, size_t out_len);
+ * answer counts the suspect's gates. Refused with 2, 14, 11, 6, 7 of each, 8, 15, 9, 12, 10. */
+struct cascade_count_answer cascade_fault_masks(struct cascade_header a_header, const uint64_t *suspect, size_t suspect_len, struct cascade_header b_header, const uint64_t *reference, size_t reference_len, const uint64_t *states, size_t states_len, uint64_t *out, size_t out_len);
 
 #ifdef __cplusplus
 }

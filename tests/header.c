@@ -20,16 +20,25 @@ FIELD(gate, negative, 1);
 FIELD(gate, target, 2);
 WORDS(gate, 3);
 
+FIELD(header, lines, 0);
+FIELD(header, constants, 1);
+FIELD(header, values, 2);
+FIELD(header, junk, 3);
+WORDS(header, 4);
+
 ANSWER(run, 3);
 FIELD(run_answer, state, 2);
 
 ANSWER(count, 3);
 FIELD(count_answer, gates, 2);
 
-ANSWER(read, 5);
+ANSWER(read, 8);
 FIELD(read_answer, lines, 2);
-FIELD(read_answer, gates, 3);
-FIELD(read_answer, taken, 4);
+FIELD(read_answer, constants, 3);
+FIELD(read_answer, values, 4);
+FIELD(read_answer, junk, 5);
+FIELD(read_answer, gates, 6);
+FIELD(read_answer, taken, 7);
 
 ANSWER(write, 3);
 FIELD(write_answer, written, 2);
@@ -72,6 +81,17 @@ static void expect(const char *row, uint64_t got, uint64_t right)
     }
 }
 
+/* A header without marks, and one with. */
+static struct cascade_header plain(uint64_t lines)
+{
+    return (struct cascade_header){.lines = lines};
+}
+
+static struct cascade_header marked(uint64_t lines, uint64_t constants, uint64_t values, uint64_t junk)
+{
+    return (struct cascade_header){lines, constants, values, junk};
+}
+
 /* A call that is refused, made twice. */
 #define REFUSED(call, n, p) (expect(#call " number", (call).number, n), expect(#call " place", (call).place, p))
 
@@ -105,10 +125,36 @@ static void fields(void)
     expect("a pair, a drop and a turn: gates", reduce.gates, 3);
     expect("a pair, a drop and a turn: pairs", reduce.pairs, 1);
     expect("a pair, a drop and a turn: merges", reduce.merges, 2);
-    struct cascade_state_answer first = cascade_first_difference(3, toffoli, 3, 3, toffoli, 0);
+    /* lines 0 and 1 are 1 and 0, and line 3 is junk: the same list without the junk line's d */
+    sizes = cascade_pair_sizes(marked(4, 3, 1, 8), two, 6, marked(4, 3, 1, 8), two, 3);
+    expect("sizes of a marked pair: variables", sizes.variables, 10);
+    expect("sizes of a marked pair: clauses", sizes.clauses, 9);
+    expect("sizes of a marked pair: words", sizes.words, 38);
+    int16_t pair_list[38] = {0};
+    sizes = cascade_pair_emit(marked(4, 3, 1, 8), two, 6, marked(4, 3, 1, 8), two, 3, pair_list, 38);
+    expect("emission of a marked pair: variables", sizes.variables, 10);
+    expect("emission of a marked pair: clauses", sizes.clauses, 9);
+    expect("emission of a marked pair: words", sizes.words, 38);
+    expect("emission of a marked pair: the constant 1", (uint64_t)pair_list[2], 1);
+    expect("emission of a marked pair: the constant 0", (uint64_t)-pair_list[5], 2);
+    const uint8_t text[] = "lines\t4\nconst\t0\t1\nconst\t1\t0\njunk\t3\nend\n";
+    struct cascade_read_answer read = cascade_read(text, sizeof text - 1, NULL, 0);
+    expect("marks read: lines", read.lines, 4);
+    expect("marks read: constants", read.constants, 3);
+    expect("marks read: values", read.values, 1);
+    expect("marks read: junk lines", read.junk, 8);
+    expect("marks read: gates", read.gates, 0);
+    expect("marks read: bytes", read.taken, sizeof text - 1);
+    struct cascade_state_answer first = cascade_first_difference(plain(3), toffoli, 3, plain(3), toffoli, 0);
     expect("first difference to no gate found", first.found, 1);
     expect("first difference to no gate", first.state, 3);
-    struct cascade_differs_answer differs = cascade_differs(3, toffoli, 3, 3, one_control, 3, 1);
+    first = cascade_first_difference(marked(3, 4, 4, 2), toffoli, 3, marked(3, 4, 4, 2), toffoli, 0);
+    expect("first difference with line 2 at 1", first.state, 7);
+    first = cascade_first_difference(marked(3, 1, 0, 0), toffoli, 3, marked(3, 1, 0, 0), toffoli, 0);
+    expect("first difference with line 0 at 0: found", first.found, 0);
+    first = cascade_first_difference(marked(3, 0, 0, 4), toffoli, 3, marked(3, 0, 0, 4), toffoli, 0);
+    expect("first difference with line 2 junk: found", first.found, 0);
+    struct cascade_differs_answer differs = cascade_differs(plain(3), toffoli, 3, plain(3), one_control, 3, 1);
     expect("differs number", differs.number, 0);
     expect("differs on 1", differs.differs, 1);
     struct cascade_fewer_answer fewer = cascade_fewer_gates(2, three, 9, 2, two, 6);
@@ -130,7 +176,8 @@ static void refusals(void)
     uint8_t bytes[64];
     int16_t clauses[64];
     REFUSED(cascade_read(text, sizeof text - 1, out, 12), 3, 1);
-    REFUSED(cascade_write(2, bad, 6, bytes, 64), 7, 1);
+    REFUSED(cascade_write(plain(2), bad, 6, bytes, 64), 7, 1);
+    REFUSED(cascade_write(marked(2, 4, 0, 0), bad, 5, bytes, 64), 14, 0);
     REFUSED(cascade_run(2, bad, 6, 0), 7, 1);
     REFUSED(cascade_inverse(2, bad, 6, out, 12), 7, 1);
     REFUSED(cascade_miter(2, good, 6, 2, bad, 6, out, 12), 7, 1);
@@ -139,15 +186,29 @@ static void refusals(void)
     REFUSED(cascade_reduce(2, bad, 6), 7, 1);
     REFUSED(cascade_sizes(2, bad, 6), 7, 1);
     REFUSED(cascade_emit(2, bad, 6, clauses, 64), 7, 1);
-    REFUSED(cascade_first_difference(2, good, 6, 2, bad, 6), 7, 1);
-    REFUSED(cascade_first_difference(2, good, 6, 3, good, 6), 8, 0);
-    REFUSED(cascade_differs(2, good, 6, 2, bad, 6, 0), 7, 1);
-    REFUSED(cascade_differs(2, good, 6, 3, good, 6, 0), 8, 0);
+    REFUSED(cascade_pair_sizes(plain(2), good, 6, plain(2), bad, 6), 7, 1);
+    REFUSED(cascade_pair_sizes(plain(2), good, 6, marked(2, 1, 2, 0), bad, 6), 14, 0);
+    REFUSED(cascade_pair_sizes(plain(2), good, 6, marked(3, 1, 0, 0), good, 6), 8, 0);
+    REFUSED(cascade_pair_sizes(plain(2), good, 6, marked(2, 1, 0, 0), good, 6), 15, 0);
+    REFUSED(cascade_pair_emit(plain(2), good, 6, plain(2), bad, 6, clauses, 64), 7, 1);
+    REFUSED(cascade_pair_emit(plain(2), good, 6, marked(2, 0, 0, 4), bad, 6, clauses, 64), 14, 0);
+    REFUSED(cascade_pair_emit(plain(2), good, 6, marked(2, 0, 0, 1), good, 6, clauses, 64), 15, 0);
+    REFUSED(cascade_pair_emit(marked(2, 0, 0, 1), good, 6, marked(2, 0, 0, 1), good, 6, clauses, 1), 10, 0);
+    REFUSED(cascade_first_difference(plain(2), good, 6, plain(2), bad, 6), 7, 1);
+    REFUSED(cascade_first_difference(plain(2), good, 6, plain(3), good, 6), 8, 0);
+    REFUSED(cascade_first_difference(plain(17), good, 6, marked(17, 1, 1, 0), good, 6), 15, 0);
+    REFUSED(cascade_differs(plain(2), good, 6, plain(2), bad, 6, 0), 7, 1);
+    REFUSED(cascade_differs(plain(2), good, 6, plain(3), good, 6, 0), 8, 0);
+    REFUSED(cascade_differs(plain(2), good, 6, marked(2, 0, 0, 1), good, 6, 4), 15, 0);
+    REFUSED(cascade_differs(marked(2, 1, 1, 0), good, 6, marked(2, 1, 1, 0), good, 6, 2), 9, 0);
     REFUSED(cascade_fewer_gates(2, good, 6, 2, bad, 6), 7, 1);
     REFUSED(cascade_fewer_gates(2, good, 6, 3, good, 6), 8, 0);
-    REFUSED(cascade_fault_masks(3, one_control, 3, 4, toffoli, 3, agreeing, 1, out, 12), 8, 0);
-    REFUSED(cascade_fault_masks(3, one_control, 3, 3, toffoli, 3, outside, 2, out, 12), 9, 1);
-    REFUSED(cascade_fault_masks(3, one_control, 3, 3, toffoli, 3, agreeing, 2, out, 12), 12, 1);
+    REFUSED(cascade_fault_masks(plain(3), one_control, 3, plain(4), toffoli, 3, agreeing, 1, out, 12), 8, 0);
+    REFUSED(cascade_fault_masks(plain(3), one_control, 3, marked(3, 2, 0, 0), toffoli, 3, outside, 2, out, 12), 15, 0);
+    REFUSED(cascade_fault_masks(plain(3), one_control, 3, plain(3), toffoli, 3, outside, 2, out, 12), 9, 1);
+    REFUSED(cascade_fault_masks(marked(3, 2, 0, 0), one_control, 3, marked(3, 2, 0, 0), toffoli, 3, agreeing, 2, out, 12), 9, 1);
+    REFUSED(cascade_fault_masks(plain(3), one_control, 3, plain(3), toffoli, 3, agreeing, 2, out, 12), 12, 1);
+    REFUSED(cascade_fault_masks(marked(3, 0, 0, 4), one_control, 3, marked(3, 0, 0, 4), toffoli, 3, agreeing, 2, out, 12), 12, 0);
 }
 
 /* The longest file: 1,024 gates with 63 controls on 64 lines, targets in turn; twice as many, the
@@ -166,26 +227,37 @@ static void fill_longest(void)
 static void limits(void)
 {
     static uint8_t text[CASCADE_MAX_TEXT + 1];
-    static int16_t clauses[CASCADE_MAX_CLAUSE_WORDS];
+    static int16_t clauses[CASCADE_MAX_PAIR_WORDS];
     static uint64_t words[CASCADE_MAX_GATES * CASCADE_GATE_WORDS];
     const size_t few = CASCADE_MAX_GATES * CASCADE_GATE_WORDS, many = 2 * few;
     fill_longest();
-    struct cascade_write_answer write = cascade_write(CASCADE_MAX_LINES, longest, few, text, CASCADE_MAX_TEXT);
+    const struct cascade_header all = marked(CASCADE_MAX_LINES, ~(uint64_t)0, 3, ~(uint64_t)0);
+    const struct cascade_header constants = marked(CASCADE_MAX_LINES, ~(uint64_t)0, 3, 0);
+    struct cascade_write_answer write = cascade_write(all, longest, few, text, CASCADE_MAX_TEXT);
     expect("longest text: number", write.number, CASCADE_SERVED);
     expect("longest text: bytes", write.written, CASCADE_MAX_TEXT);
-    write = cascade_write(CASCADE_MAX_LINES, longest, few, text, CASCADE_MAX_TEXT - 1);
+    write = cascade_write(all, longest, few, text, CASCADE_MAX_TEXT - 1);
     expect("longest text without room", write.number, CASCADE_NO_ROOM);
     struct cascade_read_answer read = cascade_read(text, CASCADE_MAX_TEXT, words, few);
     expect("longest text read: gates", read.gates, CASCADE_MAX_GATES);
+    expect("longest text read: constants", read.constants, all.constants);
+    expect("longest text read: values", read.values, all.values);
+    expect("longest text read: junk lines", read.junk, all.junk);
     expect("longest text read: words", memcmp(words, longest, sizeof words) == 0, 1);
     struct cascade_sizes_answer sizes = cascade_emit(CASCADE_MAX_LINES, longest, many, clauses, CASCADE_MAX_CLAUSE_WORDS);
     expect("longest clause list: number", sizes.number, CASCADE_SERVED);
     expect("longest clause list: words", sizes.words, CASCADE_MAX_CLAUSE_WORDS);
-    REFUSED(cascade_write(64, longest, few + 3, text, sizeof text), CASCADE_TOO_MANY_GATES, 0);
+    sizes = cascade_pair_emit(constants, longest, few, constants, longest + few, few, clauses, CASCADE_MAX_PAIR_WORDS);
+    expect("longest clause list of a pair: number", sizes.number, CASCADE_SERVED);
+    expect("longest clause list of a pair: words", sizes.words, CASCADE_MAX_PAIR_WORDS);
+    sizes = cascade_pair_emit(constants, longest, few, constants, longest + few, few, clauses, CASCADE_MAX_PAIR_WORDS - 1);
+    expect("longest clause list of a pair without room", sizes.number, CASCADE_NO_ROOM);
+    REFUSED(cascade_pair_sizes(constants, longest, few, constants, longest, few + 3), CASCADE_TOO_MANY_GATES, 0);
+    REFUSED(cascade_write(plain(64), longest, few + 3, text, sizeof text), CASCADE_TOO_MANY_GATES, 0);
     REFUSED(cascade_sizes(64, longest, many + 3), CASCADE_TOO_MANY_GATES, 0);
     REFUSED(cascade_sizes(CASCADE_MAX_LINES + 1, longest, few), CASCADE_BAD_LINE_COUNT, 0);
     REFUSED(cascade_sizes(64, longest, 4), CASCADE_BAD_WORD_COUNT, 0);
-    REFUSED(cascade_first_difference(CASCADE_MAX_SWEEP_LINES + 1, longest, 0, CASCADE_MAX_SWEEP_LINES + 1, longest, 0), CASCADE_TOO_WIDE, 0);
+    REFUSED(cascade_first_difference(plain(CASCADE_MAX_SWEEP_LINES + 1), longest, 0, plain(CASCADE_MAX_SWEEP_LINES + 1), longest, 0), CASCADE_TOO_WIDE, 0);
 }
 
 /* A file with one line that is wrong, by the number's name. */
@@ -202,6 +274,9 @@ static void file_numbers(void)
         {"lines\t2\ng\t2\nend\n", CASCADE_LINE_OUTSIDE, 1},
         {"lines\t2\ng\t0\t+0\nend\n", CASCADE_TARGET_CONTROLLED, 1},
         {"lines\t3\ng\t0\ng\t0\t+2\t-1\nend\n", CASCADE_NOT_RISING, 2},
+        {"lines\t3\nconst\t2\t1\nconst\t3\t1\nend\n", CASCADE_BAD_MARK, 2},
+        {"lines\t3\njunk\t2\njunk\t2\nend\n", CASCADE_BAD_MARK, 2},
+        {"lines\t3\njunk\t2\nconst\t2\t1\nend\n", CASCADE_WRONG_FORM, 2},
     };
     uint64_t out[12];
     for (size_t i = 0; i < sizeof files / sizeof *files; i++) {
@@ -253,8 +328,8 @@ static void nulls(void)
     REFUSED(cascade_read(NULL, 0, out, 3), CASCADE_WRONG_FORM, 0);
     REFUSED(cascade_read((const uint8_t *)"lines\t3\ng\t0\nend\n", 16, NULL, 0), CASCADE_NO_ROOM, 0);
     expect("null: read", cascade_read((const uint8_t *)"lines\t3\nend\n", 12, NULL, 0).lines, 3);
-    expect("null: write", cascade_write(3, NULL, 0, text, 12).written, 12);
-    REFUSED(cascade_write(3, a, 3, NULL, 0), CASCADE_NO_ROOM, 0);
+    expect("null: write", cascade_write(plain(3), NULL, 0, text, 12).written, 12);
+    REFUSED(cascade_write(plain(3), a, 3, NULL, 0), CASCADE_NO_ROOM, 0);
     expect("null: run", cascade_run(3, NULL, 0, 5).state, 5);
     expect("null: run records", cascade_run_records(3, NULL, 0, 5).state, 5);
     REFUSED(cascade_inverse(3, NULL, 0, NULL, 0), CASCADE_SERVED, 0);
@@ -267,10 +342,14 @@ static void nulls(void)
     expect("null: sizes", cascade_sizes(1, NULL, 0).words, 6);
     expect("null: emission", cascade_emit(1, NULL, 0, clauses, 16).words, 6);
     REFUSED(cascade_emit(1, NULL, 0, NULL, 0), CASCADE_NO_ROOM, 0);
-    expect("null: first difference", cascade_first_difference(3, NULL, 0, 3, a, 3).state, 3);
-    expect("null: differs", cascade_differs(3, NULL, 0, 3, a, 3, 3).differs, 1);
+    expect("null: pair sizes", cascade_pair_sizes(plain(3), NULL, 0, plain(3), a, 3).words, 34);
+    expect("null: pair sizes, second", cascade_pair_sizes(plain(3), a, 3, plain(3), NULL, 0).words, 34);
+    expect("null: pair emission", cascade_pair_emit(marked(1, 0, 0, 1), NULL, 0, marked(1, 0, 0, 1), NULL, 0, clauses, 16).words, 2);
+    REFUSED(cascade_pair_emit(plain(1), NULL, 0, plain(1), NULL, 0, NULL, 0), CASCADE_NO_ROOM, 0);
+    expect("null: first difference", cascade_first_difference(plain(3), NULL, 0, plain(3), a, 3).state, 3);
+    expect("null: differs", cascade_differs(plain(3), NULL, 0, plain(3), a, 3, 3).differs, 1);
     expect("null: fewer gates", cascade_fewer_gates(3, a, 3, 3, NULL, 0).second, 1);
-    REFUSED(cascade_fault_masks(3, NULL, 0, 3, a, 3, NULL, 0, NULL, 0), CASCADE_SERVED, 0);
+    REFUSED(cascade_fault_masks(plain(3), NULL, 0, plain(3), a, 3, NULL, 0, NULL, 0), CASCADE_SERVED, 0);
 }
 
 /* Two inputs in the same words. */
@@ -279,7 +358,8 @@ static void overlaps(void)
     const uint64_t a[9] = {3, 0, 2, 2, 0, 0, 1, 0, 2};
     uint64_t out[18];
     expect("a cascade against its own start: gates", cascade_miter(3, a, 9, 3, a, 3, out, 18).gates, 4);
-    expect("a cascade against itself: differs", cascade_first_difference(3, a, 9, 3, a, 9).found, 0);
+    expect("a cascade against itself: differs", cascade_first_difference(plain(3), a, 9, plain(3), a, 9).found, 0);
+    expect("a cascade against itself: clauses", cascade_pair_sizes(plain(3), a, 9, plain(3), a, 9).number, CASCADE_SERVED);
     expect("a cascade and its own start: second", cascade_fewer_gates(3, a, 9, 3, a, 6).second, 1);
 }
 
@@ -289,12 +369,13 @@ static uint8_t stack[1 << 16];
 static ucontext_t caller, callee;
 static uint64_t pair[2 * CASCADE_MAX_GATES * CASCADE_GATE_WORDS], states[64], large[CASCADE_MAX_MITER_GATES * CASCADE_GATE_WORDS];
 static uint8_t bytes[CASCADE_MAX_TEXT];
-static int16_t list[CASCADE_MAX_CLAUSE_WORDS];
+static int16_t list[CASCADE_MAX_PAIR_WORDS];
+static const struct cascade_header headed = {64, 6, 2, 9};
 
 static uint64_t told;
 static void idle(void) {}
 static void do_read(void) { told |= cascade_read(bytes, CASCADE_MAX_TEXT, large, 3072).number; }
-static void do_write(void) { told |= cascade_write(64, longest, 3072, bytes, CASCADE_MAX_TEXT).number; }
+static void do_write(void) { told |= cascade_write(headed, longest, 3072, bytes, CASCADE_MAX_TEXT).number; }
 static void do_run(void) { told |= cascade_run(64, longest, 3072, 7).number; }
 static void do_records(void) { told |= cascade_run_records(64, (const struct cascade_gate *)longest, 1024, 7).number; }
 static void do_inverse(void) { told |= cascade_inverse(64, longest, 3072, large, 6144).number; }
@@ -303,11 +384,14 @@ static void do_step(void) { told |= cascade_step(64, pair, 6144).number; }
 static void do_reduce(void) { told |= cascade_reduce(64, pair, 6144).number; }
 static void do_sizes(void) { told |= cascade_sizes(64, longest, 6144).number; }
 static void do_emit(void) { told |= cascade_emit(64, longest, 6144, list, CASCADE_MAX_CLAUSE_WORDS).number; }
+static void do_pair_sizes(void) { told |= cascade_pair_sizes(headed, longest, 3072, headed, longest + 3072, 3072).number; }
+static void do_pair_emit(void) { told |= cascade_pair_emit(headed, longest, 3072, headed, longest + 3072, 3072, list, CASCADE_MAX_PAIR_WORDS).number; }
+static void do_miter_emit(void) { told |= cascade_pair_emit(plain(64), longest, 3072, plain(64), longest + 3072, 3072, list, CASCADE_MAX_PAIR_WORDS).number; }
 static const uint64_t small[3] = {3, 0, 2};
-static void do_sweep(void) { told |= cascade_first_difference(3, small, 3, 3, small, 0).number; }
-static void do_differs(void) { told |= cascade_differs(64, longest, 3072, 64, longest, 3069, 0).number; }
+static void do_sweep(void) { told |= cascade_first_difference(plain(3), small, 3, plain(3), small, 0).number; }
+static void do_differs(void) { told |= cascade_differs(headed, longest, 3072, headed, longest, 3069, 2).number; }
 static void do_fewer(void) { told |= cascade_fewer_gates(64, longest, 3072, 64, longest, 3069).number; }
-static void do_faults(void) { told |= cascade_fault_masks(64, longest, 3072, 64, longest, 0, states, 64, large, 2048).number; }
+static void do_faults(void) { told |= cascade_fault_masks(plain(64), longest, 3072, plain(64), longest, 0, states, 64, large, 2048).number; }
 
 /* The bytes of a stack that a function touches. */
 static size_t touched(void (*function)(void))
@@ -327,7 +411,7 @@ static size_t touched(void (*function)(void))
 
 static void stack_use(void)
 {
-    static void (*const calls[])(void) = {do_write, do_read, do_run, do_records, do_inverse, do_miter, do_step, do_reduce, do_sizes, do_emit, do_sweep, do_differs, do_fewer, do_faults};
+    static void (*const calls[])(void) = {do_write, do_read, do_run, do_records, do_inverse, do_miter, do_step, do_reduce, do_sizes, do_emit, do_pair_sizes, do_pair_emit, do_miter_emit, do_sweep, do_differs, do_fewer, do_faults};
     size_t most = 0;
     memcpy(pair, longest, sizeof pair / 2);
     for (size_t i = 0; i < CASCADE_MAX_GATES; i++)
@@ -412,27 +496,27 @@ int main(void)
     expect("read positive controls", words[0], 3);
     expect("read target", words[2], 2);
     uint8_t written[22] = {0};
-    struct cascade_write_answer write = cascade_write(3, words, 3, written, 22);
+    struct cascade_write_answer write = cascade_write(plain(3), words, 3, written, 22);
     expect("write number", write.number, 0);
     expect("write bytes", write.written, 22);
     for (size_t i = 0; i < 22; i++) {
         expect("write byte", written[i], text[i]);
     }
     const uint64_t one_control[3] = {1, 0, 2};
-    struct cascade_state_answer first = cascade_first_difference(3, toffoli, 3, 3, one_control, 3);
+    struct cascade_state_answer first = cascade_first_difference(plain(3), toffoli, 3, plain(3), one_control, 3);
     expect("first difference found", first.found, 1);
     expect("first difference", first.state, 1);
-    first = cascade_first_difference(17, toffoli, 3, 17, toffoli, 3);
+    first = cascade_first_difference(plain(17), toffoli, 3, plain(17), toffoli, 3);
     expect("first difference too wide", first.number, 13);
-    struct cascade_differs_answer differs = cascade_differs(3, toffoli, 3, 3, one_control, 3, 3);
+    struct cascade_differs_answer differs = cascade_differs(plain(3), toffoli, 3, plain(3), one_control, 3, 3);
     expect("differs", differs.differs, 0);
     struct cascade_fewer_answer fewer = cascade_fewer_gates(2, two, 6, 2, two, 3);
     expect("fewer second", fewer.second, 1);
     expect("fewer gates", fewer.gates, 1);
     const uint64_t failing[1] = {1};
     uint64_t masks[CASCADE_GATE_MASKS] = {9, 9};
-    REFUSED(cascade_fault_masks(3, one_control, 3, 3, toffoli, 3, failing, 1, masks, CASCADE_GATE_MASKS - 1), 10, 0);
-    struct cascade_count_answer faults = cascade_fault_masks(3, one_control, 3, 3, toffoli, 3, failing, 1, masks, CASCADE_GATE_MASKS);
+    REFUSED(cascade_fault_masks(plain(3), one_control, 3, plain(3), toffoli, 3, failing, 1, masks, CASCADE_GATE_MASKS - 1), 10, 0);
+    struct cascade_count_answer faults = cascade_fault_masks(plain(3), one_control, 3, plain(3), toffoli, 3, failing, 1, masks, CASCADE_GATE_MASKS);
     expect("fault gates", faults.gates, 1);
     expect("fault positive", masks[0], 2);
     expect("fault negative", masks[1], 0);
