@@ -1,5 +1,5 @@
 //! Runs the built programs compare and check_input on two files, good, damaged, cut, joined and too
-//! long, and compares every byte that they write with the rules, which are written once more here. The
+//! long, with marks and without, and compares every byte that they write with the rules, which are written once more here. The
 //! argument is the seed, where another than the fixed one is wanted.
 
 mod built;
@@ -15,7 +15,7 @@ mod reference;
 
 use pairs::Rewrites;
 use random::Random;
-use reference::{Clause, ClauseList, Gate};
+use reference::{Clause, ClauseList, Gate, Header};
 use std::collections::BTreeMap;
 use std::ffi::OsStr;
 use std::os::unix::ffi::OsStrExt;
@@ -23,7 +23,7 @@ use std::process::Command;
 
 const SEED: u64 = 20_260_116;
 const MOST_BYTES: usize = 262_144;
-const MOST_WORDS: usize = 262_144;
+const MOST_WORDS: u64 = 262_144;
 const MOST_SWEPT: u64 = 16;
 
 // ---- the rules
@@ -31,8 +31,8 @@ const MOST_SWEPT: u64 = 16;
 /// Number, file and place.
 type Refused = (u64, u64, u64);
 
-/// The lines and gates of two files, each to its last byte.
-fn pair(first: &[u8], second: &[u8]) -> Result<(u64, Vec<Gate>, Vec<Gate>), Refused> {
+/// The header and the gates of two files, each to its last byte.
+fn pair(first: &[u8], second: &[u8]) -> Result<(Header, Vec<Gate>, Vec<Gate>), Refused> {
     if first.len() > MOST_BYTES || second.len() > MOST_BYTES {
         return Err((10, 0, 0));
     }
@@ -46,10 +46,13 @@ fn pair(first: &[u8], second: &[u8]) -> Result<(u64, Vec<Gate>, Vec<Gate>), Refu
     };
     let one = whole(first, 1)?;
     let two = whole(second, 2)?;
-    if one.lines != two.lines {
+    if one.header.lines != two.header.lines {
         return Err((8, 0, 0));
     }
-    Ok((one.lines, one.gates, two.gates))
+    if one.header != two.header {
+        return Err((15, 0, 0));
+    }
+    Ok((one.header, one.gates, two.gates))
 }
 
 fn output(gates: &[Gate], state: u64) -> u64 {
@@ -77,60 +80,70 @@ fn plain(list: &ClauseList) -> Vec<Vec<i64>> {
     clauses
 }
 
-fn words(list: &ClauseList) -> usize {
-    list.clauses.iter().map(|clause| match clause {
-        Clause::Or(literals) | Clause::Xor(literals) => 2 + literals.len(),
-    }).sum()
-}
-
 /// What compare writes, and its kind.
 fn compared(first: &[u8], second: &[u8]) -> (String, String) {
-    match pair(first, second).and_then(|(n, a, b)| decided(n, &a, &b)) {
+    match pair(first, second).and_then(|(header, a, b)| decided(header, &a, &b)) {
         Ok(answer) => answer,
         Err((number, file, place)) => (format!("refused\t{number}\t{file}\t{place}\n"), format!("refused {number}, file {file}")),
     }
 }
 
-fn decided(n: u64, a: &[Gate], b: &[Gate]) -> Result<(String, String), Refused> {
-    let mut miter: Vec<Gate> = a.to_vec();
-    miter.extend(b.iter().rev());
-    let mut memory: Vec<u64> = miter.iter().flat_map(|gate| [gate.positive, gate.negative, gate.target]).collect();
-    let left = reference::reduce(n, &mut memory).expect("a miter").gates as usize;
-    if left == 0 {
-        return Ok(("equal\treduction\n".into(), "equal, reduction".into()));
+/// The gates that the full reduction leaves.
+fn reduced(n: u64, gates: &[Gate]) -> Vec<Gate> {
+    let mut words: Vec<u64> = gates.iter().flat_map(|gate| [gate.positive, gate.negative, gate.target]).collect();
+    let left = reference::reduce(n, &mut words).expect("at most two cascades").gates;
+    reference::gates_of(&words[..3 * left])
+}
+
+fn decided(header: Header, a: &[Gate], b: &[Gate]) -> Result<(String, String), Refused> {
+    let n = header.lines;
+    let kind = |kind: &str| format!("{kind}{}", if header.marked() { ", marked" } else { "" });
+    let miter = reduced(n, &reference::miter_gates(a, b));
+    if miter.is_empty() {
+        return Ok(("equal\treduction\n".into(), kind("equal, reduction")));
     }
     if n <= MOST_SWEPT {
-        return Ok(match (0..1u64 << n).find(|state| output(a, *state) != output(b, *state)) {
-            None => ("equal\tsweep\n".into(), "equal, sweep".into()),
-            Some(state) => (format!("differ\t{state}\t{}\t{}\n", output(a, state), output(b, state)), "differ".into()),
+        let differ = |state: &u64| header.permits(*state) && !header.alike(output(a, *state), output(b, *state));
+        return Ok(match (0..1u64 << n).find(differ) {
+            None => ("equal\tsweep\n".into(), kind("equal, sweep")),
+            Some(state) => (format!("differ\t{state}\t{}\t{}\n", output(a, state), output(b, state)), kind("differ")),
         });
     }
-    let list = reference::clause_list(n, &reference::gates_of(&memory[..3 * left]));
-    if words(&list) > MOST_WORDS {
+    let list = if header.marked() {
+        reference::pair_list(header, &reduced(n, a), &reduced(n, b))
+    } else {
+        reference::clause_list(n, &miter)
+    };
+    if reference::sizes_of(&list).words > MOST_WORDS {
         return Err((10, 0, 0));
     }
     let clauses = plain(&list);
+    let empty = clauses.iter().any(Vec::is_empty);
     let mut text = format!("p cnf {} {}\n", list.variables, clauses.len());
     for clause in clauses {
-        for literal in clause {
-            text += &format!("{literal} ");
-        }
-        text += "0\n";
+        let literals: Vec<String> = clause.iter().map(i64::to_string).collect();
+        text += &literals.join(" ");
+        text += " 0\n";
     }
-    Ok((text, "clauses".into()))
+    Ok((text, if empty { "clauses, no line counts".into() } else { kind("clauses") }))
 }
 
 /// What check_input writes, and its kind.
 fn checked(first: &[u8], second: &[u8], state: &str) -> (String, String) {
-    let answer = pair(first, second).and_then(|(n, a, b)| {
+    let answer = pair(first, second).and_then(|(header, a, b)| {
+        let n = header.lines;
         if state.len() as u64 != n || state.bytes().any(|byte| byte != b'0' && byte != b'1') {
             return Err((9, 0, 0));
         }
         let x = state.bytes().rev().fold(0u64, |x, byte| 2 * x + u64::from(byte - b'0'));
+        if !header.permits(x) {
+            return Ok(("refused\t9\t0\t0\n".into(), "check: refused 9, a constant".into()));
+        }
         let spelled = |y: u64| (0..n).map(|line| if y >> line & 1 == 1 { '1' } else { '0' }).collect::<String>();
         let (y, z) = (output(&a, x), output(&b, x));
-        let word = if y == z { "agree" } else { "differ" };
-        Ok((format!("{word}\t{}\t{}\n", spelled(y), spelled(z)), format!("check: {word}")))
+        let word = if header.alike(y, z) { "agree" } else { "differ" };
+        let kind = if y != z && word == "agree" { ", a junk line differs" } else { "" };
+        Ok((format!("{word}\t{}\t{}\n", spelled(y), spelled(z)), format!("check: {word}{kind}")))
     });
     answer.unwrap_or_else(|(number, file, place)| (format!("refused\t{number}\t{file}\t{place}\n"), format!("check: refused {number}")))
 }
@@ -196,6 +209,12 @@ fn rewritten(random: &mut Random, lines: u64, gates: usize, rewrites: usize) -> 
     (first, second)
 }
 
+/// A header without marks, or with any.
+fn any_header(random: &mut Random, lines: u64) -> Header {
+    let marks = inputs::good_marks(random, lines);
+    inputs::from_zero(lines, vec![]).with_marks(if random.one_in(2) { marks } else { inputs::Marks::default() }).header()
+}
+
 /// Two cascades that are equal, and not by templates: exchanges of two lines in two orders.
 fn exchanged(one: u64, other: u64) -> (Vec<Gate>, Vec<Gate>) {
     let add = |control: u64, target| Gate { positive: 1 << control, negative: 0, target };
@@ -204,11 +223,15 @@ fn exchanged(one: u64, other: u64) -> (Vec<Gate>, Vec<Gate>) {
 
 fn check_all(random: &mut Random, seen: &mut Seen) {
     const GOOD: &[u8] = b"lines\t4\ng\t1\t+0\nend\n";
+    const MARKED: &[u8] = b"lines\t4\nconst\t2\t1\njunk\t1\ng\t1\t+0\nend\n";
     for (_, text, _) in files::ROWS {
-        seen.compare(text, GOOD);
-        seen.compare(GOOD, text);
-        seen.check(text, GOOD, "0101");
-        seen.check(GOOD, text, "1010");
+        for good in [GOOD, MARKED] {
+            seen.compare(text, good);
+            seen.compare(good, text);
+            seen.check(text, good, "0101");
+            seen.check(good, text, "1010");
+        }
+        seen.compare(text, text);
     }
     for (_, text, _) in files::long_rows() {
         seen.compare(&text, GOOD);
@@ -227,10 +250,17 @@ fn check_all(random: &mut Random, seen: &mut Seen) {
         let gates = random.index(if lines > 10 && lines < 17 { 4 } else { 12 });
         let rewrites = random.index(12);
         let (a, b) = rewritten(random, lines, gates, rewrites);
-        let first = reference::text_of(lines, &a);
-        let second = if other == lines { reference::text_of(lines, &b) } else { reference::text_of(other, &[]) };
+        let (header, others) = (any_header(random, lines), any_header(random, other));
+        let first = reference::text_of(header, &a);
+        let second = match other == lines {
+            true if random.one_in(12) => reference::text_of(others, &b),
+            true => reference::text_of(header, &b),
+            false => reference::text_of(others, &[]),
+        };
         seen.compare(&first, &second);
-        let mut state: String = (0..lines).map(|_| if random.one_in(2) { '1' } else { '0' }).collect();
+        let honoured = if random.one_in(6) { 0 } else { header.constants };
+        let bits = random.word() & !honoured | header.values & honoured;
+        let mut state: String = (0..lines).map(|line| if bits >> line & 1 == 1 { '1' } else { '0' }).collect();
         match round % 8 {
             0 => state.push('0'),
             1 => state = state[1..].into(),
@@ -241,29 +271,44 @@ fn check_all(random: &mut Random, seen: &mut Seen) {
     }
     for lines in [2, 3, 16, 17, 40, 64] {
         let (a, b) = exchanged(0, lines - 1);
-        seen.compare(&reference::text_of(lines, &a), &reference::text_of(lines, &b));
+        let unmarked = Header::unmarked(lines);
+        for header in [unmarked, Header { constants: 1, values: 1, ..unmarked }, Header { junk: 2, ..unmarked }] {
+            seen.compare(&reference::text_of(header, &a), &reference::text_of(header, &b));
+        }
+        let no_line_counts = Header { junk: inputs::all_lines(lines), ..unmarked };
+        seen.compare(&reference::text_of(no_line_counts, &a), &reference::text_of(no_line_counts, &[]));
     }
     // 1,000 gates a side, and the same with a gate gone; the sweep of 16 lines takes the rules too long
     for (lines, kind) in [(8, Rewrites::Any), (32, Rewrites::Any), (64, Rewrites::Any), (8, Rewrites::Templates), (16, Rewrites::Templates), (32, Rewrites::Templates), (64, Rewrites::Templates)] {
         let (a, mut b) = pairs::equal_pair(random, lines, 1_000, kind);
-        let first = reference::text_of(lines, &a);
-        seen.compare(&first, &reference::text_of(lines, &b));
-        let at = random.index(b.len());
-        b.remove(at);
-        seen.compare(&first, &reference::text_of(lines, &b));
+        for header in [Header::unmarked(lines), any_header(random, lines)] {
+            let first = reference::text_of(header, &a);
+            seen.compare(&first, &reference::text_of(header, &b));
+            let at = random.index(b.len());
+            b.remove(at);
+            seen.compare(&first, &reference::text_of(header, &b));
+        }
     }
-    files::each_damaged(b"lines\t3\ng\t2\t+0\t-1\nend\n", &mut |text| {
-        seen.compare(&text, b"lines\t3\ng\t0\t-2\nend\n");
-        seen.compare(b"lines\t3\ng\t0\t-2\nend\n", &text);
-    });
+    for marks in ["", "const\t1\t0\njunk\t0\njunk\t2\n"] {
+        let damaged = format!("lines\t3\n{marks}g\t2\t+0\t-1\nend\n");
+        let other = format!("lines\t3\n{marks}g\t0\t-2\nend\n");
+        files::each_damaged(damaged.as_bytes(), &mut |text| {
+            seen.compare(&text, other.as_bytes());
+            seen.compare(other.as_bytes(), &text);
+        });
+    }
     // the longest files, and longer ones
-    let longest = |gates: usize| {
+    let longest = |header: Header, gates: usize| {
         let all: Vec<Gate> = (0..gates as u64).map(|k| Gate { positive: !(1 << (k % 64)) & 0x5555_5555_5555_5555u64.rotate_left((k / 64) as u32), negative: !(1 << (k % 64)) & !0x5555_5555_5555_5555u64.rotate_left((k / 64) as u32), target: k % 64 }).collect();
-        reference::text_of(64, &all)
+        reference::text_of(header, &all)
     };
-    seen.compare(&longest(1_024), b"lines\t64\nend\n");
-    seen.compare(&longest(1_024), &longest(1_024));
-    seen.compare(&longest(900), b"lines\t64\nend\n");
+    let marked = Header { constants: u64::MAX, values: 6, junk: u64::MAX, ..Header::unmarked(64) };
+    for header in [Header::unmarked(64), marked] {
+        let none = reference::text_of(header, &[]);
+        seen.compare(&longest(header, 1_024), &none);
+        seen.compare(&longest(header, 1_024), &longest(header, 1_024));
+        seen.compare(&longest(header, 900), &none);
+    }
     for bytes in [MOST_BYTES - 1, MOST_BYTES, MOST_BYTES + 1, 2 * MOST_BYTES] {
         let mut text = GOOD.to_vec();
         text.resize(bytes, b'x');
@@ -303,9 +348,13 @@ fn main() {
     let mut seen = Seen { compare, check_input, cases: 0, kinds: BTreeMap::new(), folder };
     check_all(&mut Random::new(seed), &mut seen);
     std::fs::remove_dir_all(&seen.folder).expect("the folder goes");
-    let mut wanted: Vec<String> = ["equal, reduction", "equal, sweep", "differ", "clauses", "refused 8, file 0", "refused 10, file 0", "check: agree", "check: differ", "check: refused 9"].map(String::from).to_vec();
+    let mut wanted: Vec<String> = ["check: agree", "check: agree, a junk line differs", "check: differ", "check: refused 9", "check: refused 9, a constant", "check: refused 15", "clauses, no line counts"].map(String::from).to_vec();
+    for verdict in ["equal, reduction", "equal, sweep", "differ", "clauses"] {
+        wanted.extend([verdict.to_string(), format!("{verdict}, marked")]);
+    }
+    wanted.extend([8, 10, 15].map(|number| format!("refused {number}, file 0")));
     for file in 1..=2 {
-        wanted.extend((1..=6).map(|number| format!("refused {number}, file {file}")));
+        wanted.extend([1, 2, 3, 4, 5, 6, 14].map(|number| format!("refused {number}, file {file}")));
     }
     for (kind, count) in &seen.kinds {
         println!("{kind}: {count}");

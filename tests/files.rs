@@ -373,6 +373,11 @@ pub const ROWS: &[(&str, &[u8], Wanted)] = &[
         Refused(1, 3),
     ),
     (
+        "row: const after junk 0",
+        b"lines\t4\njunk\t0\nconst\t1\t0\nend\n",
+        Refused(1, 2),
+    ),
+    (
         "row: const n after junk",
         b"lines\t4\njunk\t1\nconst\t4\t0\nend\n",
         Refused(1, 2),
@@ -534,6 +539,22 @@ pub fn each_damaged(text: &[u8], check: &mut impl FnMut(Vec<u8>)) {
     }
 }
 
+/// Each text that has one line of the given one at another place, where it has few lines.
+pub fn each_moved(text: &[u8], check: &mut impl FnMut(Vec<u8>)) {
+    let lines: Vec<&[u8]> = text.split_inclusive(|byte| *byte == b'\n').collect();
+    if lines.len() > 16 {
+        return;
+    }
+    for from in 0..lines.len() {
+        for to in (0..lines.len()).filter(|to| *to != from) {
+            let mut moved = lines.clone();
+            let line = moved.remove(from);
+            moved.insert(to, line);
+            check(moved.concat());
+        }
+    }
+}
+
 /// Words that texts are made of, in any order.
 const WORDS: &[&[u8]] = &[
     b"lines\t",
@@ -546,7 +567,7 @@ const WORDS: &[&[u8]] = &[
     b"const\t1\t0\n",
     b"const\t2\t1\n",
     b"junk\t",
-    b"junk\t1\n",
+    b"junk\t0\n",
     b"junk\t3\n",
     b"\n",
     b"\t",

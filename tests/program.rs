@@ -1,7 +1,7 @@
 //! Runs the built program on two files, good, damaged and too long, whole and in pieces, and compares
 //! every byte that it writes with the rules, its exit status and what it says; makes its reads fail;
 //! and hands what it writes to CryptoMiniSat, where it is there, and compares the spelled inputs with
-//! a simulation. The argument is the seed, where another than the fixed one is wanted. The script
+//! a simulation; the files with marks and without. The argument is the seed, where another than the fixed one is wanted. The script
 //! ./tomiter has its own test, tests/scripts.
 
 mod built;
@@ -16,7 +16,7 @@ mod reference;
 mod solver;
 
 use random::Random;
-use reference::{Clause, ClauseList};
+use reference::{Clause, ClauseList, Header};
 use std::collections::BTreeMap;
 use std::io::Write;
 use std::process::{Command, Output, Stdio};
@@ -24,7 +24,7 @@ use std::time::Duration;
 
 const SEED: u64 = 20_240_601;
 const MOST_BYTES: usize = 65_536;
-const MOST_WORDS: usize = 16_384;
+const MOST_WORDS: u64 = 16_384;
 /// Pairs that the solver gets.
 const SOLVED: usize = 200;
 
@@ -41,25 +41,15 @@ fn dimacs(list: &ClauseList) -> Vec<u8> {
                 literals
             }
         };
-        for literal in literals {
-            text += &format!("{literal} ");
-        }
-        text += "0\n";
+        let literals: Vec<String> = literals.iter().map(i64::to_string).collect();
+        text += &literals.join(" ");
+        text += " 0\n";
     }
     text.into_bytes()
 }
 
-/// The words of the stored clauses.
-fn words(list: &ClauseList) -> usize {
-    let size = |clause: &Clause| {
-        let (Clause::Or(literals) | Clause::Xor(literals)) = clause;
-        2 + literals.len()
-    };
-    list.clauses.iter().map(size).sum()
-}
-
-/// The clause list of an input's two files; else the number, the file and the place.
-fn list(input: &[u8]) -> Result<ClauseList, (u64, u64, u64)> {
+/// The header and the clause list of an input's two files; else the number, the file and the place.
+fn list(input: &[u8]) -> Result<(Header, ClauseList), (u64, u64, u64)> {
     if input.len() > MOST_BYTES {
         return Err((10, 0, 0));
     }
@@ -70,16 +60,17 @@ fn list(input: &[u8]) -> Result<ClauseList, (u64, u64, u64)> {
         let lines = rest[..second.taken].iter().filter(|byte| **byte == b'\n').count();
         return Err((1, 2, lines as u64));
     }
-    if first.lines != second.lines {
+    if first.header.lines != second.header.lines {
         return Err((8, 0, 0));
     }
-    let mut gates = first.gates;
-    gates.extend(second.gates.iter().rev());
-    let list = reference::clause_list(first.lines, &gates);
-    if words(&list) > MOST_WORDS {
+    if first.header != second.header {
+        return Err((15, 0, 0));
+    }
+    let list = reference::pair_list(first.header, &first.gates, &second.gates);
+    if reference::sizes_of(&list).words > MOST_WORDS {
         return Err((10, 0, 0));
     }
-    Ok(list)
+    Ok((first.header, list))
 }
 
 // ---- the program
@@ -118,7 +109,14 @@ fn run(program: &str, input: &[u8]) -> Vec<u8> {
 /// The right text for an input, and its outcome.
 fn answer(input: &[u8]) -> (Vec<u8>, String) {
     match list(input) {
-        Ok(list) => (dimacs(&list), "served".to_string()),
+        Ok((header, list)) => {
+            let outcome = match (header.marked(), list.clauses.last()) {
+                (false, _) => "served",
+                (true, Some(Clause::Or(literals))) if literals.is_empty() => "served, no line counts",
+                (true, _) => "served, marked",
+            };
+            (dimacs(&list), outcome.to_string())
+        }
         Err((number, file, place)) => (
             format!("refused\t{number}\t{file}\t{place}\n").into_bytes(),
             format!("refused {number}, file {file}"),
@@ -150,22 +148,26 @@ impl Seen {
 
 // ---- inputs
 
-/// Two cascades, on as many lines but for one pair in eight.
+/// Two cascades, on as many lines but for one pair in eight, and with the same marks but for some.
 fn pair(random: &mut Random) -> Vec<u8> {
     let lines = random.pick(&[1, 2, 3, 9, 10, 11, 63, 64]);
     let other = if random.one_in(8) { 1 + random.below(64) } else { lines };
+    let marks = inputs::good_marks(random, lines);
+    let others = if other == lines && !random.one_in(8) { marks } else { inputs::good_marks(random, other) };
     let mut input = Vec::new();
-    for lines in [lines, other] {
+    for (lines, marks) in [(lines, marks), (other, others)] {
         let gates = random.index(6);
-        let cascade = inputs::good_cascade(random, lines, gates);
-        input.extend(reference::text_of(lines, &reference::gates_of(&cascade.words)));
+        input.extend(inputs::good_cascade(random, lines, gates).with_marks(marks).text());
     }
     input
 }
 
-/// 49 gates with 63 controls on 64 lines, then gates without and with one control: 16,087 words, and 4 and 5 for each of those.
-fn near_limit(without: usize, with_one: usize) -> Vec<u8> {
-    let mut text = b"lines\t64\n".to_vec();
+/// Two cascades with these marks: 49 gates with 63 controls on 64 lines, then gates without and with one
+/// control; and no gate. Without marks 16,087 words, and 4 and 5 for each of the last gates. A constant takes
+/// 3 words more, and a junk line that is no target 4 less.
+fn near_limit(marks: &str, without: usize, with_one: usize) -> Vec<u8> {
+    let head = format!("lines\t64\n{marks}");
+    let mut text = head.clone().into_bytes();
     for _ in 0..49 {
         text.extend(b"g\t0");
         for line in 1..64 {
@@ -175,7 +177,7 @@ fn near_limit(without: usize, with_one: usize) -> Vec<u8> {
     }
     text.extend(b"g\t0\n".repeat(without));
     text.extend(b"g\t0\t+63\n".repeat(with_one));
-    text.extend(b"end\nlines\t64\nend\n");
+    text.extend(format!("end\n{head}end\n").bytes());
     text
 }
 
@@ -188,10 +190,17 @@ fn long_input(bytes: usize) -> Vec<u8> {
 
 fn check_all(random: &mut Random, seen: &mut Seen) {
     const GOOD: &[u8] = b"lines\t4\ng\t1\t+0\nend\n";
+    const MARKED: &[u8] = b"lines\t4\nconst\t2\t1\njunk\t1\ng\t1\t+0\nend\n";
     for (_, text, _) in files::ROWS {
         seen.check(&[text, GOOD].concat());
         seen.check(&[GOOD, text].concat());
+        seen.check(&[text, MARKED].concat());
+        seen.check(&[MARKED, text].concat());
+        seen.check(&[*text, text].concat());
     }
+    // other marks, and what is tested before: bytes after the second `end`, and 8
+    seen.check(&[MARKED, GOOD, b"\n"].concat());
+    seen.check(&[MARKED, b"lines\t5\nend\n"].concat());
     for (_, text, _) in files::long_rows() {
         seen.check(&[&text, GOOD].concat());
         seen.check(&[GOOD, &text].concat());
@@ -202,9 +211,15 @@ fn check_all(random: &mut Random, seen: &mut Seen) {
         seen.check(&[files::word_text(random), files::word_text(random)].concat());
     }
     files::each_damaged(b"lines\t3\ng\t2\t+0\t-1\nend\nlines\t3\ng\t0\t-2\nend\n", &mut |text| seen.check(&text));
-    // 16,383 to 16,385 words.
+    let marked = b"lines\t3\nconst\t0\t1\njunk\t1\njunk\t2\ng\t2\t+0\t-1\nend\n";
+    files::each_damaged(marked, &mut |text| {
+        seen.check(&[&text[..], marked].concat());
+        seen.check(&[marked, &text[..]].concat());
+    });
+    // 16,383 to 16,385 words, without marks and with a constant and a junk line, which are a word less
     for more in 0..3 {
-        seen.check(&near_limit(74 - more, more));
+        seen.check(&near_limit("", 74 - more, more));
+        seen.check(&near_limit("const\t1\t0\njunk\t2\n", 73 - more, more + 1));
     }
     for bytes in [MOST_BYTES - 1, MOST_BYTES, MOST_BYTES + 1, MOST_BYTES + 2, 3 * MOST_BYTES] {
         seen.check(&long_input(bytes));
@@ -295,30 +310,40 @@ fn check_failed_reads(program: &str) {
 
 // ---- the solver
 
-/// Pairs on few lines, of which the second is often the first, or has its gates in another order.
+/// Pairs on few lines, most with marks, of which the second is often the first, or has its gates in another
+/// order.
 fn check_solved(program: &str, random: &mut Random) {
-    let (mut equal, mut differ) = (0, 0);
+    let kind = |header: Header, right: &[u64]| match (header.marked(), right.is_empty()) {
+        _ if header.junk == inputs::all_lines(header.lines) => "no line counts",
+        (false, true) => "equal",
+        (false, false) => "differ",
+        (true, true) => "marked, equal",
+        (true, false) => "marked, differ",
+    };
+    let mut kinds = BTreeMap::new();
     for _ in 0..SOLVED {
         let lines = 1 + random.below(3);
         let gates = random.index(4);
-        let first = inputs::good_cascade(random, lines, gates).words;
+        let marks = inputs::good_marks(random, lines);
+        let first = inputs::good_cascade(random, lines, gates).with_marks(marks);
         let mut second = first.clone();
         match random.below(4) {
             0 => {}
-            1 if gates > 0 => second.rotate_left(3),
-            _ => second = inputs::good_cascade(random, lines, gates).words,
+            1 if gates > 0 => second.words.rotate_left(3),
+            _ => second.words = inputs::good_cascade(random, lines, gates).words,
         }
-        let text = |words: &[u64]| reference::text_of(lines, &reference::gates_of(words));
-        let written = run(program, &[text(&first), text(&second)].concat());
-        let output = |words: &[u64], state| reference::run(lines, words, state).expect("a cascade");
-        let states = 0..1 << lines;
-        let right: Vec<u64> = states.filter(|state| output(&first, *state) != output(&second, *state)).collect();
+        let written = run(program, &[first.text(), second.text()].concat());
+        let header = first.header();
+        let differ = |state: &u64| reference::differs(header, &first.words, header, &second.words, *state) == Ok(true);
+        let right: Vec<u64> = (0..1 << lines).filter(differ).collect();
         let spelled = solver::spelled(lines, &written);
-        assert_eq!(spelled, right, "lines {lines}, A {first:?}, B {second:?}");
-        *(if right.is_empty() { &mut equal } else { &mut differ }) += 1;
+        assert_eq!(spelled, right, "A {first:?}, B {second:?}");
+        *kinds.entry(kind(header, &right)).or_insert(0) += 1;
     }
-    assert!(equal > 0 && differ > 0, "{equal} equal pairs, {differ} that differ");
-    println!("program: {equal} equal pairs and {differ} that differ, by the solver");
+    for (kind, count) in &kinds {
+        println!("by the solver, {kind}: {count}");
+    }
+    assert_eq!(kinds.len(), 5, "a kind of pair did not occur");
 }
 
 fn main() {
@@ -337,9 +362,10 @@ fn main() {
     for (outcome, count) in &seen.outcomes {
         println!("{outcome}: {count}");
     }
-    let mut wanted = vec!["served".to_string(), "refused 8, file 0".to_string(), "refused 10, file 0".to_string()];
+    let mut wanted = ["served", "served, marked", "served, no line counts"].map(String::from).to_vec();
+    wanted.extend([8, 10, 15].map(|number| format!("refused {number}, file 0")));
     for file in 1..=2 {
-        wanted.extend((1..=6).map(|number| format!("refused {number}, file {file}")));
+        wanted.extend([1, 2, 3, 4, 5, 6, 14].map(|number| format!("refused {number}, file {file}")));
     }
     for outcome in wanted {
         if !seen.outcomes.contains_key(&outcome) {

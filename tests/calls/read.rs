@@ -44,6 +44,7 @@ pub fn section(random: &mut Random) -> Counts {
         let text = files::good_text(random);
         lengths(&text, random, &mut counts);
         files::each_damaged(&text, &mut |damaged| one(damaged, random, &mut counts));
+        files::each_moved(&text, &mut |moved| one(moved, random, &mut counts));
     }
     for _ in 0..RANDOM_TEXTS {
         let text = files::word_text(random);
