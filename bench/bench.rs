@@ -1,7 +1,7 @@
 //! Times the C interface of the library against plain Rust, in one run and on the same inputs. Fails
 //! where the library takes more than `LIMIT` times as long. With the argument `steps` it times a step and
-//! a reduction alone, with `write` writing against an earlier archive (bench/write_before), and judges
-//! nothing: bench/at_places does, over several places of the code.
+//! a reduction alone, with `files` reading and writing against an earlier archive (bench/files_before), and
+//! judges nothing: bench/at_places does, over several places of the code.
 
 #[allow(dead_code)]
 #[path = "../tests/capi.rs"]
@@ -9,6 +9,7 @@ mod capi;
 mod emit;
 mod faults;
 mod inputs;
+mod pair;
 mod plain;
 mod plain_emit;
 mod plain_file;
@@ -17,7 +18,8 @@ mod plain_file;
 mod random;
 mod steps;
 
-use capi::{CountAnswer, ReadAnswer, RunAnswer, SizesAnswer, WriteAnswer};
+use capi::{CountAnswer, Header, ReadAnswer, RunAnswer, SizesAnswer, WriteAnswer};
+use plain::unmarked;
 use random::Random;
 use std::hint::black_box;
 use std::time::Instant;
@@ -57,7 +59,7 @@ fn library_sizes(n: u64, words: &[u64]) -> SizesAnswer {
 }
 
 type Read = fn(&[u8], &mut [u64]) -> ReadAnswer;
-type Write = fn(u64, &[u64], &mut [u8]) -> WriteAnswer;
+type Write = fn(Header, &[u64], &mut [u8]) -> WriteAnswer;
 
 const READ: [Read; 2] = [library_read, plain_file::read];
 const WRITE: [Write; 2] = [library_write, plain_file::write];
@@ -67,15 +69,32 @@ fn library_read(text: &[u8], out: &mut [u64]) -> ReadAnswer {
     unsafe { capi::cascade_read(text.as_ptr(), text.len(), start, room) }
 }
 
-fn library_write(n: u64, words: &[u64], out: &mut [u8]) -> WriteAnswer {
+fn library_write(header: Header, words: &[u64], out: &mut [u8]) -> WriteAnswer {
     let (start, room) = (out.as_mut_ptr(), out.len());
-    unsafe { capi::cascade_write(n, words.as_ptr(), words.len(), start, room) }
+    unsafe { capi::cascade_write(header, words.as_ptr(), words.len(), start, room) }
 }
 
-/// Writing by an earlier archive, whose calls have names of their own.
+/// Reading and writing by an archive of before T-03, whose calls have names of their own.
 #[cfg(before)]
-fn earlier_write(n: u64, words: &[u64], out: &mut [u8]) -> WriteAnswer {
+mod earlier {
+    use super::*;
+
+    #[repr(C)]
+    struct Answer {
+        number: u64,
+        place: u64,
+        lines: u64,
+        gates: u64,
+        taken: u64,
+    }
+
     extern "C" {
+        fn before_cascade_read(
+            text: *const u8,
+            text_len: usize,
+            out: *mut u64,
+            out_len: usize,
+        ) -> Answer;
         fn before_cascade_write(
             n: u64,
             words: *const u64,
@@ -84,8 +103,26 @@ fn earlier_write(n: u64, words: &[u64], out: &mut [u8]) -> WriteAnswer {
             out_len: usize,
         ) -> WriteAnswer;
     }
-    let (start, room) = (out.as_mut_ptr(), out.len());
-    unsafe { before_cascade_write(n, words.as_ptr(), words.len(), start, room) }
+
+    pub fn read(text: &[u8], out: &mut [u64]) -> ReadAnswer {
+        let (start, room) = (out.as_mut_ptr(), out.len());
+        let answer = unsafe { before_cascade_read(text.as_ptr(), text.len(), start, room) };
+        ReadAnswer {
+            number: answer.number,
+            place: answer.place,
+            lines: answer.lines,
+            constants: 0,
+            values: 0,
+            junk: 0,
+            gates: answer.gates,
+            taken: answer.taken,
+        }
+    }
+
+    pub fn write(header: Header, words: &[u64], out: &mut [u8]) -> WriteAnswer {
+        let (start, room) = (out.as_mut_ptr(), out.len());
+        unsafe { before_cascade_write(header.lines, words.as_ptr(), words.len(), start, room) }
+    }
 }
 
 // ---- inputs
@@ -93,43 +130,70 @@ fn earlier_write(n: u64, words: &[u64], out: &mut [u8]) -> WriteAnswer {
 /// Cascades of one kind, to be called in turn.
 struct Work {
     name: &'static str,
-    lines: u64,
+    header: Header,
     cascades: Vec<Vec<u64>>,
     texts: Vec<Vec<u8>>,
 }
 
 /// Valid gates; `controls` draws the mask of control lines.
-fn work(name: &'static str, lines: u64, gates: usize, controls: fn(&mut Random) -> u64) -> Work {
+fn work(
+    name: &'static str,
+    header: Header,
+    gates: usize,
+    controls: fn(&mut Random) -> u64,
+) -> Work {
+    let lines = header.lines;
     let mut random = Random::new(lines);
     let mut cascade = || inputs::cascade(&mut random, lines, gates, |random, _| controls(random));
     let cascades: Vec<Vec<u64>> = (0..CASCADES).map(|_| cascade()).collect();
-    let texts = cascades.iter().map(|words| text(lines, words)).collect();
+    let texts = cascades.iter().map(|words| text(header, words)).collect();
     Work {
         name,
-        lines,
+        header,
         cascades,
         texts,
     }
 }
 
-fn text(lines: u64, words: &[u64]) -> Vec<u8> {
+fn text(header: Header, words: &[u64]) -> Vec<u8> {
     let mut out = vec![0; 1 << 18];
-    let written = plain_file::write(lines, words, &mut out).written;
+    let written = plain_file::write(header, words, &mut out).written;
     out.truncate(written as usize);
     out
 }
 
 fn works() -> Vec<Work> {
     let none = |_: &mut Random| 0;
-    let few = |random: &mut Random| inputs::two_lines(random, 64);
     let half = |random: &mut Random| random.word();
-    let quarter = |random: &mut Random| random.word() & random.word();
+    let (wide, narrow) = (unmarked(64), unmarked(8));
     vec![
-        work("1,024 gates, 64 lines, few controls", 64, 1024, few),
-        work("1,024 gates, 64 lines, many controls", 64, 1024, half),
-        work("1,024 gates, 64 lines, no controls", 64, 1024, none),
-        work("16 gates, 8 lines, few controls", 8, 16, quarter),
+        work("1,024 gates, 64 lines, few controls", wide, 1024, few),
+        work("1,024 gates, 64 lines, many controls", wide, 1024, half),
+        work("1,024 gates, 64 lines, no controls", wide, 1024, none),
+        work("16 gates, 8 lines, few controls", narrow, 16, quarter),
     ]
+}
+
+/// Cascades with marks, whose files are read and written.
+fn marked_works() -> Vec<Work> {
+    let marked = |lines, mask| Header {
+        lines,
+        constants: mask,
+        values: mask & 0x5555_5555_5555_5555,
+        junk: mask,
+    };
+    vec![
+        work("1,024 gates, 64 lines, all marked", marked(64, u64::MAX), 1024, few),
+        work("16 gates, 8 lines, all marked", marked(8, 255), 16, quarter),
+    ]
+}
+
+fn few(random: &mut Random) -> u64 {
+    inputs::two_lines(random, 64)
+}
+
+fn quarter(random: &mut Random) -> u64 {
+    random.word() & random.word()
 }
 
 // ---- equal answers
@@ -137,12 +201,13 @@ fn works() -> Vec<Work> {
 /// Equal answers on what is timed, where every call is served, and on refusals of each kind.
 fn check_equal(works: &[Work]) {
     for work in works {
+        let lines = work.header.lines;
         for words in &work.cascades {
-            assert_eq!(plain::run(work.lines, words, 0).number, 0);
-            same(work.lines, words, 0, words.len());
-            same_file(work.lines, words);
-            let last_state = u64::MAX >> (64 - work.lines);
-            same(work.lines, words, last_state, words.len() + 2);
+            assert_eq!(plain::run(lines, words, 0).number, 0);
+            same(lines, words, 0, words.len());
+            same_file(work.header, words);
+            let last_state = u64::MAX >> (64 - lines);
+            same(lines, words, last_state, words.len() + 2);
         }
     }
     let words = &works[0].cascades[0];
@@ -171,10 +236,10 @@ fn same(n: u64, words: &[u64], state: u64, room: usize) {
 }
 
 /// Both sides write the same text, and read the same words back, also where it is cut.
-fn same_file(n: u64, words: &[u64]) {
+fn same_file(header: Header, words: &[u64]) {
     let mut texts = [vec![9; 1 << 18], vec![9; 1 << 18]];
-    let library = library_write(n, words, &mut texts[0]);
-    assert_eq!(library, plain_file::write(n, words, &mut texts[1]));
+    let library = library_write(header, words, &mut texts[0]);
+    assert_eq!(library, plain_file::write(header, words, &mut texts[1]));
     assert_eq!(texts[0], texts[1]);
     let length = library.written as usize;
     for cut in [0, 1, 4, 5, 9, length / 2] {
@@ -186,14 +251,18 @@ fn same_file(n: u64, words: &[u64]) {
     }
 }
 
-/// The earlier archive writes the same text.
+/// The earlier archive writes the same text, and reads the same words.
 #[cfg(before)]
 fn check_earlier(work: &Work) {
     for words in &work.cascades {
         let mut texts = [vec![9; 1 << 18], vec![9; 1 << 18]];
-        let library = library_write(work.lines, words, &mut texts[0]);
-        assert_eq!(library, earlier_write(work.lines, words, &mut texts[1]));
+        let library = library_write(work.header, words, &mut texts[0]);
+        assert_eq!(library, earlier::write(work.header, words, &mut texts[1]));
         assert_eq!(texts[0], texts[1]);
+        let mut outs = [vec![9; words.len()], vec![9; words.len()]];
+        let library = library_read(&texts[0], &mut outs[0]);
+        assert_eq!(library, earlier::read(&texts[0], &mut outs[1]));
+        assert_eq!(outs[0], outs[1]);
     }
 }
 
@@ -221,7 +290,7 @@ impl Work {
 fn time_run(work: &Work, run: Run) -> f64 {
     let mut state = 1;
     let time = work.time(GATES_A_ROUND, |index| {
-        state = run(work.lines, black_box(&work.cascades[index]), state).state;
+        state = run(work.header.lines, black_box(&work.cascades[index]), state).state;
     });
     black_box(state);
     time
@@ -232,13 +301,13 @@ fn time_inverse(work: &Work, inverse: Inverse) -> f64 {
     let mut out = vec![0; work.cascades[0].len()];
     work.time(GATES_A_ROUND, |index| {
         let words = black_box(&work.cascades[index]);
-        black_box(inverse(work.lines, words, black_box(&mut out)));
+        black_box(inverse(work.header.lines, words, black_box(&mut out)));
     })
 }
 
 fn time_sizes(work: &Work, sizes: Sizes) -> f64 {
     work.time(GATES_A_ROUND, |index| {
-        black_box(sizes(work.lines, black_box(&work.cascades[index])));
+        black_box(sizes(work.header.lines, black_box(&work.cascades[index])));
     })
 }
 
@@ -255,7 +324,7 @@ fn time_write(work: &Work, write: Write) -> f64 {
     let mut out = vec![0; 1 << 18];
     work.time(FILE_GATES_A_ROUND, |index| {
         let words = black_box(&work.cascades[index]);
-        black_box(write(work.lines, words, black_box(&mut out)));
+        black_box(write(work.header, words, black_box(&mut out)));
     })
 }
 
@@ -316,12 +385,14 @@ fn main() {
     if what.as_deref() == Some("steps") {
         return steps::rows();
     }
-    let works = works();
+    let (works, marked) = (works(), marked_works());
     check_equal(&works);
+    check_equal(&marked);
     #[cfg(before)]
-    if what.as_deref() == Some("write") {
+    if what.as_deref() == Some("files") {
         works.iter().for_each(check_earlier);
-        rows("cascade_write", &works, time_write, [library_write, earlier_write]);
+        rows("cascade_read", &works, time_read, [library_read, earlier::read]);
+        rows("cascade_write", &works, time_write, [library_write, earlier::write]);
         return;
     }
     let head = ["call", "cascades", "ns", "plain ns", "ratio"];
@@ -334,12 +405,15 @@ fn main() {
         steps::miter_highest(),
         faults::highest(),
         emit::highest(),
+        pair::highest(),
     ];
     let highest = ratios.into_iter().fold(0.0, f64::max);
     println!("bench: the highest ratio is {highest:.2}, the limit {LIMIT}");
     let ratios = [
         rows("cascade_read", &works, time_read, READ),
+        rows("cascade_read", &marked, time_read, READ),
         rows("cascade_write", &works, time_write, WRITE),
+        rows("cascade_write", &marked, time_write, WRITE),
     ];
     let file_highest = ratios.into_iter().fold(0.0, f64::max);
     println!("bench: of files {file_highest:.2}, the limit {FILE_LIMIT}");

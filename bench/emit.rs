@@ -5,11 +5,11 @@ use crate::random::Random;
 use crate::{compare, inputs, plain_emit, time};
 use std::hint::black_box;
 
-const LINES: u64 = 64;
+pub const LINES: u64 = 64;
 const GATES: usize = 2048;
 /// Calls between two readings of the clock.
-const CALLS: usize = 8;
-const ROUNDS: usize = 101;
+pub const CALLS: usize = 8;
+pub const ROUNDS: usize = 101;
 
 type Emit = fn(u64, &[u64], &mut [i16]) -> SizesAnswer;
 
@@ -19,7 +19,7 @@ fn library_emit(n: u64, words: &[u64], out: &mut [i16]) -> SizesAnswer {
 }
 
 /// Gates with as many controls as `controls` draws.
-fn cascade(random: &mut Random, controls: impl Fn(&mut Random) -> u32) -> Vec<u64> {
+pub fn cascade(random: &mut Random, controls: impl Fn(&mut Random) -> u32) -> Vec<u64> {
     inputs::cascade(random, LINES, GATES, |random, target| {
         let k = controls(random);
         inputs::lines_besides(random, LINES, target, k)
@@ -36,7 +36,7 @@ fn same(n: u64, words: &[u64], room: usize) -> SizesAnswer {
 }
 
 /// The longest list.
-const ROOM: usize = GATES * (5 * 63 + 8) + 64 * 7 + 2;
+pub const ROOM: usize = GATES * (5 * 63 + 8) + 64 * 7 + 2;
 
 fn check_equal(words: &[u64]) {
     let served = same(LINES, words, ROOM);

@@ -1,18 +1,19 @@
 //! Times the sweep of equal cascades on 16 lines, and the fault masks of 1,024 gates over 1,000 states.
 
-use crate::capi::{self, CountAnswer, StateAnswer};
+use crate::capi::{self, CountAnswer, Header, StateAnswer};
+use crate::plain::{self, unmarked};
 use crate::random::Random;
-use crate::{compare, inputs, plain, time};
+use crate::{compare, inputs, time};
 use std::hint::black_box;
 
-fn library_first_difference(na: u64, a: &[u64], nb: u64, b: &[u64]) -> StateAnswer {
-    unsafe { capi::cascade_first_difference(na, a.as_ptr(), a.len(), nb, b.as_ptr(), b.len()) }
+fn library_first_difference(ha: Header, a: &[u64], hb: Header, b: &[u64]) -> StateAnswer {
+    unsafe { capi::cascade_first_difference(ha, a.as_ptr(), a.len(), hb, b.as_ptr(), b.len()) }
 }
 
 fn library_fault_masks(
-    na: u64,
+    ha: Header,
     a: &[u64],
-    nb: u64,
+    hb: Header,
     b: &[u64],
     states: &[u64],
     out: &mut [u64],
@@ -20,10 +21,10 @@ fn library_fault_masks(
     let (start, room) = (out.as_mut_ptr(), out.len());
     unsafe {
         capi::cascade_fault_masks(
-            na,
+            ha,
             a.as_ptr(),
             a.len(),
-            nb,
+            hb,
             b.as_ptr(),
             b.len(),
             states.as_ptr(),
@@ -38,18 +39,19 @@ fn library_fault_masks(
 fn sweep(random: &mut Random) -> f64 {
     let a = inputs::few_controls(random, 16, 200);
     let late = [&a[..], &[!1 & 0xffff, 0, 0]].concat();
+    let header = unmarked(16);
     for b in [&a, &late] {
-        let library = library_first_difference(16, &a, 16, b);
-        assert_eq!(library, plain::first_difference(16, &a, 16, b));
+        let library = library_first_difference(header, &a, header, b);
+        assert_eq!(library, plain::first_difference(header, &a, header, b));
         assert_eq!(
             (library.number, library.found),
             (0, u64::from(b.len() > a.len()))
         );
     }
     let b = a.clone();
-    let sweep = |call: fn(u64, &[u64], u64, &[u64]) -> StateAnswer| {
+    let sweep = |call: fn(Header, &[u64], Header, &[u64]) -> StateAnswer| {
         time(1, |_| {
-            black_box(call(16, black_box(&a), 16, black_box(&b)));
+            black_box(call(header, black_box(&a), header, black_box(&b)));
         })
     };
     compare(
@@ -61,7 +63,7 @@ fn sweep(random: &mut Random) -> f64 {
     )
 }
 
-type FaultMasks = fn(u64, &[u64], u64, &[u64], &[u64], &mut [u64]) -> CountAnswer;
+type FaultMasks = fn(Header, &[u64], Header, &[u64], &[u64], &mut [u64]) -> CountAnswer;
 
 /// The ratio of the fault masks of 1,024 gates over 1,000 states on 64 lines. The last gate of the
 /// suspect lacks a control that is 0 there for each of the states.
@@ -78,9 +80,10 @@ fn masks(random: &mut Random) -> f64 {
         })
     };
     let states: Vec<u64> = (0..1_000).map(|_| back(random.word() & !2)).collect();
+    let header = unmarked(64);
     let call = |call: FaultMasks, out: &mut [u64]| {
         let (suspect, reference) = (black_box(&suspect), black_box(&reference));
-        call(64, suspect, 64, reference, black_box(&states), out)
+        call(header, suspect, header, reference, black_box(&states), out)
     };
     let mut outs = [vec![9; 2_050], vec![9; 2_050]];
     let library = call(library_fault_masks, &mut outs[0]);

@@ -1,6 +1,7 @@
 //! The calls in plain Rust, written for speed, with the same answers as the C interface.
 
-use crate::capi::{CountAnswer, ReduceAnswer, RunAnswer, SizesAnswer, StateAnswer, StepAnswer};
+use crate::capi::{CountAnswer, Header, ReduceAnswer, RunAnswer};
+use crate::capi::{SizesAnswer, StateAnswer, StepAnswer};
 use std::hint::select_unpredictable;
 
 const LIMIT: usize = 1024;
@@ -128,26 +129,28 @@ pub fn inverse(n: u64, words: &[u64], out: &mut [u64]) -> CountAnswer {
     }
 }
 
-/// Tests each gate and adds up its sizes in one pass.
-#[inline(never)]
-pub fn sizes(n: u64, words: &[u64]) -> SizesAnswer {
-    let refused = |number, place| SizesAnswer {
-        number,
-        place,
-        variables: 0,
-        clauses: 0,
-        words: 0,
-    };
-    let number = shape_refusal(n, words, MITER_LIMIT);
-    if number != 0 {
-        return refused(number, 0);
-    }
+/// The sums of the sizes of gates, and the lines that they target.
+#[derive(Clone, Copy)]
+struct Sums {
+    variables: u64,
+    clauses: u64,
+    words: u64,
+    targeted: u64,
+}
+
+/// Tests each gate and adds its sizes to the sums, in one pass; else the first that is none.
+#[inline(always)]
+fn sums(n: u64, words: &[u64], sums: Sums) -> Result<Sums, u64> {
     let lines_from_n = lines_from(n);
-    let (mut variables, mut clauses, mut total) = (2 * n, n + 1, 4 * n + 2);
-    let mut targeted: u64 = 0;
+    let Sums {
+        mut variables,
+        mut clauses,
+        words: mut total,
+        mut targeted,
+    } = sums;
     for (index, &gate) in words.as_chunks().0.iter().enumerate() {
         if !is_gate(gate, n, lines_from_n) {
-            return refused(7, index as u64);
+            return Err(index as u64);
         }
         let [positive, negative, target] = gate;
         let k = u64::from(positive.count_ones() + negative.count_ones());
@@ -157,12 +160,119 @@ pub fn sizes(n: u64, words: &[u64]) -> SizesAnswer {
         clauses += if many { k + 2 } else { 1 };
         total += if many { 5 * k + 8 } else { 4 + k };
     }
+    Ok(Sums {
+        variables,
+        clauses,
+        words: total,
+        targeted,
+    })
+}
+
+pub fn sizes_refused(number: u64, place: u64) -> SizesAnswer {
+    SizesAnswer {
+        number,
+        place,
+        variables: 0,
+        clauses: 0,
+        words: 0,
+    }
+}
+
+/// The share of inputs, constants and lines that count in a list, before any gate.
+#[inline(always)]
+fn share(header: Header) -> Sums {
+    let constants = u64::from(header.constants.count_ones());
+    let counted = header.lines - u64::from(header.junk.count_ones());
+    Sums {
+        variables: header.lines + counted,
+        clauses: constants + counted + 1,
+        words: 3 * constants + 4 * counted + 2,
+        targeted: 0,
+    }
+}
+
+/// The sizes, with two words more for each line that counts and is targeted.
+#[inline(always)]
+fn sizes_served(sums: Sums, junk: u64) -> SizesAnswer {
     SizesAnswer {
         number: 0,
         place: 0,
-        variables,
-        clauses,
-        words: total + 2 * u64::from(targeted.count_ones()),
+        variables: sums.variables,
+        clauses: sums.clauses,
+        words: sums.words + 2 * u64::from((sums.targeted & !junk).count_ones()),
+    }
+}
+
+#[inline(never)]
+pub fn sizes(n: u64, words: &[u64]) -> SizesAnswer {
+    let number = shape_refusal(n, words, MITER_LIMIT);
+    if number != 0 {
+        return sizes_refused(number, 0);
+    }
+    match sums(n, words, share(unmarked(n))) {
+        Ok(sums) => sizes_served(sums, 0),
+        Err(place) => sizes_refused(7, place),
+    }
+}
+
+/// One pass over each cascade; with marks and without, the list has the same parts.
+#[inline(never)]
+pub fn pair_sizes(ha: Header, a: &[u64], hb: Header, b: &[u64]) -> SizesAnswer {
+    let mut total = share(ha);
+    for (header, words) in [(ha, a), (hb, b)] {
+        let number = header_refusal(header, words);
+        if number != 0 {
+            return sizes_refused(number, 0);
+        }
+        total = match sums(header.lines, words, total) {
+            Ok(sums) => sums,
+            Err(place) => return sizes_refused(7, place),
+        };
+    }
+    match both_refusal(ha, hb) {
+        0 => sizes_served(total, ha.junk),
+        number => sizes_refused(number, 0),
+    }
+}
+
+/// The header of a cascade without marks.
+#[inline(always)]
+pub fn unmarked(lines: u64) -> Header {
+    Header {
+        lines,
+        constants: 0,
+        values: 0,
+        junk: 0,
+    }
+}
+
+/// The tests 2, 14, 11, 6: the number of the first that holds, or 0.
+#[inline(always)]
+fn header_refusal(header: Header, words: &[u64]) -> u64 {
+    let Header {
+        lines,
+        constants,
+        values,
+        junk,
+    } = header;
+    if lines.wrapping_sub(1) >= 64 {
+        2
+    } else if (constants | junk) & lines_from(lines) | values & !constants != 0 {
+        14
+    } else {
+        shape_refusal(lines, words, LIMIT)
+    }
+}
+
+/// The tests 8, 15 of two headers: the number of the first that holds, or 0.
+#[inline(always)]
+fn both_refusal(ha: Header, hb: Header) -> u64 {
+    if ha.lines != hb.lines {
+        8
+    } else if ha != hb {
+        15
+    } else {
+        0
     }
 }
 
@@ -173,6 +283,12 @@ fn refusal(n: u64, words: &[u64], limit: usize) -> (u64, u64) {
     if number != 0 {
         return (number, 0);
     }
+    gates_refusal(n, words)
+}
+
+/// 7 and the place of the first gate that is none, or 0 and 0.
+#[inline(always)]
+fn gates_refusal(n: u64, words: &[u64]) -> (u64, u64) {
     let lines_from_n = lines_from(n);
     let gates: &[[u64; 3]] = words.as_chunks().0;
     match gates
@@ -196,6 +312,21 @@ fn pair_refusal(na: u64, a: &[u64], nb: u64, b: &[u64]) -> (u64, u64) {
         return (8, 0);
     }
     (0, 0)
+}
+
+/// The same of two cascades with headers.
+fn headed_pair_refusal(ha: Header, a: &[u64], hb: Header, b: &[u64]) -> (u64, u64) {
+    for (header, words) in [(ha, a), (hb, b)] {
+        let number = header_refusal(header, words);
+        if number != 0 {
+            return (number, 0);
+        }
+        let (number, place) = gates_refusal(header.lines, words);
+        if number != 0 {
+            return (number, place);
+        }
+    }
+    (both_refusal(ha, hb), 0)
 }
 
 /// Tests both, then copies A and B's gates from the last to the first.
@@ -327,23 +458,24 @@ fn output(gates: &[[u64; 3]], state: u64) -> u64 {
 
 /// One state at a time, from 0 on.
 #[inline(never)]
-pub fn first_difference(na: u64, a: &[u64], nb: u64, b: &[u64]) -> StateAnswer {
+pub fn first_difference(ha: Header, a: &[u64], hb: Header, b: &[u64]) -> StateAnswer {
     let answer = |number, place, found, state| StateAnswer {
         number,
         place,
         found,
         state,
     };
-    let (number, place) = pair_refusal(na, a, nb, b);
+    let (number, place) = headed_pair_refusal(ha, a, hb, b);
     if number != 0 {
         return answer(number, place, 0, 0);
     }
-    if na > 16 {
+    if ha.lines > 16 {
         return answer(13, 0, 0, 0);
     }
     let (first, second) = (a.as_chunks().0, b.as_chunks().0);
-    for state in 0..1 << na {
-        if output(first, state) != output(second, state) {
+    for state in 0..1 << ha.lines {
+        let permitted = state & ha.constants == ha.values;
+        if permitted && (output(first, state) ^ output(second, state)) & !ha.junk != 0 {
             return answer(0, 0, 1, state);
         }
     }
@@ -353,9 +485,9 @@ pub fn first_difference(na: u64, a: &[u64], nb: u64, b: &[u64]) -> StateAnswer {
 /// Tests the list, then narrows the masks of all gates by one state at a time.
 #[inline(never)]
 pub fn fault_masks(
-    na: u64,
+    ha: Header,
     a: &[u64],
-    nb: u64,
+    hb: Header,
     b: &[u64],
     states: &[u64],
     out: &mut [u64],
@@ -365,16 +497,18 @@ pub fn fault_masks(
         place,
         gates,
     };
-    let (number, place) = pair_refusal(na, a, nb, b);
+    let (number, place) = headed_pair_refusal(ha, a, hb, b);
     if number != 0 {
         return answer(number, place, 0);
     }
-    let lines_from_n = lines_from(na);
-    if let Some(index) = states.iter().position(|state| state & lines_from_n != 0) {
+    let lines_from_n = lines_from(ha.lines);
+    // a constant has its value, and a line at n or above is 0
+    let tied = ha.constants | lines_from_n;
+    if let Some(index) = states.iter().position(|state| state & tied != ha.values) {
         return answer(9, index as u64, 0);
     }
     let (suspect, reference) = (a.as_chunks().0, b.as_chunks().0);
-    let agree = |state: &u64| output(suspect, *state) == output(reference, *state);
+    let agree = |state: &u64| (output(suspect, *state) ^ output(reference, *state)) & !ha.junk == 0;
     if let Some(index) = states.iter().position(agree) {
         return answer(12, index as u64, 0);
     }

@@ -1,8 +1,15 @@
 //! Emission in plain Rust, written for speed: each gate's controls once, by set bits, and each word once.
 
-use crate::capi::SizesAnswer;
+use crate::capi::{Header, SizesAnswer};
 use crate::plain;
 use std::array;
+
+/// The current variable of each line.
+type Current = [i16; 64];
+
+fn inputs() -> Current {
+    array::from_fn(|line| line as i16 + 1)
+}
 
 /// The sizes first, then the clauses, where there is room.
 #[inline(never)]
@@ -11,46 +18,89 @@ pub fn emit(n: u64, words: &[u64], out: &mut [i16]) -> SizesAnswer {
     if answer.number != 0 {
         return answer;
     }
-    let Some(out) = out.get_mut(..answer.words as usize) else {
-        return SizesAnswer {
-            number: 10,
-            place: 0,
-            variables: 0,
-            clauses: 0,
-            words: 0,
-        };
+    let Some(mut rest) = out.get_mut(..answer.words as usize) else {
+        return plain::sizes_refused(10, 0);
     };
-    let mut current: [i16; 64] = array::from_fn(|line| line as i16 + 1);
+    let mut current = inputs();
     let mut used = n as i16;
-    let mut rest = out;
-    for &[positive, negative, target] in words.as_chunks().0 {
-        let target = target as usize % 64;
-        let v = current[target];
-        let lines = positive | negative;
-        match lines.count_ones() as usize {
-            0 => {
-                rest = put(rest, [1, 2, used + 1, v]);
-                used += 1;
-            }
-            1 => {
-                let c = literal(positive, lines, &current);
-                rest = put(rest, [1, 3, -(used + 1), v, c]);
-                used += 1;
-            }
-            k => {
-                let p = used + 1;
-                rest = put(rest, [0, k as i16 + 1, p]);
-                let (long, after) = rest.split_at_mut(k);
-                let (short, after) = after.split_at_mut(4 * k);
-                put_controls(positive, lines, &current, p, long, short.as_chunks_mut().0);
-                rest = put(after, [1, 3, -(p + 1), v, p]);
-                used += 2;
-            }
-        }
-        current[target] = used;
+    for &gate in words.as_chunks().0 {
+        rest = put_gate(gate, &mut current, &mut used, rest);
     }
-    put_differences(n as i16, &current, used, rest);
+    put_differences(plain::unmarked(n), &inputs(), &current, used, rest);
     answer
+}
+
+/// The same of two cascades: with marks each from the inputs, without marks the second reversed and from
+/// the first's last variables.
+#[inline(never)]
+pub fn pair_emit(ha: Header, a: &[u64], hb: Header, b: &[u64], out: &mut [i16]) -> SizesAnswer {
+    let answer = plain::pair_sizes(ha, a, hb, b);
+    if answer.number != 0 {
+        return answer;
+    }
+    let Some(mut rest) = out.get_mut(..answer.words as usize) else {
+        return plain::sizes_refused(10, 0);
+    };
+    let mut constants = ha.constants;
+    while constants != 0 {
+        let line = constants.trailing_zeros();
+        let input = line as i16 + 1;
+        let one = ha.values >> line & 1 == 1;
+        rest = put(rest, [0, 1, if one { input } else { -input }]);
+        constants &= constants - 1;
+    }
+    let (mut first, mut second) = (inputs(), inputs());
+    let mut used = ha.lines as i16;
+    for &gate in a.as_chunks().0 {
+        rest = put_gate(gate, &mut first, &mut used, rest);
+    }
+    if ha.constants | ha.junk != 0 {
+        for &gate in b.as_chunks().0 {
+            rest = put_gate(gate, &mut second, &mut used, rest);
+        }
+    } else {
+        for &gate in b.as_chunks().0.iter().rev() {
+            rest = put_gate(gate, &mut first, &mut used, rest);
+        }
+        (first, second) = (second, first);
+    }
+    put_differences(ha, &first, &second, used, rest);
+    answer
+}
+
+/// The clauses of a gate; what is left.
+#[inline(always)]
+fn put_gate<'a>(
+    [positive, negative, target]: [u64; 3],
+    current: &mut Current,
+    used: &mut i16,
+    rest: &'a mut [i16],
+) -> &'a mut [i16] {
+    let target = target as usize % 64;
+    let v = current[target];
+    let lines = positive | negative;
+    let left = match lines.count_ones() as usize {
+        0 => {
+            *used += 1;
+            put(rest, [1, 2, *used, v])
+        }
+        1 => {
+            let c = literal(positive, lines, current);
+            *used += 1;
+            put(rest, [1, 3, -*used, v, c])
+        }
+        k => {
+            let p = *used + 1;
+            let rest = put(rest, [0, k as i16 + 1, p]);
+            let (long, after) = rest.split_at_mut(k);
+            let (short, after) = after.split_at_mut(4 * k);
+            put_controls(positive, lines, current, p, long, short.as_chunks_mut().0);
+            *used += 2;
+            put(after, [1, 3, -*used, v, p])
+        }
+    };
+    current[target] = *used;
+    left
 }
 
 /// The words at the start; what is left.
@@ -63,7 +113,7 @@ fn put<const N: usize>(out: &mut [i16], words: [i16; N]) -> &mut [i16] {
 
 /// The literal c of the lowest of the lines.
 #[inline(always)]
-fn literal(positive: u64, lines: u64, current: &[i16; 64]) -> i16 {
+fn literal(positive: u64, lines: u64, current: &Current) -> i16 {
     let line = lines.trailing_zeros();
     let variable = current[line as usize % 64];
     if positive >> (line % 64) & 1 == 1 {
@@ -78,7 +128,7 @@ fn literal(positive: u64, lines: u64, current: &[i16; 64]) -> i16 {
 fn put_controls(
     positive: u64,
     mut lines: u64,
-    current: &[i16; 64],
+    current: &Current,
     p: i16,
     long: &mut [i16],
     short: &mut [[i16; 4]],
@@ -91,19 +141,25 @@ fn put_controls(
     }
 }
 
-/// The clauses of the lines, and the OR of all d.
+/// The clauses of the lines that count, and the OR of their d. The two variables of a line are the same
+/// where no gate targets it.
 #[inline(always)]
-fn put_differences(n: i16, current: &[i16; 64], used: i16, out: &mut [i16]) {
+fn put_differences(header: Header, first: &Current, second: &Current, used: i16, out: &mut [i16]) {
     let mut rest = out;
-    for line in 0..n {
-        let (d, input, last) = (used + 1 + line, line + 1, current[line as usize % 64]);
-        rest = if last > n {
-            put(rest, [1, 3, -d, input, last])
+    let mut d = used;
+    for line in 0..header.lines as usize {
+        if header.junk >> (line % 64) & 1 == 1 {
+            continue;
+        }
+        d += 1;
+        let (one, other) = (first[line % 64], second[line % 64]);
+        rest = if one != other {
+            put(rest, [1, 3, -d, one, other])
         } else {
             put(rest, [0, 1, -d])
         };
     }
-    let rest = put(rest, [0, n]);
+    let rest = put(rest, [0, d - used]);
     for (to, d) in rest.iter_mut().zip(used + 1..) {
         *to = d;
     }

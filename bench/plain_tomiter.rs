@@ -5,10 +5,12 @@
 mod capi;
 #[allow(dead_code)]
 mod plain;
+#[allow(dead_code)]
 mod plain_emit;
 #[allow(dead_code)]
 mod plain_file;
 
+use capi::{Header, ReadAnswer};
 use std::hint::black_box;
 use std::io::{Read, Write};
 
@@ -55,8 +57,18 @@ fn put_list(out: &mut Vec<u8>, variables: u64, clauses: u64, mut words: &[i16]) 
             put_number(out, literal.unsigned_abs() as u64);
             out.push(b' ');
         }
-        out.extend_from_slice(b"0\n");
+        // ` 0` closes, also where there is no literal
+        out.extend_from_slice(if literals.is_empty() { b" 0\n" } else { b"0\n" });
         words = later;
+    }
+}
+
+fn header(read: &ReadAnswer) -> Header {
+    Header {
+        lines: read.lines,
+        constants: read.constants,
+        values: read.values,
+        junk: read.junk,
     }
 }
 
@@ -76,22 +88,13 @@ fn listed(input: &[u8], out: &mut Vec<u8>) -> Result<(), (u64, u64, u64)> {
         return Err((second.number, 2, second.place));
     }
     if second.taken as usize != input.len() {
-        return Err((1, 2, second.gates + 2));
+        let marks = second.constants.count_ones() + second.junk.count_ones();
+        return Err((1, 2, u64::from(marks) + second.gates + 2));
     }
     let (a, b) = (3 * first.gates as usize, 3 * second.gates as usize);
-    let mut miter = [0; 6144];
-    let made = plain::miter(
-        first.lines,
-        &words[0][..a],
-        second.lines,
-        &words[1][..b],
-        &mut miter,
-    );
-    if made.number != 0 {
-        return Err((made.number, 0, 0));
-    }
+    let (a, b) = (&words[0][..a], &words[1][..b]);
     let mut clauses = [0; MOST_WORDS];
-    let sizes = plain_emit::emit(first.lines, &miter[..a + b], &mut clauses);
+    let sizes = plain_emit::pair_emit(header(&first), a, header(&second), b, &mut clauses);
     if sizes.number != 0 {
         return Err((sizes.number, 0, 0));
     }
