@@ -13,6 +13,8 @@ pub mod Stored
 pub mod Sizes
 pub mod ClauseRows
 pub mod Emit
+pub mod Pair
+pub mod PairTold
 pub mod Told
 pub mod Equality
 pub mod Check
