@@ -43,19 +43,23 @@ reads_inputs n σ = record { named = λ k h. omega arith; read = λ k h. sym (sp
 abbrev pub Below : ℕ → List ℕ → Type 0
 Below n ks = All (λ (k : ℕ). k < n) ks
 
-pub below_up_from : (n i m : ℕ) → i + m ≤ n → Below n (up_from i m)
-unfolding up_from
-below_up_from n i zero h = tt
-below_up_from n i (suc m) h = (omega arith, below_up_from n (suc i) m (omega arith))
+-- a property of all of them is one of each
+module _ (P : ℕ → Type 0) where
+  pub all_up_from : (i m : ℕ) → ((k : ℕ) → i ≤ k → k < i + m → P k) → All P (up_from i m)
+  unfolding up_from
+  all_up_from i zero f = tt
+  all_up_from i (suc m) f = (f i (omega arith) (omega arith), all_up_from (suc i) m (λ k l h. f k (omega arith) (omega arith)))
 
--- what holds of all of them holds of each
-pub all_up_from : (P : ℕ → Type 0) (i m : ℕ) → All P (up_from i m) → (k : ℕ) → i ≤ k → k < i + m → P k
-unfolding up_from
-all_up_from P i zero a k l h = absurd (omega arith)
-all_up_from P i (suc m) a k l h =
-    either (eqb i k)
-    (λ t. subst P (eqb-true i k t) a.0)
-    (λ t. let ne : i ≡ k → ⊥ = eqb-false i k t in all_up_from P (suc i) m a.1 k (omega arith) (omega arith))
+  pub up_from_all : (i m : ℕ) → All P (up_from i m) → (k : ℕ) → i ≤ k → k < i + m → P k
+  unfolding up_from
+  up_from_all i zero a k l h = absurd (omega arith)
+  up_from_all i (suc m) a k l h =
+      either (eqb i k)
+      (λ t. subst P (eqb-true i k t) a.0)
+      (λ t. let ne : i ≡ k → ⊥ = eqb-false i k t in up_from_all (suc i) m a.1 k (omega arith) (omega arith))
+
+pub below_up_from : (n i m : ℕ) → i + m ≤ n → Below n (up_from i m)
+below_up_from n i m h = all_up_from (λ (k : ℕ). k < n) i m (λ k l b. omega arith)
 
 -- the last clause: some d is true
 abbrev pub some_of : List Bool → Bool
@@ -168,7 +172,7 @@ length_gate used s t [] = omega arith
 length_gate used s t (c ∷ []) = omega arith
 length_gate used s t (c ∷ d ∷ cs) = omega arith
 
-length_gates : (used s : ℕ) (gs : List Gate) → used + length (gates_values s gs) ≡ used_after used gs
+pub length_gates : (used s : ℕ) (gs : List Gate) → used + length (gates_values s gs) ≡ used_after used gs
 unfolding gates_values used_after
 length_gates used s [] = omega arith
 length_gates used s (g ∷ gs) =
@@ -236,7 +240,7 @@ changed n s r hs hr = (
   (λ h e. let (k, w, ne) = some_line (λ (k : ℕ). k < n) s r (up_from 0 n) (below_up_from n 0 n (omega arith)) h in ne (ap (λ (x : ℕ). bit x k) (sym e))),
   (λ ne.
       either (some_of (differences s r (up_from 0 n))) (λ t. t)
-      (λ f. absurd (ne (sym (bits_below n s r hs hr (λ k l. all_up_from (λ (j : ℕ). bit s j ≡ bit r j) 0 n (none_lines s r (up_from 0 n) f) k (omega arith) (omega arith))))))),
+      (λ f. absurd (ne (sym (bits_below n s r hs hr (λ k l. up_from_all (λ (j : ℕ). bit s j ≡ bit r j) 0 n (none_lines s r (up_from 0 n) f) k (omega arith) (omega arith))))))),
 )
 
 -- ---- the laws of a list whose inputs, if it is satisfied, force the values of the other variables

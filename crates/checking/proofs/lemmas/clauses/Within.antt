@@ -15,6 +15,11 @@ minus_size : (v : ℕ) → variable_of (minus v) ≡ v
 minus_size zero = refl
 minus_size (suc v) = refl
 
+-- a literal is one of its variable
+pub sign_size : (p : Bool) (v : ℕ) → variable_of (cond p (plus v) (minus v)) ≡ v
+sign_size true v = refl
+sign_size false v = minus_size v
+
 pub neg_size : (l : ℤ) → variable_of (neg_ℤ l) ≡ variable_of l
 neg_size (pos zero) = refl
 neg_size (pos (suc v)) = refl
@@ -31,11 +36,7 @@ pub record Named (n m : ℕ) (current : ℕ → ℕ) : Type 0 where
 
 module _ (n m : ℕ) (current : ℕ → ℕ) (named : Named n m current) where
   literal_size : (c : Control) → variable_of (literal_of current c) ≡ current c.line
-  literal_size c = by c.positive (current c.line)
-    where
-      by : (p : Bool) (v : ℕ) → variable_of (cond p (plus v) (minus v)) ≡ v
-      by true v = refl
-      by false v = minus_size v
+  literal_size c = sign_size c.positive (current c.line)
 
   literals_within : (cs : List Control) → Inside n cs → LiteralsWithin m (map (literal_of current) cs)
   literals_within =
@@ -75,7 +76,7 @@ moved_named n m used current g h named =
           (λ e. subst (λ (x : ℕ). x ≤ m) (sym (cond-false _ (used_by used g) (current k) e)) (named.high k l));
     }
 
-gates_within : (n m used : ℕ) (current : ℕ → ℕ) (gs : List Gate) → n ≤ max_lines → all_valid n gs ≡ true → used_after used gs ≤ m → Named n m current
+pub gates_within : (n m used : ℕ) (current : ℕ → ℕ) (gs : List Gate) → n ≤ max_lines → all_valid n gs ≡ true → used_after used gs ≤ m → Named n m current
     → ClausesWithin m (gates_clauses used current gs)
 unfolding gates_clauses used_after
 gates_within n m used current [] few v h named = tt
@@ -97,7 +98,7 @@ difference_within : (m d a b : ℕ) (hit : Bool) → suc d ≤ m → 1 ≤ a →
 difference_within m d a b true h a₁ a₂ b₁ b₂ = ((omega arith, h), ((a₁, a₂), ((b₁, b₂), tt)))
 difference_within m d a b false h a₁ a₂ b₁ b₂ = ((omega arith, h), tt)
 
-differences_within : (n m : ℕ) (hit : ℕ → Bool) (left right : ℕ → ℕ) → Named n m left → Named n m right
+pub differences_within : (n m : ℕ) (hit : ℕ → Bool) (left right : ℕ → ℕ) → Named n m left → Named n m right
     → (used : ℕ) (ks : List ℕ) → used + length ks ≤ m → Below n ks → ClausesWithin m (difference_clauses hit left right used ks)
 unfolding difference_clauses
 differences_within n m hit left right a b used [] h w = tt
@@ -106,7 +107,7 @@ differences_within n m hit left right a b used (k ∷ ks) h w = (
   differences_within n m hit left right a b (suc used) ks (omega arith) w.1,
 )
 
-last_within : (m i k : ℕ) → 1 ≤ i → i + k ≤ suc m → LiteralsWithin m (map plus (up_from i k))
+pub last_within : (m i k : ℕ) → 1 ≤ i → i + k ≤ suc m → LiteralsWithin m (map plus (up_from i k))
 unfolding up_from
 last_within m i zero one h = tt
 last_within m i (suc k) one h = ((one, omega arith), last_within m (suc i) k (omega arith) (omega arith))
