@@ -11,5 +11,6 @@ pub mod emitter
 pub mod faults
 pub mod miter
 pub mod pair
+pub mod pair_emission
 pub mod reduce
 pub mod step

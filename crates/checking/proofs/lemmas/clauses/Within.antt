@@ -11,14 +11,9 @@ use Rattle.checking.specs.Satisfaction.{variable_of, LiteralWithin, LiteralsWith
 use Rattle.checking.proofs.lemmas.clauses.Gates.{new_named}
 use Rattle.checking.proofs.lemmas.clauses.Forced.{Below, below_up_from, used_more, length_up_from}
 
-minus_size : (v : ℕ) → variable_of (minus v) ≡ v
+pub minus_size : (v : ℕ) → variable_of (minus v) ≡ v
 minus_size zero = refl
 minus_size (suc v) = refl
-
--- a literal is one of its variable
-pub sign_size : (p : Bool) (v : ℕ) → variable_of (cond p (plus v) (minus v)) ≡ v
-sign_size true v = refl
-sign_size false v = minus_size v
 
 pub neg_size : (l : ℤ) → variable_of (neg_ℤ l) ≡ variable_of l
 neg_size (pos zero) = refl
@@ -36,7 +31,11 @@ pub record Named (n m : ℕ) (current : ℕ → ℕ) : Type 0 where
 
 module _ (n m : ℕ) (current : ℕ → ℕ) (named : Named n m current) where
   literal_size : (c : Control) → variable_of (literal_of current c) ≡ current c.line
-  literal_size c = sign_size c.positive (current c.line)
+  literal_size c = by c.positive (current c.line)
+    where
+      by : (p : Bool) (v : ℕ) → variable_of (cond p (plus v) (minus v)) ≡ v
+      by true v = refl
+      by false v = minus_size v
 
   literals_within : (cs : List Control) → Inside n cs → LiteralsWithin m (map (literal_of current) cs)
   literals_within =

@@ -14,6 +14,7 @@ use Rattle.checking.specs.Pair.{constant_clause, constant_clauses, without_junk,
 use Rattle.checking.proofs.lemmas.clauses.Tests.{holds_or}
 use Rattle.checking.proofs.lemmas.clauses.Gates.{literal_value}
 use Rattle.checking.proofs.lemmas.clauses.Forced.{Below, all_up_from, up_from_all, spelled_below, spelled_line}
+use Rattle.checking.proofs.lemmas.pair_emission.Fits.{lines_below}
 
 -- ---- a property of all lines that count is one of each
 
@@ -40,9 +41,6 @@ module _ (P : ℕ → Type 0) (h : Header) where
 
   pub counted_all : All P (counted_lines h) → (k : ℕ) → LineCounts h k → P k
   counted_all a k c = up_from_all _ 0 h.lines (kept_all P h.junk (up_from 0 h.lines) a) k (omega arith) (omega (arith, c.below)) c.kept
-
-pub counted_below : (h : Header) → Below h.lines (counted_lines h)
-counted_below h = all_counted (λ (k : ℕ). k < h.lines) h (λ k c. c.below)
 
 -- ---- the constants' clauses hold exactly where the input honours the constants
 
@@ -75,7 +73,7 @@ module _ (h : Header) (σ : List Bool) where
   pub permitted_law : marks_good h ≡ true → (satisfies σ (constant_clauses h) ≡ true) ↔ Permitted h x
   permitted_law good =
       let m = marks_lines h good in
-      let law = constants_law (lines_in h.constants h.lines) (all_lines (λ (k : ℕ). k < h.lines) h.constants h.lines (λ k l e. l)) in (
+      let law = constants_law (lines_in h.constants h.lines) (lines_below h.constants h.lines h.lines (omega arith)) in (
         (λ e.
             record {
               state = spelled_below h.lines σ;

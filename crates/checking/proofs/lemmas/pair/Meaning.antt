@@ -25,7 +25,8 @@ use Rattle.checking.proofs.lemmas.clauses.Gates.{agree, after_reads, untouched}
 use Rattle.checking.proofs.lemmas.clauses.Forced.{reads_inputs, lines_law, gates_then, some_of, some_line, none_lines, length_gates, used_more, Forces}
 use Rattle.checking.proofs.lemmas.clauses.Within.{Named, sign_size, inputs_named, after_named, gates_within, differences_within, last_within}
 use Rattle.checking.proofs.lemmas.clauses.Meaning.{only_one, no_other, unsatisfied, list_tells, tells_same}
-use Rattle.checking.proofs.lemmas.pair.Lines.{all_counted, counted_all, counted_below, permitted_law}
+use Rattle.checking.proofs.lemmas.pair.Lines.{all_counted, counted_all, permitted_law}
+use Rattle.checking.proofs.lemmas.pair_emission.Fits.{side_within, counted_below}
 
 -- ---- side by side
 
@@ -92,24 +93,6 @@ module _ (h : Header) (a b : List Gate) (good : marks_good h ≡ true) (few : h.
             );
       }
 
-  side_within : ClausesWithin total (side_by_side h a b)
-  unfolding side_by_side
-  side_within =
-      let n = h.lines in
-      let low = used_more n a in
-      let high = used_more (used_after n a) b in
-      let inputs : Named n total input_of = inputs_named n total (omega arith) in
-      all_append _ (constant_clauses h) _
-      (all_map (λ (k : ℕ). k < n) (λ (c : Clause). LiteralsWithin total (clause_literals c)) (constant_clause h)
-      (λ k l. ((omega (arith, sign_size (bit h.values k) (input_of k)), omega (arith, sign_size (bit h.values k) (input_of k))), tt))
-      (lines_in h.constants n) (all_lines (λ (k : ℕ). k < n) h.constants n (λ k l e. l)))
-      (all_append _ (gates_clauses n input_of a) _ (gates_within n total n input_of a few va (omega arith) inputs)
-      (all_append _ (gates_clauses (used_after n a) input_of b) _ (gates_within n total (used_after n a) input_of b few vb (omega arith) inputs)
-      (all_append _ (difference_clauses (either_targets a b) left right (used_after_both h a b) (counted_lines h)) _
-      (differences_within n total (either_targets a b) left right (after_named n total n input_of a (omega arith) inputs) (after_named n total (used_after n a) input_of b (omega arith) inputs)
-      (used_after_both h a b) (counted_lines h) (omega arith) (counted_below h))
-      (last_within total (suc (used_after_both h a b)) (length (counted_lines h)) (omega arith) (omega arith), tt))))
-
   pub side_tells : TellsFor h total (side_by_side h a b) a b
   side_tells =
       let u = unsatisfied h.lines _ _ _ (DiffersFor h a b) side_forces in
@@ -118,7 +101,7 @@ module _ (h : Header) (a b : List Gate) (good : marks_good h ≡ true) (few : h.
         equal = ((λ same. u.0 (λ x l d. e.0 same x d)), (λ unsat. e.1 (λ x d. u.1 unsat x d.permitted.state d)));
         differing = λ x d. only_one h.lines _ _ _ (DiffersFor h a b) side_forces x d.permitted.state d;
         no_other = no_other h.lines _ _ _ (DiffersFor h a b) side_forces;
-        within = side_within;
+        within = side_within h a b few va vb;
       }
 
 -- ---- without marks
