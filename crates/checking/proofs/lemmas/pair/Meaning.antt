@@ -1,11 +1,9 @@
 -- The clause list of two cascades with the same header tells on which permitted states a line that counts comes out differently. Assumes nothing.
-use Rattle.std.proofs.Common.{◌≡◌, ℕ, suc, ◌+◌, ◌<◌, ◌≤◌, Bool, true, ◌&&◌, List, [], ◌++◌, length, sym, ap, ◌∙◌, subst, subst₂, arith, length-append}
+use Rattle.std.proofs.Common.{◌≡◌, ℕ, ◌+◌, ◌≤◌, Bool, true, ◌&&◌, List, [], ◌++◌, length, sym, ap, ◌∙◌, subst, subst₂, arith, length-append}
 use mathlib.Core.Bool.{xor}
 use lib.ListN.{length-map}
-use Rattle.bits.specs.Digits.{bit, lines_in}
+use Rattle.bits.specs.Digits.{bit}
 use Rattle.bits.proofs.Bools.{and_parts, both, either, or_none, cond-true, cond-false}
-use Rattle.bits.proofs.Digits.{all_lines}
-use Rattle.bits.proofs.Lists.{all_append, all_map}
 use Rattle.circuit.specs.declared.gate.Gate.{Gate}
 use Rattle.circuit.specs.declared.header.Header.{Header}
 use Rattle.circuit.specs.Gate.{max_lines}
@@ -14,16 +12,15 @@ use Rattle.circuit.specs.Words.{all_valid}
 use Rattle.circuit.specs.Run.{run, DiffersFor}
 use Rattle.circuit.proofs.Promises.{valid_append, inverse_valid, run_none, equal_differs_for, unmarked_header, unmarked_equal, unmarked_differs}
 use Rattle.checking.specs.Miter.{miter_gates}
-use Rattle.checking.specs.Clauses.{Clause, input_of, gates_clauses, used_after, current_after, difference_clauses, clauses_of, variables_of}
-use Rattle.checking.specs.Satisfaction.{satisfies, spelled, LiteralsWithin, clause_literals, ClausesWithin, Tells}
+use Rattle.checking.specs.Clauses.{Clause, input_of, used_after, current_after, clauses_of, variables_of}
+use Rattle.checking.specs.Satisfaction.{satisfies, spelled, Tells}
 use Rattle.checking.specs.Forced.{gates_values, differences}
-use Rattle.checking.specs.Pair.{constant_clause, constant_clauses, counted_lines, either_targets, used_after_both, side_by_side, pair_clauses, pair_variables}
+use Rattle.checking.specs.Pair.{constant_clauses, counted_lines, either_targets, used_after_both, side_by_side, pair_clauses, pair_variables}
 use Rattle.checking.specs.PairTold.{TellsFor}
 use Rattle.checking.proofs.lemmas.miter.Laws.{agree_identity, identity_agree}
 use Rattle.checking.proofs.lemmas.clauses.Tests.{satisfies_append}
 use Rattle.checking.proofs.lemmas.clauses.Gates.{agree, after_reads, untouched}
-use Rattle.checking.proofs.lemmas.clauses.Forced.{reads_inputs, lines_law, gates_then, some_of, some_line, none_lines, length_gates, used_more, Forces}
-use Rattle.checking.proofs.lemmas.clauses.Within.{Named, sign_size, inputs_named, after_named, gates_within, differences_within, last_within}
+use Rattle.checking.proofs.lemmas.clauses.Forced.{reads_inputs, lines_law, gates_then, some_of, some_line, none_lines, length_gates, Forces}
 use Rattle.checking.proofs.lemmas.clauses.Meaning.{only_one, no_other, unsatisfied, list_tells, tells_same}
 use Rattle.checking.proofs.lemmas.pair.Lines.{all_counted, counted_all, permitted_law}
 use Rattle.checking.proofs.lemmas.pair_emission.Fits.{side_within, counted_below}
