@@ -61,6 +61,17 @@ started_from_outputs = where_marked (λ h a b. side_with (constant_clauses h) (c
 abbrev pub one_for_all : List Clause → Header → List Gate → List Gate → List Clause
 one_for_all cs = where_marked (λ h a b. cs)
 
+-- what does not look at the values of the constants; and, where there are constants, not at which lines are junk
+abbrev pub ValuesUnread : {A : Type 0} → (Header → List Gate → List Gate → A) → Type 0
+ValuesUnread of =
+    (n constants values others junk : ℕ) (a b : List Gate)
+    → of (record { lines = n; constants = constants; values = values; junk = junk }) a b ≡ of (record { lines = n; constants = constants; values = others; junk = junk }) a b
+
+abbrev pub JunkUnread : {A : Type 0} → (Header → List Gate → List Gate → A) → Type 0
+JunkUnread of =
+    (n constants values junk others : ℕ) (a b : List Gate) → 1 ≤ constants
+    → of (record { lines = n; constants = constants; values = values; junk = junk }) a b ≡ of (record { lines = n; constants = constants; values = values; junk = others }) a b
+
 pub record PairLaws : Type 0 where
   -- our list tells of any two cascades with the same header
   pub list_tells : (h : Header) (a b : List Gate) → marks_good h ≡ true → h.lines ≤ max_lines → all_valid h.lines a ≡ true → all_valid h.lines b ≡ true
@@ -88,6 +99,11 @@ pub record PairLaws : Type 0 where
   pub constants_left_out_refuted : PairEqualityOfList pair_variables constants_left_out → ⊥
   pub junk_counted_refuted : PairEqualityOfList junk_counted_variables junk_counted → ⊥
   pub started_from_outputs_refuted : PairEqualityOfList pair_variables started_from_outputs → ⊥
+  -- any list that does not look at the values of the constants, or not at which lines are junk
+  pub values_unread_refuted : (variables : Header → List Gate → List Gate → ℕ) (clauses : Header → List Gate → List Gate → List Clause)
+      → ValuesUnread variables → ValuesUnread clauses → PairEqualityOfList variables clauses → ⊥
+  pub junk_unread_refuted : (variables : Header → List Gate → List Gate → ℕ) (clauses : Header → List Gate → List Gate → List Clause)
+      → JunkUnread variables → JunkUnread clauses → PairEqualityOfList variables clauses → ⊥
   -- one fixed contradiction, over any variables
   pub contradiction_refuted : (variables : Header → List Gate → List Gate → ℕ) (cs : List Clause) → ((σ : List Bool) → satisfies σ cs ≡ false)
       → PairEqualityOfList variables (one_for_all cs) → ⊥
