@@ -1,4 +1,4 @@
--- The laws of the sizes and the emission of a pair: `Sums` its sizes, `Fits` its literals and words, `Answers` what the calls answer.
+-- The laws of the sizes and the emission of a pair: `Sums` its sizes, `Fits` its literals and words, `Outcomes` what the code answers.
 pub mod Sums
 pub mod Fits
-pub mod Answers
+pub mod Outcomes

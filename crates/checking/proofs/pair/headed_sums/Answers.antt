@@ -2,7 +2,7 @@
 use Rattle.std.proofs.Common.{sym, ◌∙◌, arith}
 use Rattle.std.proofs.lemmas.Result.{err_from_is_err_and}
 use Rattle.circuit.proofs.Promises.{size_served}
-use Rattle.checking.proofs.lemmas.pair_emission.Answers.{sums_lines, sums_marks, sums_size, sums_gates}
+use Rattle.checking.proofs.lemmas.pair_emission.Outcomes.{sums_lines, sums_marks, sums_size, sums_gates}
 use Rattle.checking.proofs.pair.headed_sums.Goals as goal
 
 pub returns-then-not-line_count_good : goal.returns-then-not-line_count_good

@@ -2,7 +2,7 @@
 use Rattle.std.proofs.Common.{sym, ap, ◌∙◌}
 use Rattle.std.proofs.lemmas.Result.{err_from_is_err_and}
 use Rattle.circuit.specs.Outcome.{served}
-use Rattle.checking.proofs.lemmas.pair_emission.Answers.{sizes_first, sizes_second, sizes_lines, sizes_marks, pair_small, sizes_made}
+use Rattle.checking.proofs.lemmas.pair_emission.Outcomes.{sizes_first, sizes_second, sizes_lines, sizes_marks, pair_small, sizes_made}
 use Rattle.checking.proofs.pair.sizes.Goals as goal
 
 pub returns-in_err-first : goal.returns-in_err-first

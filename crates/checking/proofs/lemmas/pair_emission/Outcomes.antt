@@ -1,4 +1,4 @@
--- What the sizes and the emission of a pair answer, and what the emission leaves. Assumes nothing.
+-- What the parts of the sizes answer for caller's headers and words. Assumes nothing.
 use Rattle.std.proofs.Common.{◌≡◌, ℕ, ◌≤◌, true, false, List, length, ap, ◌∙◌, subst, ap₂, arith}
 use Rattle.bits.proofs.Bools.{refuted}
 use Rattle.circuit.specs.declared.header.Header.{Header}
