@@ -1,0 +1,5 @@
+-- The laws of the clause list of two cascades with the same header: `Lines` its constants and the lines that count, `Meaning` what it tells, `Alone` steps and reductions on each of the two, and `Equality` the theorem.
+pub mod Lines
+pub mod Meaning
+pub mod Alone
+pub mod Equality
