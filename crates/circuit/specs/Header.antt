@@ -1,5 +1,5 @@
 -- The header of a cascade: its line count, and its marks, by document 02. The input of a constant line is fixed, and the output of a junk line is ignored.
-use Rattle.std.specs.Prelude.{◌≡◌, ℕ, ◌+◌, ◌^◌, ◌<◌, Bool, true, false, not, ◌&&◌, ◌==◌, bit_and, bit_or, count_ones, nat_lt}
+use Rattle.std.specs.Prelude.{◌≡◌, ℕ, ◌^◌, ◌<◌, Bool, true, false, not, ◌&&◌, ◌==◌, bit_and, bit_or, nat_lt}
 use Rattle.bits.specs.Digits.{bit}
 use Rattle.circuit.specs.declared.header.Header.{Header}
 

@@ -112,9 +112,9 @@ pub record Headed (h : Header) (ws : List ℕ) (limit k : ℕ) : Type 0 where
 
 -- what is wrong with a caller's header and words
 pub data HeadedRefused (h : Header) (ws : List ℕ) (limit : ℕ) : ℕ → ℕ → Type 0 where
-  lines : (1 ≤ h.lines → h.lines ≤ max_lines → ⊥) → HeadedRefused h ws limit bad_line_count 0
-  marks : 1 ≤ h.lines → h.lines ≤ max_lines → (MarksByLines h → ⊥) → HeadedRefused h ws limit bad_mark 0
-  words : MarksByLines h → (number place : ℕ) → 1 ≤ h.lines → h.lines ≤ max_lines → WordsRefused h.lines ws limit number place → HeadedRefused h ws limit number place
+  bad_lines : (1 ≤ h.lines → h.lines ≤ max_lines → ⊥) → HeadedRefused h ws limit bad_line_count 0
+  bad_marks : 1 ≤ h.lines → h.lines ≤ max_lines → (MarksByLines h → ⊥) → HeadedRefused h ws limit bad_mark 0
+  bad_words : MarksByLines h → (number place : ℕ) → 1 ≤ h.lines → h.lines ≤ max_lines → WordsRefused h.lines ws limit number place → HeadedRefused h ws limit number place
 
 -- 2, 14, 11, 6, 7 for the first cascade, the same for the second, 8, 15
 unfoldable pub headed_pair_outcome : Header → List ℕ → Header → List ℕ → Outcome Counts
@@ -132,8 +132,8 @@ pub record HeadedPair (ha : Header) (a : List ℕ) (hb : Header) (b : List ℕ) 
 
 -- what two good cascades may not differ in
 pub data HeadersDiffer (ha hb : Header) : ℕ → ℕ → Type 0 where
-  lines : (ha.lines ≢ hb.lines) → HeadersDiffer ha hb line_counts_differ 0
-  marks : ha.lines ≡ hb.lines → (ha ≢ hb) → HeadersDiffer ha hb marks_differ 0
+  other_lines : (ha.lines ≢ hb.lines) → HeadersDiffer ha hb line_counts_differ 0
+  other_marks : ha.lines ≡ hb.lines → (ha ≢ hb) → HeadersDiffer ha hb marks_differ 0
 
 -- what is wrong with two cascades: with the first, with the second where the first is good, or 8, or 15, where both are
 abbrev pub HeadedPairRefused : Header → List ℕ → Header → List ℕ → ℕ → ℕ → Type 0

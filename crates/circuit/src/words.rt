@@ -139,13 +139,15 @@ pub fn check_headed(h: Header, words: &[u64], limit: usize) -> Result<usize, Ref
 pub fn check_headed_pair(ha: Header, a: &[u64], hb: Header, b: &[u64]) -> Result<Counts, Refusal>
     ensures { outcome_of result ≡ headed_pair_outcome ha a.now hb b.now }
 {
-    let first = check_headed(ha, a, Gate::MAX_GATES)?;
-    let second = check_headed(hb, b, Gate::MAX_GATES)?;
+    let counts = Counts {
+        first: check_headed(ha, a, Gate::MAX_GATES)?,
+        second: check_headed(hb, b, Gate::MAX_GATES)?,
+    };
     if ha.lines != hb.lines {
         return Err(Refusal::LineCountsDiffer);
     }
     if !ha.same_marks(hb) {
         return Err(Refusal::MarksDiffer);
     }
-    Ok(Counts { first, second })
+    Ok(counts)
 }
