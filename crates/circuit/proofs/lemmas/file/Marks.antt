@@ -1,6 +1,6 @@
 -- The mark lines of a header. Assumes nothing.
-use Rattle.std.proofs.Common.{◌≡◌, ℕ, ◌+◌, ◌*◌, ◌^◌, ◌≤◌, true, ap, arith, ones-le}
-use lib.Count.{ones}
+use Rattle.std.proofs.Common.{◌≡◌, ℕ, ◌*◌, ◌≤◌, true, arith}
+use Rattle.std.proofs.lemmas.Nat.{ones-le}
 use Rattle.bits.proofs.Single.{ones_zero}
 use Rattle.circuit.specs.declared.header.Header.{Header}
 use Rattle.circuit.specs.Header.{unmarked, marks_good}
