@@ -26,20 +26,20 @@ pair_gates ha a hb b c e =
 -- ---- whether two cascades agree on a state
 
 -- the gates of two cascades with this header
-pub record Gates (h : Header) (a b : List Gate) : Type 0 where
+pub record HeadedGates (h : Header) (a b : List Gate) : Type 0 where
   pub marks : marks_good h ≡ true
   pub first : all_valid h.lines a ≡ true
   pub second : all_valid h.lines b ≡ true
 
-pub gates_good : (ha : Header) (a : List ℕ) (hb : Header) (b : List ℕ) (c : Counts) → HeadedPair ha a hb b c → Gates ha (gates_of a) (gates_of b)
-gates_good ha a hb b c p =
+pub headed_gates : (ha : Header) (a : List ℕ) (hb : Header) (b : List ℕ) (c : Counts) → HeadedPair ha a hb b c → HeadedGates ha (gates_of a) (gates_of b)
+headed_gates ha a hb b c p =
     record {
       marks = p.first_good.marks;
       first = p.first_good.cascade.gates;
       second = subst (λ (h : Header). all_valid h.lines (gates_of b) ≡ true) (sym p.header) p.second_good.cascade.gates;
     }
 
-module _ (h : Header) (a b : List Gate) (good : Gates h a b) (x : ℕ) (allowed : Permitted h x) where
+module _ (h : Header) (a b : List Gate) (good : HeadedGates h a b) (x : ℕ) (allowed : Permitted h x) where
   pub agree_state : (outputs_differ h a b x ≡ false) ↔ Agree h a b x
   agree_state =
       let lines = agrees_alike h a b good.first good.second x allowed in
@@ -101,7 +101,7 @@ module _ (h : Header) (a b : List Gate) where
       (λ e. subst (Found x (suc k)) (sym (cond-true _ _ _ e)) (omega arith, omega arith, e, (λ y l h. absurd (omega arith))))
       (λ e. subst (Found x (suc k)) (sym (cond-false _ _ _ e)) (later x k e (lowest_from h a b (x + 1) k) (found (x + 1) k)))
 
-  module _ (good : Gates h a b) where
+  module _ (good : HeadedGates h a b) where
     -- a state that was passed is not permitted, or the two agree on it
     passed : (y : ℕ) → differs_on y ≡ false → Permitted h y → Agree h a b y
     passed y e p = (agree_state h a b good y p).0 (sym (ap (λ (t : Bool). t && outputs_differ h a b y) (lines_permit h y good.marks p)) ∙ e)

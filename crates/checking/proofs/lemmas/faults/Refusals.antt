@@ -12,7 +12,7 @@ use Rattle.circuit.proofs.Promises.{never, unserved, demand_met, demand_failed, 
 use Rattle.checking.specs.Compare.{outputs_differ, Agree, max_sweep_lines, difference_outcome, differs_outcome, pick_outcome}
 use Rattle.checking.specs.Faults.{gate_masks, each_from, fault_check, fault_outcome}
 use Rattle.checking.specs.RefusalLaws.{SweepRefused, DiffersRefused, Every, First, AtFirst, at_first, StatesRefused, StatesGood, MasksRefused, RefusalLaws}
-use Rattle.checking.proofs.lemmas.compare.Laws.{Gates, gates_good, agree_state, differ_state}
+use Rattle.checking.proofs.lemmas.compare.Laws.{HeadedGates, headed_gates, agree_state, differ_state}
 use Rattle.checking.proofs.lemmas.faults.Loops.{fault_good, fault_made}
 
 -- ---- the tests of the states
@@ -118,8 +118,8 @@ module _ (ha : Header) (a : List ℕ) (hb : Header) (b : List ℕ) where
     differing = outputs_differ ha (gates_of a) (gates_of b)
 
     module _ (c : Counts) (pair : HeadedPair ha a hb b c) where
-      good : Gates ha (gates_of a) (gates_of b)
-      good = gates_good ha a hb b c pair
+      good : HeadedGates ha (gates_of a) (gates_of b)
+      good = headed_gates ha a hb b c pair
 
       all_allowed : (k : ℕ) → (each_from (permits ha) bad_state 0 xs ≡ served k) ↔ ((k ≡ length xs) × Every (Permitted ha) xs)
       all_allowed = each_good (permits ha) bad_state (λ x. Unit {0}) _ (λ x. Permitted ha x → ⊥) (λ x u. permits_exactly ha x good.marks) (λ x u. not_permitted ha x good.marks) xs (λ j h. tt)
