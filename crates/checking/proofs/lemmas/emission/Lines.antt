@@ -10,7 +10,7 @@ use Rattle.checking.specs.Stored.{stored}
 use Rattle.checking.specs.private.Emitter.{by_line}
 use Rattle.checking.specs.private.Emission.{line_stored, lines_stored, last_stored, LineReady, LinesReady}
 use Rattle.checking.proofs.lemmas.clauses.Forced.{length_up_from}
-use Rattle.checking.proofs.lemmas.clauses.Loop.{up_from_more}
+use Rattle.checking.proofs.lemmas.clauses.Totals.{up_from_more}
 use Rattle.checking.proofs.lemmas.emitter.Parts.{lent_long}
 
 -- ---- the clauses of the d
