@@ -61,16 +61,16 @@ started_from_outputs = where_marked (λ h a b. side_with (constant_clauses h) (c
 abbrev pub one_for_all : List Clause → Header → List Gate → List Gate → List Clause
 one_for_all cs = where_marked (λ h a b. cs)
 
--- what does not look at the values of the constants; and, where there are constants, not at which lines are junk
+-- what does not look at the values of the constants; and, of pairs with marks, not at which lines are junk
 abbrev pub ValuesUnread : {A : Type 0} → (Header → List Gate → List Gate → A) → Type 0
 ValuesUnread of =
-    (n constants values others junk : ℕ) (a b : List Gate)
-    → of (record { lines = n; constants = constants; values = values; junk = junk }) a b ≡ of (record { lines = n; constants = constants; values = others; junk = junk }) a b
+    (h k : Header) (a b : List Gate) → marks_good h ≡ true → marks_good k ≡ true → h.lines ≡ k.lines → h.constants ≡ k.constants → h.junk ≡ k.junk
+    → of h a b ≡ of k a b
 
 abbrev pub JunkUnread : {A : Type 0} → (Header → List Gate → List Gate → A) → Type 0
 JunkUnread of =
-    (n constants values junk others : ℕ) (a b : List Gate) → 1 ≤ constants
-    → of (record { lines = n; constants = constants; values = values; junk = junk }) a b ≡ of (record { lines = n; constants = constants; values = values; junk = others }) a b
+    (h k : Header) (a b : List Gate) → marks_good h ≡ true → marks_good k ≡ true → marked h ≡ true → marked k ≡ true
+    → h.lines ≡ k.lines → h.constants ≡ k.constants → h.values ≡ k.values → of h a b ≡ of k a b
 
 pub record PairLaws : Type 0 where
   -- our list tells of any two cascades with the same header

@@ -1,5 +1,5 @@
 -- The theorem for pairs: of our emission, of an emitter of any list, and after calls on each cascade alone. Assumes nothing.
-use Rattle.std.proofs.Common.{◌≡◌, ℕ, ◌+◌, ◌≤◌, true, leb, List, length, replicate, ℤ, pos, sym, refl, ap, ◌∙◌, subst, subst₂, arith, le-leb, leb-true}
+use Rattle.std.proofs.Common.{◌≡◌, ℕ, ◌+◌, ◌≤◌, true, leb, List, length, replicate, ℤ, pos, sym, refl, ◌∙◌, subst, subst₂, arith, le-leb, leb-true}
 use lib.ListN.{length-replicate}
 use Rattle.circuit.specs.declared.gate.Gate.{Gate}
 use Rattle.circuit.specs.declared.header.Header.{Header}
@@ -8,7 +8,7 @@ use Rattle.circuit.specs.Header.{marks_good}
 use Rattle.circuit.specs.Outcome.{Outcome, served, demand}
 use Rattle.circuit.specs.Refusal.{no_room}
 use Rattle.circuit.specs.Words.{gates_of, words_of, all_valid, Headed, headed_pair_outcome}
-use Rattle.circuit.proofs.Promises.{demanded, then_both, demand_met, then_served, gates_words, words_cascade, written_served, headed_pair_served, served_headed_pair}
+use Rattle.circuit.proofs.Promises.{demanded, then_both, demand_met, gates_words, words_cascade, headed_pair_served}
 use Rattle.checking.specs.declared.clauses.Totals.{Totals}
 use Rattle.checking.specs.Clauses.{Clause}
 use Rattle.checking.specs.Stored.{stored}
@@ -21,7 +21,7 @@ use Rattle.checking.proofs.lemmas.Listed.{served_same, Listed, are_read, only_re
 use Rattle.checking.proofs.lemmas.clauses.Sums.{sizes_in}
 use Rattle.checking.proofs.lemmas.pair.Meaning.{pair_tells}
 use Rattle.checking.proofs.lemmas.pair.Alone.{steps_alone}
-use Rattle.checking.proofs.lemmas.pair_emission.Sums.{pair_sizes_list}
+use Rattle.checking.proofs.lemmas.pair_emission.Answers.{pair_emit_good, pair_emit_leaves}
 
 -- an answer and a buffer that are those of the clause list of two cascades with the header h
 abbrev PairListed : Header → List ℕ → List ℕ → List ℤ → Outcome Totals → List ℤ → Type 0
@@ -49,17 +49,12 @@ module _ (h : Header) (a b : List ℕ) (i j : ℕ) (c : Headed h a max_gates i) 
 
   -- as those of our emission are
   pair_emitted : (room : ℕ) → pair_emit_outcome h a h b room ≡ demand (leb (length (stored cs)) room) no_room 0 (served sizes)
-  unfolding pair_emit_outcome pair_sizes_outcome
-  pair_emitted room =
-      then_served _ _ sizes
-      (then_served _ _ (record { first = i; second = j }) (served_headed_pair h a h b (record { first = i; second = j }) (record { first_good = c; second_good = d; header = refl }))
-      ∙ ap served (pair_sizes_list h (gates_of a) (gates_of b) c.cascade.lines_high c.cascade.gates d.cascade.gates))
+  pair_emitted = pair_emit_good h a h b (record { first = i; second = j }) (record { first_good = c; second_good = d; header = refl })
 
   emission_listed : (out : List ℤ) → length (stored cs) ≤ length out → PairListed h a b out (pair_emit_outcome h a h b (length out)) (pair_emit_buffer h a h b out)
-  unfolding pair_emit_buffer
   emission_listed out room =
       let e : pair_emit_outcome h a h b (length out) ≡ served sizes = pair_emitted (length out) ∙ demand_met _ _ _ _ (le-leb _ (length out) room) in
-      record { counts = e; words = written_served (stored cs) out (pair_emit_outcome h a h b (length out)) sizes e }
+      record { counts = e; words = pair_emit_leaves h a h b out sizes e }
 
   -- where it is served
   served_told : (out : List ℤ) (totals : Totals) → pair_emit_outcome h a h b (length out) ≡ served totals → ToldFor h a b totals (pair_emit_buffer h a h b out)

@@ -139,7 +139,8 @@ pub values_unread_refuted : (variables : Header → List Gate → List Gate → 
 values_unread_refuted variables clauses p q holds =
     on_differs
     (alike_told variables clauses control_off control_on controlled control_off_good control_on_good refl refl controlled_two
-    (p 2 2 0 2 0 (controlled ∷ []) []) (q 2 2 0 2 0 (controlled ∷ []) []) holds off_equal)
+    (p control_off control_on (controlled ∷ []) [] control_off_good control_on_good refl refl refl)
+    (q control_off control_on (controlled ∷ []) [] control_off_good control_on_good refl refl refl) holds off_equal)
 
 -- NOT on line 0, which is junk or counts, beside a constant line
 abbrev target_junk : Header
@@ -170,4 +171,5 @@ pub junk_unread_refuted : (variables : Header → List Gate → List Gate → �
 junk_unread_refuted variables clauses p q holds =
     target_counts_differs
     (alike_told variables clauses target_junk target_counts free target_junk_good target_counts_good refl refl free_two
-    (p 2 2 0 1 2 (free ∷ []) [] (omega arith)) (q 2 2 0 1 2 (free ∷ []) [] (omega arith)) holds target_junk_equal)
+    (p target_junk target_counts (free ∷ []) [] target_junk_good target_counts_good refl refl refl refl refl)
+    (q target_junk target_counts (free ∷ []) [] target_junk_good target_counts_good refl refl refl refl refl) holds target_junk_equal)
