@@ -1,12 +1,13 @@
 -- What is proved of the refusals of the sweep, the input check, the pick and the faults: the number and the place, in the words of documents 01 and 02.
-use Rattle.std.specs.Prelude.{◌≡◌, ℕ, ◌*◌, ◌<◌, ◌≤◌, ◌↔◌, List, length, slice_index}
+use Rattle.std.specs.Prelude.{◌≡◌, ℕ, ◌*◌, ◌<◌, ◌≤◌, true, false, ◌↔◌, List, length, slice_index}
 use Rattle.circuit.specs.declared.header.Header.{Header}
 use Rattle.circuit.specs.Header.{Permitted}
 use Rattle.circuit.specs.Outcome.{served, refused, Wrong, Fails}
 use Rattle.circuit.specs.Refusal.{bad_state, no_room, agreeing_state, too_wide}
 use Rattle.circuit.specs.Words.{gates_of, PairRefused, HeadedPair, HeadedPairRefused}
+use Rattle.circuit.specs.declared.words.Counts.{Counts}
 use Rattle.circuit.specs.Run.{DiffersFor}
-use Rattle.checking.specs.Compare.{Agree, max_sweep_lines, difference_outcome, differs_outcome, pick_outcome}
+use Rattle.checking.specs.Compare.{Agree, max_sweep_lines, Difference, difference_outcome, Says, differs_outcome, pick_outcome}
 use Rattle.checking.specs.Faults.{gate_masks, fault_outcome}
 
 -- what is wrong with a sweep: with the pair, or 13 for a good pair on more lines than a sweep has
@@ -48,10 +49,18 @@ pub record StatesGood (ha : Header) (a : List ℕ) (hb : Header) (b states : Lis
 abbrev pub MasksRefused : Header → List ℕ → Header → List ℕ → List ℕ → ℕ → ℕ → ℕ → Type 0
 MasksRefused ha a hb b states room = Wrong (StatesRefused ha a hb b states) (StatesGood ha a hb b states) (λ k. Fails (room < gate_masks * k) no_room 0)
 
--- each call is refused exactly by what is wrong
+-- each call is refused exactly by what is wrong, and served for the rest
 pub record RefusalLaws : Type 0 where
   pub sweep_refused : (ha : Header) (a : List ℕ) (hb : Header) (b : List ℕ) (number place : ℕ) → (difference_outcome ha a hb b ≡ refused number place) ↔ SweepRefused ha a hb b number place
   pub input_refused : (ha : Header) (a : List ℕ) (hb : Header) (b : List ℕ) (x number place : ℕ) → (differs_outcome ha a hb b x ≡ refused number place) ↔ DiffersRefused ha a hb b x number place
+  -- the sweep is served exactly for a good pair on at most 16 lines, with what it then says
+  pub sweep_served : (ha : Header) (a : List ℕ) (hb : Header) (b : List ℕ) (d : Difference)
+      → (difference_outcome ha a hb b ≡ served d) ↔ ((c : Counts) × (HeadedPair ha a hb b c) × (ha.lines ≤ max_sweep_lines) × (Says ha (gates_of a) (gates_of b) (served d)))
+  -- the input check is served with true exactly for a good pair that differs on the state, and with false exactly for one that agrees on it
+  pub input_differs : (ha : Header) (a : List ℕ) (hb : Header) (b : List ℕ) (x : ℕ)
+      → (differs_outcome ha a hb b x ≡ served true) ↔ ((c : Counts) × (HeadedPair ha a hb b c) × (DiffersFor ha (gates_of a) (gates_of b) x))
+  pub input_agrees : (ha : Header) (a : List ℕ) (hb : Header) (b : List ℕ) (x : ℕ)
+      → (differs_outcome ha a hb b x ≡ served false) ↔ ((c : Counts) × (HeadedPair ha a hb b c) × (Permitted ha x) × (Agree ha (gates_of a) (gates_of b) x))
   pub pick_refused : (na : ℕ) (a : List ℕ) (nb : ℕ) (b : List ℕ) (number place : ℕ) → (pick_outcome na a nb b ≡ refused number place) ↔ PairRefused na a nb b number place
   -- the fault call is served exactly for these
   pub masks_served : (ha : Header) (a : List ℕ) (hb : Header) (b states : List ℕ) (room k : ℕ) → (fault_outcome ha a hb b states room ≡ served k) ↔ ((StatesGood ha a hb b states k) × (gate_masks * k ≤ room))

@@ -101,6 +101,19 @@ module _ (h : Header) (a b : List Gate) where
       (λ e. subst (Found x (suc k)) (sym (cond-true _ _ _ e)) (omega arith, omega arith, e, (λ y l h. absurd (omega arith))))
       (λ e. subst (Found x (suc k)) (sym (cond-false _ _ _ e)) (later x k e (lowest_from h a b (x + 1) k) (found (x + 1) k)))
 
+  -- what a sweep says fixes what it found
+  pub says_only : (d e : Difference) → Says h a b (served d) → Says h a b (served e) → d ≡ e
+  says_only none none p q = refl
+  says_only none (lowest y) p (d, f) = absurd (d.outputs (p y d.permitted d.line d.counts))
+  says_only (lowest x) none (d, f) q = absurd (d.outputs (q x d.permitted d.line d.counts))
+  says_only (lowest x) (lowest y) (d, f) (e, g) =
+      either (ltb x y)
+      (λ t. absurd (d.outputs (g x (ltb-true x y t) d.permitted d.line d.counts)))
+      (λ t.
+      either (ltb y x)
+      (λ u. absurd (e.outputs (f y (ltb-true y x u) e.permitted e.line e.counts)))
+      (λ u. let p = ltb-false x y t in let q = ltb-false y x u in let same : x ≡ y = omega arith in ap lowest same))
+
   module _ (good : HeadedGates h a b) where
     -- a state that was passed is not permitted, or the two agree on it
     passed : (y : ℕ) → differs_on y ≡ false → Permitted h y → Agree h a b y

@@ -1,4 +1,4 @@
--- The refusals of the sweep, the input check, the pick and the fault call: exactly by what is wrong. Assumes nothing.
+-- The refusals of the sweep, the input check, the pick and the fault call: exactly by what is wrong; and for what these are served. Assumes nothing.
 use Rattle.std.proofs.Common.{◌≡◌, ℕ, zero, suc, ◌+◌, ◌*◌, ◌<◌, ◌≤◌, Bool, true, false, leb, ◌↔◌, List, [], ◌∷◌, length, get_or, sym, refl, ap, ◌∙◌, subst, arith, leb-true}
 use Rattle.bits.proofs.Bools.{either}
 use Rattle.circuit.specs.declared.header.Header.{Header}
@@ -8,11 +8,11 @@ use Rattle.circuit.specs.Refusal.{bad_state, agreeing_state, no_room, too_wide}
 use Rattle.circuit.specs.Words.{gates_of, pair_outcome, PairRefused, headed_pair_outcome, HeadedPair}
 use Rattle.circuit.specs.declared.words.Counts.{Counts}
 use Rattle.circuit.specs.Run.{DiffersFor}
-use Rattle.circuit.proofs.Promises.{never, unserved, demand_met, demand_failed, demanded, then_both, same_refusal, wrong_refused, fails_refused, same_refused, above, pair_refused, permits_exactly, not_permitted, headed_pair_served, served_headed_pair, headed_pair_refused, headed_pair_wrong}
-use Rattle.checking.specs.Compare.{outputs_differ, Agree, max_sweep_lines, difference_outcome, differs_outcome, pick_outcome}
+use Rattle.circuit.proofs.Promises.{never, unserved, demand_met, demand_failed, demanded, then_both, same_refusal, wrong_refused, fails_refused, same_refused, above, pair_refused, permits_lines, lines_permit, permits_exactly, not_permitted, headed_pair_served, served_headed_pair, headed_pair_refused, headed_pair_wrong}
+use Rattle.checking.specs.Compare.{outputs_differ, Agree, max_sweep_lines, Difference, difference_outcome, Says, differs_outcome, pick_outcome}
 use Rattle.checking.specs.Faults.{gate_masks, each_from, fault_check, fault_outcome}
 use Rattle.checking.specs.RefusalLaws.{SweepRefused, DiffersRefused, Every, First, AtFirst, at_first, StatesRefused, StatesGood, MasksRefused, RefusalLaws}
-use Rattle.checking.proofs.lemmas.compare.Laws.{HeadedGates, headed_gates, agree_state, differ_state}
+use Rattle.checking.proofs.lemmas.compare.Laws.{HeadedGates, headed_gates, agree_state, differ_state, says_only, sweep_says, difference_made, differs_made}
 use Rattle.checking.proofs.lemmas.faults.Loops.{fault_good, fault_made}
 
 -- ---- the tests of the states
@@ -106,12 +106,53 @@ module _ (ha : Header) (a : List ℕ) (hb : Header) (b : List ℕ) where
   unfolding difference_outcome
   sweep_wrong = headed_pair_wrong ha a hb b (leb ha.lines max_sweep_lines) too_wide 0 _ (max_sweep_lines < ha.lines) (above ha.lines max_sweep_lines)
 
+  sweep_served : (d : Difference)
+      → (difference_outcome ha a hb b ≡ served d) ↔ ((c : Counts) × (HeadedPair ha a hb b c) × (ha.lines ≤ max_sweep_lines) × (Says ha (gates_of a) (gates_of b) (served d)))
+  sweep_served d = (swept, sweeping)
+    where
+      swept : difference_outcome ha a hb b ≡ served d → (c : Counts) × (HeadedPair ha a hb b c) × (ha.lines ≤ max_sweep_lines) × (Says ha (gates_of a) (gates_of b) (served d))
+      swept e =
+          unfold difference_outcome in
+          let (c, p, f) = then_both (headed_pair_outcome ha a hb b) _ d e in
+          let (t, g) = demanded (leb ha.lines max_sweep_lines) too_wide 0 _ d f in
+          let good = headed_pair_served ha a hb b c p in
+          (c, good, leb-true _ _ t, subst (λ (x : Difference). Says ha (gates_of a) (gates_of b) (served x)) (unserved g) (sweep_says ha _ _ (headed_gates ha a hb b c good)))
+
+      sweeping : (c : Counts) × (HeadedPair ha a hb b c) × (ha.lines ≤ max_sweep_lines) × (Says ha (gates_of a) (gates_of b) (served d)) → difference_outcome ha a hb b ≡ served d
+      sweeping (c, good, few, says) =
+          difference_made ha a hb b c (served_headed_pair ha a hb b c good) few
+          ∙ ap served (says_only ha _ _ _ d (sweep_says ha _ _ (headed_gates ha a hb b c good)) says)
+
   -- a state of a good pair is refused exactly where it is not permitted
   input_wrong : (s x y : ℕ) → (differs_outcome ha a hb b s ≡ refused x y) ↔ DiffersRefused ha a hb b s x y
   unfolding differs_outcome
   input_wrong s =
       wrong_refused (headed_pair_outcome ha a hb b) _ _ _ _ (headed_pair_refused ha a hb b) (λ c. (headed_pair_served ha a hb b c, served_headed_pair ha a hb b c))
       (λ c g. fails_refused (permits ha s) bad_state 0 _ (Permitted ha s → ⊥) (not_permitted ha s g.first_good.marks))
+
+  module _ (s : ℕ) where
+    input_told : (t : Bool) → differs_outcome ha a hb b s ≡ served t
+        → (c : Counts) × (HeadedPair ha a hb b c) × (Permitted ha s) × (outputs_differ ha (gates_of a) (gates_of b) s ≡ t)
+    unfolding differs_outcome
+    input_told t e =
+        let (c, p, f) = then_both (headed_pair_outcome ha a hb b) _ t e in
+        let (q, g) = demanded (permits ha s) bad_state 0 _ t f in
+        (c, headed_pair_served ha a hb b c p, permits_lines ha s q, unserved g)
+
+    told_input : (t : Bool) (c : Counts) → HeadedPair ha a hb b c → Permitted ha s → outputs_differ ha (gates_of a) (gates_of b) s ≡ t → differs_outcome ha a hb b s ≡ served t
+    told_input t c g p e = differs_made ha a hb b c (served_headed_pair ha a hb b c g) s t (lines_permit ha s g.first_good.marks p) e
+
+    input_differs : (differs_outcome ha a hb b s ≡ served true) ↔ ((c : Counts) × (HeadedPair ha a hb b c) × (DiffersFor ha (gates_of a) (gates_of b) s))
+    input_differs = (
+      (λ e. let (c, g, p, d) = input_told true e in (c, g, (differ_state ha _ _ (headed_gates ha a hb b c g) s p).0 d)),
+      (λ (c, g, d). told_input true c g d.permitted ((differ_state ha _ _ (headed_gates ha a hb b c g) s d.permitted).1 d)),
+    )
+
+    input_agrees : (differs_outcome ha a hb b s ≡ served false) ↔ ((c : Counts) × (HeadedPair ha a hb b c) × (Permitted ha s) × (Agree ha (gates_of a) (gates_of b) s))
+    input_agrees = (
+      (λ e. let (c, g, p, d) = input_told false e in (c, g, p, (agree_state ha _ _ (headed_gates ha a hb b c g) s p).0 d)),
+      (λ (c, g, p, f). told_input false c g p ((agree_state ha _ _ (headed_gates ha a hb b c g) s p).1 f)),
+    )
 
   module _ (xs : List ℕ) where
     abbrev differing : ℕ → Bool
@@ -188,7 +229,10 @@ pub refusal_laws : RefusalLaws
 refusal_laws =
     record {
       sweep_refused = sweep_wrong;
+      sweep_served = sweep_served;
       input_refused = input_wrong;
+      input_differs = input_differs;
+      input_agrees = input_agrees;
       pick_refused = pick_wrong;
       masks_served = λ ha a hb b xs room k. (masks_made ha a hb b xs room k, (λ (s, h). made_masks ha a hb b xs room k s h));
       masks_refused = masks_wrong;
