@@ -6,6 +6,7 @@ use Rattle.checking.proofs.lemmas.StandIns.{stand_in_laws}
 use Rattle.checking.proofs.lemmas.clauses.Laws.{clause_laws}
 use Rattle.checking.proofs.lemmas.EqualityLaws.{equality_laws}
 use Rattle.checking.proofs.lemmas.clauses.Answers.{emit_laws}
+use Rattle.checking.proofs.lemmas.pair_emission.Laws.{pair_emit_laws}
 use Rattle.checking.proofs.lemmas.Rows.{row_laws}
 use Rattle.checking.proofs.lemmas.faults.Refusals.{refusal_laws}
 use Rattle.checking.proofs.lemmas.faults.StandIns.{fault_laws}
@@ -21,6 +22,7 @@ returns c =
       clauses = clause_laws;
       equality = equality_laws;
       emission = emit_laws;
+      pair_emission = pair_emit_laws;
       rows = row_laws;
       refusals = refusal_laws;
       faults = fault_laws;
