@@ -6,6 +6,7 @@ ghost use Rattle.checking.specs.Sizes.{sizes_outcome};
 ghost use Rattle.checking.specs.Emit.{emit_outcome, emit_buffer};
 
 use circuit::gate::Gate;
+use circuit::header::Header;
 use circuit::refusal::Refusal;
 
 // A word of a clause list: a kind, a count or a literal. Its width is `word_width` (Stored).
@@ -49,6 +50,6 @@ pub fn emit(n: u64, words: &[u64], out: &mut [ClauseWord]) -> Result<Totals, Ref
     if (out.len() as u64) < totals.words {
         return Err(Refusal::NoRoom);
     }
-    crate::emission::put_list(n, words, out);
+    crate::emission::put_list(Header::unmarked(n), words, &[], out);
     Ok(totals)
 }

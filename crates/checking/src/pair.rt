@@ -5,9 +5,10 @@ ghost use Rattle.circuit.specs.Gate.{max_gates};
 ghost use Rattle.circuit.specs.Outcome.{outcome_of, served, and_then};
 ghost use Rattle.circuit.specs.Words.{gates_of, headed_outcome};
 ghost use Rattle.checking.specs.Pair.{pair_sizes_outcome};
+ghost use Rattle.checking.specs.PairEmit.{PairEmits};
 ghost use Rattle.checking.specs.private.Sums.{sums_of, pair_totals, PairSmall};
 
-use crate::clauses::Totals;
+use crate::clauses::{ClauseWord, Totals};
 use crate::sums::Sums;
 use circuit::gate::Gate;
 use circuit::header::Header;
@@ -56,4 +57,22 @@ pub fn sizes(ha: Header, a: &[u64], hb: Header, b: &[u64]) -> Result<Totals, Ref
         return Err(Refusal::MarksDiffer);
     }
     Ok(pair_totals(ha, first, second))
+}
+
+// The stored clauses of a pair at the buffer's start, and their totals; else 2, 14, 11, 6, 7 of either, 8, 15 or 10.
+pub fn emit(
+    ha: Header,
+    a: &[u64],
+    hb: Header,
+    b: &[u64],
+    out: &mut [ClauseWord],
+) -> Result<Totals, Refusal>
+    ensures { PairEmits ha a.now hb b.now out.old (outcome_of result) out.new }
+{
+    let totals = sizes(ha, a, hb, b)?;
+    if (out.len() as u64) < totals.words {
+        return Err(Refusal::NoRoom);
+    }
+    crate::emission::put_list(ha, a, b, out);
+    Ok(totals)
 }

@@ -109,13 +109,17 @@ unmarked_masks h e =
     let (a, b) = and_parts (eqb h.constants 0) (eqb h.junk 0) (sym (not-not (eqb h.constants 0 && eqb h.junk 0)) ∙ ap not e) in
     (eqb-true _ _ a, eqb-true _ _ b)
 
+-- every line counts
+pub unmarked_lines : (h : Header) → marked h ≡ false → counted_lines h ≡ up_from 0 h.lines
+unmarked_lines h e = ap (λ (x : ℕ). without_junk x (up_from 0 h.lines)) (unmarked_masks h e).1 ∙ all_counted h.lines
+
 pub miter_sizes : (h : Header) (a b : List Gate) → marked h ≡ false → pair_sizes_of h a b ≡ sizes_of h.lines (miter_gates a b)
 unfolding pair_sizes_of sizes_of
 miter_sizes h a b e =
     let n : ℕ = h.lines in
-    let (no_constants, no_junk) = unmarked_masks h e in
+    let no_constants = (unmarked_masks h e).0 in
     let constants : length (lines_in h.constants n) ≡ 0 = ap (λ (x : ℕ). length (lines_in x n)) no_constants ∙ ap length (lines_none n) in
-    let counted : counted_lines h ≡ up_from 0 n = ap (λ (x : ℕ). without_junk x (up_from 0 n)) no_junk ∙ all_counted n in
+    let counted = unmarked_lines h e in
     let gates : gates_sizes (miter_gates a b) ≡ added (gates_sizes a) (gates_sizes b) = sizes_gates a (inverse b) ∙ ap (added (gates_sizes a)) (sizes_inverse b) in
     let lines : lines_sizes (either_targets a b) (counted_lines h) ≡ lines_sizes (targeted (miter_gates a b)) (up_from 0 n) =
     ap₂ lines_sizes (sym (targeted_miter a b)) counted in
