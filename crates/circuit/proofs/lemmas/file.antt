@@ -1,6 +1,7 @@
 -- The laws of `specs/Text.antt` and `specs/File.antt`: `Marks` on mark lines, `Lines` on lines and fields, `Numbers` on number fields, `Controls` on a gate's controls,
 -- `Texts` reads what was written, `Offences` tells what a reading says of its text, and `RoundTrip` has the two calls one after the other.
 pub mod Marks
+pub mod Groups
 pub mod Lines
 pub mod Numbers
 pub mod Controls

@@ -1,12 +1,14 @@
 // Writing at the start of a buffer: a number, a control, a line. Each function tells how many bytes it wrote.
 
-ghost use Rattle.std.specs.Prelude.{◌≡◌, ◌+◌, ◌<◌, ◌≤◌, ◌∷◌, ◌++◌, length, if◌then◌else◌};
+ghost use Rattle.std.specs.Prelude.{◌≡◌, true, ◌+◌, ◌<◌, ◌≤◌, ◌∷◌, ◌++◌, length, if◌then◌else◌};
 ghost use Rattle.bits.specs.Lists.{Put};
-ghost use Rattle.circuit.specs.Gate.{controls_of};
-ghost use Rattle.circuit.specs.Text.{tab, digit, number_text, control_text, controls_text, header_line, gate_text, gate_line, plus_sign, minus_sign};
-ghost use Rattle.circuit.specs.private.Put.{mask_gate};
+ghost use Rattle.circuit.specs.Gate.{max_lines, controls_of};
+ghost use Rattle.circuit.specs.Header.{marks_good};
+ghost use Rattle.circuit.specs.Text.{tab, digit, number_text, control_text, controls_text, header_line, const_line, junk_line, header_lines, gate_text, gate_line, plus_sign, minus_sign};
+ghost use Rattle.circuit.specs.private.Put.{mask_gate, mark_line, mark_text};
 
 use crate::gate::Gate;
+use crate::header::Header;
 
 // Copies the items to the buffer's start, and tells how many they are. Each crate has its own: one for all would be open and ask for room, and with a test of the room emission with many controls takes half again as long.
 pub(crate) fn put<T: Copy>(out: &mut [T], items: &[T]) -> usize
@@ -101,14 +103,89 @@ pub(crate) fn put_gate_line(out: &mut [u8], g: Gate) -> usize
     at + 1
 }
 
-// Writes the header of a cascade on n lines.
-pub(crate) fn put_header(out: &mut [u8], n: u64) -> usize
+// Writes the line with the line count.
+fn put_count(out: &mut [u8], n: u64) -> usize
     requires { (n < 100) × (length (header_line n) ≤ length out.old) }
     ensures { Put result out.new (header_line n) out.old }
 {
     let at = put_numbered(out, b"lines\t", n);
     out[at] = b'\n';
     at + 1
+}
+
+// Writes the line of a constant.
+fn put_constant(out: &mut [u8], k: u64, value: bool) -> usize
+    requires { (k < 100) × (length (const_line k value) ≤ length out.old) }
+    ensures { Put result out.new (const_line k value) out.old }
+{
+    let at = put_numbered(out, b"const\t", k);
+    at + put(&mut out[at..], if value { b"\t1\n" } else { b"\t0\n" })
+}
+
+// Writes the line of a junk line.
+fn put_junk(out: &mut [u8], k: u64) -> usize
+    requires { (k < 100) × (length (junk_line k) ≤ length out.old) }
+    ensures { Put result out.new (junk_line k) out.old }
+{
+    let at = put_numbered(out, b"junk\t", k);
+    out[at] = b'\n';
+    at + 1
+}
+
+// Writes the line of a mark, of a constant or else of a junk line.
+fn put_mark(out: &mut [u8], constant: bool, k: u64, value: bool) -> usize
+    requires { (k < 100) × (length (mark_line constant k value) ≤ length out.old) }
+    ensures { Put result out.new (mark_line constant k value) out.old }
+{
+    if constant {
+        return put_constant(out, k, value);
+    }
+    put_junk(out, k)
+}
+
+// Writes the lines of the marks of a mask, by rising line.
+fn put_marks(out: &mut [u8], constant: bool, mask: u64, values: u64) -> usize
+    requires { length (mark_text constant mask values) ≤ length out.old }
+    ensures { Put result out.new (mark_text constant mask values) out.old }
+{
+    // A while, one turn for each set bit, as for controls.
+    let mut left = mask;
+    let mut at = 0;
+    while left != 0 {
+        let k = crate::gate::lowest(left);
+        at += put_mark(&mut out[at..], constant, k, crate::gate::has(values, k));
+        left &= left - 1;
+    }
+    at
+}
+
+// Writes the lines of a header.
+pub(crate) fn put_header(out: &mut [u8], h: Header) -> usize
+    requires { (h.lines ≤ max_lines) × (marks_good h ≡ true) × (length (header_lines h) ≤ length out.old) }
+    ensures { Put result out.new (header_lines h) out.old }
+{
+    let mut at = put_count(out, h.lines);
+    at += put_marks(&mut out[at..], true, h.constants, h.values);
+    at + put_marks(&mut out[at..], false, h.junk, 0)
+}
+
+// How many bytes the lines of the marks of a mask have: ten or seven each, and a second digit from line 10 on.
+#[tactic(auto, using(crate::proofs::lemmas::file::put::Marks::marks_long))]
+fn marks_size(constant: bool, mask: u64, values: u64) -> usize
+    ensures { (result ≡ length (mark_text constant mask values)) × (result ≤ 704) }
+{
+    let each = if constant { 10 } else { 7 };
+    (each * crate::gate::count(mask) + crate::gate::count(mask >> 10)) as usize
+}
+
+// How many bytes the lines of a header have.
+pub(crate) fn header_size(h: Header) -> usize
+    requires { (h.lines ≤ max_lines) × (marks_good h ≡ true) }
+    ensures { (result ≡ length (header_lines h)) × (result ≤ 1500) }
+{
+    7 + crate::file::scan::digits(h.lines)
+        + marks_size(true, h.constants, h.values)
+        + marks_size(false, h.junk, 0)
 }
 
 // How many bytes the controls of two masks have, each after a tab: three each, and a second digit from line 10 on.
