@@ -29,7 +29,7 @@ pub struct HeaderNext {
 }
 
 // Whether the line at a position starts as that of a constant, or else of a junk line.
-#[tactic(auto, using(crate::proofs::lemmas::file::marks::Laws::mark_there))]
+#[tactic(auto, using(crate::proofs::lemmas::file::marks::Laws::start_rules))]
 fn starts(text: &[u8], at: usize, constant: bool) -> bool
     requires { at ≤ length text.now }
     ensures { result ≡ starts_mark constant (line_at (drop at text.now)) }
@@ -62,14 +62,16 @@ fn value(text: &[u8], at: usize, constant: bool, place: u64) -> Result<bool, Ref
     requires { (at ≤ length text.now) × (field_at (drop at text.now) ≡ []) }
     ensures { outcome_of result ≡ value_at constant place (drop at text.now) }
 {
-    let rest = &text[at..];
-    if constant && rest.starts_with(b"\t0\n") {
-        return Ok(false);
+    if constant {
+        if text[at..].starts_with(b"\t0\n") {
+            return Ok(false);
+        }
+        if text[at..].starts_with(b"\t1\n") {
+            return Ok(true);
+        }
+        return Err(Refusal::WrongForm(place));
     }
-    if constant && rest.starts_with(b"\t1\n") {
-        return Ok(true);
-    }
-    if !constant && rest.starts_with(b"\n") {
+    if text[at..].starts_with(b"\n") {
         return Ok(false);
     }
     Err(Refusal::WrongForm(place))

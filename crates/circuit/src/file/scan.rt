@@ -209,7 +209,7 @@ pub(crate) fn ends(text: &[u8], at: usize) -> bool
 }
 
 // The line count of a text and the position after its first line; else 1 or 2.
-#[tactic(auto, using(crate::proofs::lemmas::file::scan::Rest::header_rules))]
+#[tactic(auto, using(crate::proofs::lemmas::file::scan::Rest::count_rules))]
 pub(crate) fn line_count(text: &[u8]) -> Result<Numeral, Refusal>
     ensures { outcome_of result ≡ count_next text.now }
 {

@@ -19,7 +19,7 @@ use Rattle.circuit.specs.private.Put.{mark_line}
 use Rattle.circuit.proofs.lemmas.Outcome.{then_served, then_refused}
 use Rattle.circuit.proofs.lemmas.header.Marks.{below_lines, lines_below, within_lines, lines_within}
 use Rattle.circuit.proofs.lemmas.file.Lines.{Cut, cut_first}
-use Rattle.circuit.proofs.lemmas.file.Marks.{none_starts, mark_bytes, mark_whole, mark_line_lem, mark_parts, starts_with_word, MarkFound, good, bad, mark_found, mark_read}
+use Rattle.circuit.proofs.lemmas.file.MarkLines.{none_starts, mark_bytes, mark_whole, mark_line_lem, mark_parts, starts_with_word, MarkFound, good, bad, mark_found, mark_read}
 
 -- ---- one line more in a mask
 
