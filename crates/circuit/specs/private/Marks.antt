@@ -1,5 +1,5 @@
 -- For the contracts of the functions that read the header of a text: what its mark lines give, and where they end.
-use Rattle.std.specs.Prelude.{ℕ, ◌+◌, Bool, true, false, List, drop}
+use Rattle.std.specs.Prelude.{ℕ, ◌+◌, Bool, true, false, cond, List, drop}
 use Rattle.circuit.specs.declared.file.marks.MarksNext.{MarksNext}
 use Rattle.circuit.specs.declared.file.marks.HeaderNext.{HeaderNext}
 use Rattle.circuit.specs.declared.file.scan.Numeral.{Numeral}
@@ -7,6 +7,13 @@ use Rattle.circuit.specs.Outcome.{Outcome, served, demand, and_then}
 use Rattle.circuit.specs.Refusal.{wrong_form}
 use Rattle.circuit.specs.File.{lines_of, line_size, fields_of, mark_number, mark_value, mark_on, Marks, no_marks, group_from, header_of}
 use Rattle.circuit.specs.private.Scan.{line_at, width, later_fields, count_next}
+
+-- how many bytes a mark line has before its line number, and after it
+abbrev pub word_size : Bool → ℕ
+word_size constant = cond constant 6 5
+
+abbrev pub end_size : Bool → ℕ
+end_size constant = cond constant 3 1
 
 -- the line of a mark in a field at a position, and the position after the field
 abbrev pub mark_line_next : ℕ → ℕ → ℕ → ℕ → List ℕ → Outcome Numeral

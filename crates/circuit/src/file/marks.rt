@@ -5,7 +5,7 @@ ghost use Rattle.circuit.specs.Gate.{max_lines};
 ghost use Rattle.circuit.specs.Outcome.{outcome_of};
 ghost use Rattle.circuit.specs.File.{starts_mark};
 ghost use Rattle.circuit.specs.private.Scan.{field_at, line_at};
-ghost use Rattle.circuit.specs.private.Marks.{mark_line_next, value_at, mark_next, group_next, header_next};
+ghost use Rattle.circuit.specs.private.Marks.{word_size, end_size, mark_line_next, value_at, mark_next, group_next, header_next};
 
 use crate::file::scan::Numeral;
 use crate::header::Header;
@@ -26,6 +26,19 @@ pub struct HeaderNext {
     pub header: Header,
     pub place: u64,
     pub next: usize,
+}
+
+// How many bytes a mark line has before its line number, and after it.
+fn word_size(constant: bool) -> usize
+    ensures { result ≡ word_size constant }
+{
+    if constant { 6 } else { 5 }
+}
+
+fn end_size(constant: bool) -> usize
+    ensures { result ≡ end_size constant }
+{
+    if constant { 3 } else { 1 }
 }
 
 // Whether the line at a position starts as that of a constant, or else of a junk line.
@@ -78,19 +91,17 @@ fn value(text: &[u8], at: usize, constant: bool, place: u64) -> Result<bool, Ref
 }
 
 // The marks and that of the line at their position; else 1 or 14.
-#[tactic(auto, using(crate::proofs::lemmas::file::marks::Laws::mark_rules))]
 fn mark(text: &[u8], constant: bool, n: u64, read: MarksNext) -> Result<MarksNext, Refusal>
     requires { (read.next ≤ length text.now) × (n ≤ max_lines) × (read.place ≤ length text.now) × (starts_mark constant (line_at (drop read.next text.now)) ≡ true) }
     ensures { outcome_of result ≡ mark_next constant n read (drop read.next text.now) }
 {
-    let at = read.next + if constant { 6 } else { 5 };
-    let k = mark_line(text, at, n, read.mask, read.place)?;
+    let k = mark_line(text, read.next + word_size(constant), n, read.mask, read.place)?;
     let set = value(text, k.next, constant, read.place)?;
     Ok(MarksNext {
         mask: read.mask | crate::gate::line(k.value),
         values: crate::file::fill::joined(read.values, k.value, set),
         place: read.place + 1,
-        next: k.next + if constant { 3 } else { 1 },
+        next: k.next + end_size(constant),
     })
 }
 

@@ -170,7 +170,6 @@ pub(crate) fn put_header(out: &mut [u8], h: Header) -> usize
 }
 
 // How many bytes the lines of the marks of a mask have: ten or seven each, and a second digit from line 10 on.
-#[tactic(auto, using(crate::proofs::lemmas::file::put::Marks::marks_long))]
 fn marks_size(constant: bool, mask: u64, values: u64) -> usize
     ensures { (result ≡ length (mark_text constant mask values)) × (result ≤ 704) }
 {
