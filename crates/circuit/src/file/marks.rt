@@ -95,7 +95,13 @@ fn mark(text: &[u8], constant: bool, n: u64, read: MarksNext) -> Result<MarksNex
     requires { (read.next ≤ length text.now) × (n ≤ max_lines) × (read.place ≤ length text.now) × (starts_mark constant (line_at (drop read.next text.now)) ≡ true) }
     ensures { outcome_of result ≡ mark_next constant n read (drop read.next text.now) }
 {
-    let k = mark_line(text, read.next + word_size(constant), n, read.mask, read.place)?;
+    let k = mark_line(
+        text,
+        read.next + word_size(constant),
+        n,
+        read.mask,
+        read.place,
+    )?;
     let set = value(text, k.next, constant, read.place)?;
     Ok(MarksNext {
         mask: read.mask | crate::gate::line(k.value),

@@ -1,19 +1,19 @@
 -- The laws of a group of mark lines: its text is read as its marks, and what is read is its text or the first offence of a line. Assumes nothing.
-use Rattle.std.proofs.Common.{◌≡◌, ℕ, zero, suc, ◌+◌, ◌-◌, ◌%◌, ◌^◌, ◌<◌, ◌≤◌, Bool, true, false, cond, ◌&&◌, ◌||◌, eqb, ltb, leb, List, [], ◌∷◌, ◌++◌, length, drop, sym, refl, ap, ◌∙◌, subst, ap₂, append_assoc, append-nil, arith, length-append, eq-eqb, ne_eqb, eqb-true, ltb-true, ltb-false, le-ltb, lt-ltb, pow_pos, mod-lt, mod-eq_of_lt}
+use Rattle.std.proofs.Common.{◌≡◌, ℕ, zero, suc, ◌+◌, ◌-◌, ◌%◌, ◌^◌, ◌<◌, ◌≤◌, Bool, true, false, cond, ◌&&◌, ◌||◌, eqb, ltb, List, [], ◌∷◌, ◌++◌, length, drop, sym, refl, ap, ◌∙◌, subst, ap₂, append_assoc, append-nil, arith, length-append, eq-eqb, ne_eqb, eqb-true, ltb-true, ltb-false, pow_pos, mod-lt, mod-eq_of_lt}
 use Rattle.std.specs.List.{flat_map}
 use Rattle.std.proofs.Math.Pow.{pow-lt}
 use Rattle.std.proofs.lemmas.List.Concat.{flat_map-append}
 use borrow.Author.Tests.{eqb-false}
-use mathlib.Core.Bool.{or-false, and-true, and-false, false≢true}
+use mathlib.Core.Bool.{or-false, and-true, and-false}
 use lib.Bits.{bit_and, bit_or, or_zero_r, or_lt}
 use Rattle.bits.specs.Digits.{bit, lines_in}
 use Rattle.bits.proofs.Bools.{either, not_held, refuted, cond-true, cond-false}
 use Rattle.bits.proofs.Digits.{bit-or, bit_pow, bit_none, bits_equal, bit_low, bit_above}
 use Rattle.bits.proofs.Lowest.{lines_none}
 use Rattle.circuit.specs.Gate.{max_lines}
-use Rattle.circuit.specs.Outcome.{Outcome, served, refused, and_then}
+use Rattle.circuit.specs.Outcome.{Outcome, served, refused}
 use Rattle.circuit.specs.Text.{line_feed, number_text}
-use Rattle.circuit.specs.File.{Line, no_line, first_line, later_lines, lines_of, line_size, parted_by, starts_fields, starts_mark, Marks, no_marks, with_mark, mark_on, Group, group_from}
+use Rattle.circuit.specs.File.{Line, first_line, later_lines, lines_of, line_size, starts_mark, Marks, no_marks, with_mark, mark_on, Group, group_from}
 use Rattle.circuit.specs.FileLaws.{value_fields, MarkOffence}
 use Rattle.circuit.specs.private.Put.{mark_line}
 use Rattle.circuit.proofs.lemmas.Outcome.{then_served, then_refused}

@@ -1,24 +1,23 @@
 -- The laws of a header's lines and of what stands after them: the text of a cascade is read as that cascade. Assumes nothing.
-use Rattle.std.proofs.Common.{◌≡◌, ℕ, ◌+◌, ◌-◌, ◌<◌, ◌≤◌, Bool, true, false, List, [], ◌∷◌, ◌++◌, length, sym, refl, ap, ◌∙◌, subst, ap₂, append_assoc, arith, length-append, ⊎_elim, eq-zero-or-pos}
+use Rattle.std.proofs.Common.{◌≡◌, ℕ, ◌+◌, ◌-◌, ◌<◌, ◌≤◌, Bool, true, false, List, [], ◌∷◌, ◌++◌, length, refl, ap, ◌∙◌, ap₂, append_assoc, arith, length-append, ⊎_elim, eq-zero-or-pos}
 use Rattle.std.specs.List.{flat_map}
 use mathlib.Core.Bool.{false≢true}
 use lib.Bits.{bit_and}
-use lib.Count.{ones, count_trailing_zeros}
-use Rattle.bits.specs.Digits.{bit, lines_in}
+use lib.Count.{count_trailing_zeros}
+use Rattle.bits.specs.Digits.{lines_in}
 use Rattle.bits.proofs.Bools.{and_parts, refuted}
 use Rattle.bits.proofs.Digits.{lines_ones}
 use Rattle.bits.proofs.Lowest.{lines_none, lines_lowest, lowest_below}
 use Rattle.bits.proofs.Lists.{free}
 use Rattle.circuit.specs.declared.gate.Gate.{Gate}
 use Rattle.circuit.specs.declared.header.Header.{Header}
-use Rattle.circuit.specs.Gate.{max_lines, max_gates, valid, controls_of}
+use Rattle.circuit.specs.Gate.{max_lines, valid, controls_of}
 use Rattle.circuit.specs.Header.{marks_good}
 use Rattle.circuit.specs.Outcome.{Outcome, served, refused, and_then}
 use Rattle.circuit.specs.Words.{all_valid}
 use Rattle.circuit.specs.Text.{line_feed, end_word, number_text, junk_line, header_line, const_lines, junk_lines, header_lines, gate_line, gate_text, gate_lines, end_line, text_of}
 use Rattle.circuit.specs.File.{Line, first_line, later_lines, lines_of, line_size, parted_by, fields_of, same, starts_fields, mark_word, starts_mark, Marks, no_marks, Group, group_from, header_on, header_of, Reading, read_from, reading, mark_lines}
 use Rattle.circuit.specs.FileLaws.{FileCascade, GroupOpen, group_mask, MarkOffence}
-use Rattle.circuit.specs.private.Put.{mark_line}
 use Rattle.circuit.proofs.lemmas.Outcome.{then_served, then_refused}
 use Rattle.circuit.proofs.lemmas.header.Marks.{marks_facts}
 use Rattle.circuit.proofs.lemmas.gate.Valid.{valid_facts}
@@ -26,7 +25,7 @@ use Rattle.circuit.proofs.lemmas.file.Lines.{lines_cut, same_true}
 use Rattle.circuit.proofs.lemmas.file.Controls.{controls_inside}
 use Rattle.circuit.proofs.lemmas.file.Texts.{header_text, header_line_lem, header_read_lem, gate_line_lem, gate_fields_lem, gates_read_lem}
 use Rattle.circuit.proofs.lemmas.file.MarkLines.{none_starts, mark_bytes, mark_line_lem, mark_parts, starts_parts, words_apart, mark_refused, offence_starts}
-use Rattle.circuit.proofs.lemmas.file.Groups.{MarksInside, group_text, group_count, group_read, group_stops, group_wrong}
+use Rattle.circuit.proofs.lemmas.file.Groups.{MarksInside, group_count, group_read, group_stops, group_wrong}
 
 -- ---- the two groups of a header
 

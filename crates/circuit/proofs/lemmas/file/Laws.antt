@@ -1,5 +1,5 @@
 -- The laws of reading a whole text: the round trip both ways, and what each refusal says. Assumes nothing.
-use Rattle.std.proofs.Common.{◌≡◌, ℕ, ◌+◌, ◌*◌, ◌<◌, ◌≤◌, Bool, true, false, leb, ◌↔◌, List, [], ◌∷◌, ◌++◌, length, take, drop, sym, refl, ap, ◌∙◌, subst, ap₂, subst₂, append_assoc, arith, length-append, take_at, le-leb, leb-false, leb-true}
+use Rattle.std.proofs.Common.{◌≡◌, ℕ, ◌+◌, ◌*◌, ◌<◌, ◌≤◌, true, false, leb, ◌↔◌, List, [], ◌∷◌, ◌++◌, length, take, drop, sym, refl, ap, ◌∙◌, subst, ap₂, subst₂, append_assoc, arith, length-append, take_at, le-leb, leb-false, leb-true}
 use Rattle.std.specs.List.{flat_map}
 use mathlib.Core.Bool.{false≢true}
 use borrow.Author.Tests.{lt-leb}
@@ -21,8 +21,7 @@ use Rattle.circuit.specs.Header.{unmarked, marks_good}
 use Rattle.circuit.proofs.lemmas.header.Marks.{unmarked_good, facts_marks}
 use Rattle.circuit.proofs.lemmas.header.Tests.{headed_served, served_headed, headed_wrong}
 use Rattle.circuit.proofs.lemmas.Outcome.{never, demand_met, demand_failed, then_served, then_refused, then_both, demanded, wrong_refused, fails_refused, above}
-use Rattle.circuit.proofs.lemmas.file.Lines.{Cut, cut_first}
-use Rattle.circuit.proofs.lemmas.file.Texts.{header_text}
+use Rattle.circuit.proofs.lemmas.file.Lines.{cut_first}
 use Rattle.circuit.proofs.lemmas.file.Groups.{MarksInside, none_inside, group_text, group_count, GroupFound, whole_group, mark_wrong, group_found}
 use Rattle.circuit.proofs.lemmas.file.Headers.{groups_counted, Closed, from_groups, header_wrong, start_read, text_read}
 use Rattle.circuit.proofs.lemmas.file.Offences.{HeaderFound, header_found, header_refused, offence_refused, offence_open, Walked, whole_text, stopped, walked}
@@ -113,6 +112,7 @@ module _ (text : List ℕ) where
         (gates_found h low high good z (groups_text n text x y z c j starts q t) (closes h z (λ e. subst (λ (l : List ℕ). starts_mark true (first_line (lines_of l)) ≡ false) (t ∙ ap (λ (l : List ℕ). l ++ z) (no_junk n j e)) s) u)
         (read_from h (mark_lines h + 1) [] (length (header_lines h)) (lines_of z))
         (walked h (mark_lines h + 1) high (lines_of z) [] (length (header_lines h)) z refl (omega arith)))
+
     constants_found : (o : Outcome Group) → GroupFound true n 1 at x o
         → TextFound text (and_then o (λ c. and_then (group_from false n c.line c.at no_marks c.left) (λ j. read_from (header_of n c.marks j.marks) j.line [] j.at j.left)))
     constants_found o (mark_wrong c y ci q number offence) =

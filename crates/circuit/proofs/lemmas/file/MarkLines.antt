@@ -4,8 +4,8 @@ use Rattle.std.proofs.lemmas.Nat.{ones-le}
 use mathlib.Core.Bool.{false≢true}
 use mathlib.Core.List.{head-eq_of_cons-eq, nil≢cons, cons≢nil, tail-eq_of_cons-eq}
 use Rattle.bits.specs.Digits.{bit}
-use Rattle.bits.proofs.Bools.{either, and_parts, both, not_held, refuted, cond-true, cond-false, and_second, or_right, or_left, none_or}
-use Rattle.bits.proofs.Digits.{bit_some, bit_shifted, bit_above}
+use Rattle.bits.proofs.Bools.{either, both, not_held, refuted, and_second, or_right, or_left, none_or}
+use Rattle.bits.proofs.Digits.{bit_some, bit_shifted}
 use Rattle.bits.proofs.Lists.{free, free_append}
 use Rattle.bits.proofs.Single.{ones_zero}
 use Rattle.circuit.specs.declared.header.Header.{Header}
@@ -14,14 +14,14 @@ use Rattle.circuit.specs.Header.{unmarked, marks_good}
 use Rattle.circuit.specs.Outcome.{Outcome, served, refused, demand, and_then}
 use Rattle.circuit.specs.Refusal.{wrong_form, bad_mark}
 use Rattle.circuit.specs.Text.{tab, line_feed, digit, number_text}
-use Rattle.circuit.specs.File.{Line, no_line, first_line, lines_of, parted_by, fields_of, same, number_of, mark_word, starts_fields, starts_mark, Marks, with_mark, mark_number, mark_value, mark_fields, mark_on, mark_lines}
+use Rattle.circuit.specs.File.{Line, no_line, lines_of, parted_by, fields_of, same, number_of, mark_word, starts_fields, starts_mark, Marks, with_mark, mark_number, mark_value, mark_fields, mark_on, mark_lines}
 use Rattle.circuit.specs.FileLaws as laws
 use Rattle.circuit.specs.FileLaws.{NumberField, value_fields, MarkOffence}
 use Rattle.circuit.specs.private.Put.{mark_line}
 use Rattle.circuit.proofs.lemmas.Outcome.{never, demand_met, demand_failed, then_served, then_refused}
 use Rattle.circuit.proofs.lemmas.header.Marks.{marks_facts, below_lines, lines_below}
 use Rattle.circuit.proofs.lemmas.file.Lines.{lines_cut, parts_cut, parts_joined, parts_back, separated, whole, all_free, same_true, same_self, true_same}
-use Rattle.circuit.proofs.lemmas.file.Numbers.{number_free, number_text_lem}
+use Rattle.circuit.proofs.lemmas.file.Numbers.{number_free}
 use Rattle.circuit.proofs.lemmas.file.Offences.{number_field, field_number, no_number}
 
 -- ---- the number of mark lines

@@ -8,7 +8,7 @@ use Rattle.circuit.specs.Gate.{max_lines, max_gates}
 use Rattle.circuit.specs.Outcome.{Outcome, served, refused, written, Yields}
 use Rattle.circuit.specs.Refusal.{wrong_form}
 use Rattle.circuit.specs.Text.{line_feed, end_word, end_line}
-use Rattle.circuit.specs.File.{Line, no_line, first_line, later_lines, lines_of, line_size, parted_by, same, gate_fields, gate_on, header_on, is_end, Reading, read_from, reading, counts_of, gates_read, read_outcome, read_buffer}
+use Rattle.circuit.specs.File.{Line, no_line, first_line, later_lines, lines_of, line_size, parted_by, same, gate_fields, gate_on, is_end, Reading, read_from, reading, counts_of, gates_read, read_outcome, read_buffer}
 use Rattle.circuit.specs.declared.file.ReadCounts.{ReadCounts}
 use Rattle.circuit.specs.Words.{words_of}
 use Rattle.circuit.specs.private.Scan.{line_at, gate_next, counts_from}
@@ -17,7 +17,7 @@ use Rattle.circuit.proofs.lemmas.file.marks.Steps.{Started}
 use Rattle.circuit.proofs.lemmas.Outcome.{never, unserved, then_served, then_refused, then_both, told}
 use Rattle.circuit.proofs.lemmas.words.Gates.{valid_all_more}
 use Rattle.circuit.proofs.lemmas.file.Lines.{cut_first, same_true}
-use Rattle.circuit.proofs.lemmas.file.Offences.{GateFound, gate_found, HeaderFound, header_found, Walked, whole_text, stopped, walked}
+use Rattle.circuit.proofs.lemmas.file.Offences.{GateFound, gate_found, Walked, whole_text, stopped, walked}
 
 -- a gate line that was read
 pub record Stepped (h : Header) (first : ℕ) (text : List ℕ) (gs : List Gate) (at next : ℕ) : Type 0 where

@@ -5,12 +5,10 @@ use Rattle.bits.proofs.Lists.{free, free_append}
 use Rattle.circuit.specs.declared.gate.Gate.{Gate}
 use Rattle.circuit.specs.declared.header.Header.{Header}
 use Rattle.circuit.specs.Gate.{max_lines, max_gates, valid, Control, Inside, controls_of}
-use Rattle.circuit.specs.Header.{unmarked}
-use Rattle.circuit.specs.Outcome.{served, and_then}
+use Rattle.circuit.specs.Outcome.{served}
 use Rattle.circuit.specs.Words.{all_valid}
-use Rattle.circuit.specs.Text.{tab, line_feed, plus_sign, minus_sign, lines_word, gate_word, end_word, number_text, control_text, controls_text, gate_text, header_line, gate_line, end_line, gate_lines, text_of}
-use Rattle.circuit.specs.File.{Line, first_line, later_lines, lines_of, line_size, fields_of, same, line_of, control_of, controls_from, among, rising_from, gate_of, closed_gate, gate_fields, gate_on, header_fields, header_on, read_from, reading}
-use Rattle.circuit.specs.FileLaws.{FileCascade}
+use Rattle.circuit.specs.Text.{tab, line_feed, plus_sign, minus_sign, lines_word, gate_word, number_text, control_text, controls_text, gate_text, header_line, gate_line, gate_lines}
+use Rattle.circuit.specs.File.{lines_of, fields_of, same, line_of, control_of, controls_from, among, rising_from, gate_of, closed_gate, gate_fields, gate_on, header_fields, header_on, read_from}
 use Rattle.circuit.proofs.lemmas.Outcome.{demand_met, then_served}
 use Rattle.circuit.proofs.lemmas.gate.Valid.{valid_facts, valid_more}
 use Rattle.circuit.proofs.lemmas.words.Tests.{good_lines}

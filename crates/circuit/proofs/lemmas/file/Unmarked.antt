@@ -1,5 +1,5 @@
 -- Files without marks: their text and their reading are those of document 01. Assumes nothing.
-use Rattle.std.proofs.Common.{◌≡◌, ℕ, ◌+◌, ◌≤◌, Bool, true, false, List, [], ◌∷◌, ◌++◌, drop, sym, refl, ap, ◌∙◌, subst, ap₂, append_assoc, append-nil, arith}
+use Rattle.std.proofs.Common.{◌≡◌, ℕ, ◌≤◌, Bool, true, false, List, [], ◌++◌, drop, sym, refl, ap, ◌∙◌, ap₂, append_assoc, append-nil, arith}
 use Rattle.std.specs.List.{flat_map}
 use Rattle.bits.specs.Digits.{bit}
 use Rattle.bits.proofs.Lowest.{lines_none}
@@ -16,7 +16,7 @@ use Rattle.circuit.proofs.lemmas.file.Lines.{cut_first}
 use Rattle.circuit.proofs.lemmas.file.Texts.{header_line_lem}
 use Rattle.circuit.proofs.lemmas.file.Offences.{HeaderFound, header_found, Walked, whole_text, stopped, walked}
 use Rattle.circuit.proofs.lemmas.file.Groups.{group_stops}
-use Rattle.circuit.proofs.lemmas.file.Headers.{from_groups, gate_no_mark, end_no_mark, no_mark_after}
+use Rattle.circuit.proofs.lemmas.file.Headers.{from_groups, no_mark_after}
 use Rattle.circuit.proofs.lemmas.file.Laws.{read_cascade}
 
 -- ---- the text

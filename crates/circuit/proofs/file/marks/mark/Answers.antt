@@ -1,5 +1,5 @@
 -- `circuit::file::marks::mark` meets its contract. Assumes nothing.
-use Rattle.std.proofs.Common.{◌≡◌, ℕ, ◌+◌, ◌≤◌, Err, length, drop, sym, ap, ◌∙◌, subst, arith, rules}
+use Rattle.std.proofs.Common.{◌≡◌, ℕ, ◌+◌, Err, drop, sym, ap, ◌∙◌, subst, arith, rules}
 use Rattle.circuit.specs.Outcome.{Outcome, served, outcome_of}
 use Rattle.circuit.specs.private.Scan.{field_at}
 use Rattle.circuit.specs.private.Marks.{word_size, mark_line_next}

@@ -10,8 +10,8 @@ use Rattle.bits.proofs.Lists.{free}
 use Rattle.circuit.specs.Gate.{max_lines}
 use Rattle.circuit.specs.Outcome.{Outcome, served, refused, demand, and_then}
 use Rattle.circuit.specs.Refusal.{wrong_form, bad_mark}
-use Rattle.circuit.specs.Text.{tab, line_feed, digit}
-use Rattle.circuit.specs.File.{Line, line_size, parted_by, fields_of, number_of, mark_word, starts_fields, starts_mark, Marks, with_mark, mark_number, mark_value, mark_fields, mark_on}
+use Rattle.circuit.specs.Text.{tab, line_feed}
+use Rattle.circuit.specs.File.{Line, line_size, parted_by, fields_of, number_of, mark_word, starts_mark, Marks, with_mark, mark_number, mark_value, mark_fields, mark_on}
 use Rattle.circuit.specs.FileLaws.{value_fields}
 use Rattle.circuit.specs.declared.file.scan.Numeral.{Numeral}
 use Rattle.circuit.specs.declared.file.marks.MarksNext.{MarksNext}
@@ -218,9 +218,10 @@ module _ (constant : Bool) (text : List ℕ) (at : ℕ) (inside : at ≤ length 
           let r : List ℕ = drop (length (w ++ (tab ∷ []))) (drop at text) in
           let is : drop at text ≡ w ++ (tab ∷ r) = starts_true (w ++ (tab ∷ [])) (drop at text) e ∙ append_assoc w (tab ∷ []) r in
           let long : length (w ++ (tab ∷ [])) ≡ word_size b = word_long b in
-          let same : r ≡ drop (at + word_size b) text = drop-drop (length (w ++ (tab ∷ []))) at text ∙ ap (λ (k : ℕ). drop (at + k) text) long in
-          (subst (Worded (drop at text) w) same (subst (λ (x : List ℕ). Worded x w r) (sym is) (worded w r (word_field b r))),
-            omega (arith, ap length is, length-append w (tab ∷ r), length-append w (tab ∷ []), length-drop at text))
+          let same : r ≡ drop (at + word_size b) text = drop-drop (length (w ++ (tab ∷ []))) at text ∙ ap (λ (k : ℕ). drop (at + k) text) long in (
+            subst (Worded (drop at text) w) same (subst (λ (x : List ℕ). Worded x w r) (sym is) (worded w r (word_field b r))),
+            omega (arith, ap length is, length-append w (tab ∷ r), length-append w (tab ∷ []), length-drop at text),
+          )
 
   -- the line number, and what follows it
   after_word : List ℕ

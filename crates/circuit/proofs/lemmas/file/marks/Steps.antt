@@ -1,5 +1,5 @@
 -- A header as the code reads it: one line of the loop over a group, and the header after the other. Assumes nothing.
-use Rattle.std.proofs.Common.{◌≡◌, ℕ, ◌+◌, ◌<◌, ◌≤◌, Bool, true, false, List, [], ◌∷◌, ◌++◌, length, drop, sym, refl, ap, ◌∙◌, subst, ap₂, arith, length-append, length-drop, drop-drop}
+use Rattle.std.proofs.Common.{◌≡◌, ℕ, ◌+◌, ◌<◌, ◌≤◌, Bool, true, false, List, [], ◌∷◌, length, drop, sym, refl, ap, ◌∙◌, subst, ap₂, arith, length-append, length-drop, drop-drop}
 use Rattle.bits.proofs.Bools.{refuted, either}
 use Rattle.circuit.specs.declared.header.Header.{Header}
 use Rattle.circuit.specs.declared.file.marks.MarksNext.{MarksNext}
