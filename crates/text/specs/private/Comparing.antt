@@ -1,7 +1,7 @@
 -- For the contracts of the functions that compare two files: what their answers and the lent rooms say.
 use Rattle.std.specs.Prelude.{◌≡◌, List, ℕ, ◌*◌, ◌≤◌, ℤ, length, take, Result, Ok, Err}
 use Rattle.circuit.specs.declared.gate.Gate.{Gate}
-use Rattle.circuit.specs.Gate.{max_miter_gates}
+use Rattle.circuit.specs.Gate.{max_gates, max_miter_gates}
 use Rattle.circuit.specs.Words.{gates_of, Cascade}
 use Rattle.text.specs.declared.comparison.Compared.{Compared}
 use Rattle.text.specs.declared.comparison.Compared.TheVariants.{Reduction, Sweep, Differ, Clauses}
@@ -25,6 +25,12 @@ pub record MiterCascade (n : ℕ) (ws : List ℕ) : Type 0 where
 -- the gates that are left stand at the start of the room
 pub record LeftIn (n k : ℕ) (room : List ℕ) (gs : List Gate) : Type 0 where
   pub words : MiterWords n k room
+  pub gates_are : gates_of (take (3 * k) room) ≡ gs
+
+-- the gates that are left of one cascade stand at the start of the room
+pub record AloneIn (n k : ℕ) (room : List ℕ) (gs : List Gate) : Type 0 where
+  pub inside : 3 * k ≤ length room
+  pub cascade : Cascade n (take (3 * k) room) max_gates k
   pub gates_are : gates_of (take (3 * k) room) ≡ gs
 
 abbrev pub compared_as : Compared → List ℤ → Comparison
