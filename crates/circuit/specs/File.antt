@@ -1,12 +1,14 @@
 -- Reading a cascade file by lines and fields, and what the two calls on files answer and leave, by document 01.
-use Rattle.std.specs.Prelude.{ℕ, ◌+◌, ◌-◌, ◌*◌, ◌^◌, Bool, true, false, cond, not, ◌&&◌, ◌||◌, List, [], ◌∷◌, ◌++◌, length, ◌==◌, bit_or, nat_le, nat_lt}
+use Rattle.std.specs.Prelude.{ℕ, ◌+◌, ◌-◌, ◌*◌, ◌^◌, Bool, true, false, cond, not, ◌&&◌, ◌||◌, List, [], ◌∷◌, ◌++◌, length, ◌==◌, bit_or, count_ones, nat_le, nat_lt}
 use Rattle.std.specs.Bool.{beq}
 use Rattle.circuit.specs.declared.gate.Gate.{Gate}
+use Rattle.circuit.specs.declared.header.Header.{Header}
 use Rattle.circuit.specs.declared.file.ReadCounts.{ReadCounts}
 use Rattle.circuit.specs.Gate.{max_gates, Control}
+use Rattle.circuit.specs.Header.{unmarked}
 use Rattle.circuit.specs.Outcome.{Outcome, served, refused, demand, and_then, written}
 use Rattle.circuit.specs.Refusal.{wrong_form, bad_line_count, line_outside, target_controlled, not_rising, too_many_gates, no_room}
-use Rattle.circuit.specs.Words.{gates_of, words_of, line_count_good, check_outcome}
+use Rattle.circuit.specs.Words.{gates_of, words_of, line_count_good, headed_outcome}
 use Rattle.circuit.specs.Text.{tab, line_feed, plus_sign, minus_sign, lines_word, gate_word, end_word, text_of}
 
 -- ---- lines and fields
@@ -147,30 +149,38 @@ header_on l = header_fields l.ended (fields_of l.bytes)
 abbrev pub is_end : Line → Bool
 is_end l = l.ended && same l.bytes end_word
 
--- what was read: the line count, the gates, and how many bytes they took
+-- what was read: the header, the gates, and how many bytes they took
 pub record Reading : Type 0 where
-  pub lines : ℕ
+  pub header : Header
   pub gates : List Gate
   pub taken : ℕ
 
 -- from line `length gs + first` on, after the gates gs, whose lines start at line `first`, and `at` bytes
-unfoldable pub read_from : ℕ → ℕ → List Gate → ℕ → List Line → Outcome Reading
-read_from n first gs at [] = refused wrong_form (length gs + first)
-read_from n first gs at (l ∷ ls) =
-    cond (is_end l) (served (record { lines = n; gates = gs; taken = at + line_size l }))
-    (and_then (gate_on n (length gs + first) (length gs) l) (λ g. read_from n first (gs ++ (g ∷ [])) (at + line_size l) ls))
+unfoldable pub read_from : Header → ℕ → List Gate → ℕ → List Line → Outcome Reading
+read_from h first gs at [] = refused wrong_form (length gs + first)
+read_from h first gs at (l ∷ ls) =
+    cond (is_end l) (served (record { header = h; gates = gs; taken = at + line_size l }))
+    (and_then (gate_on h.lines (length gs + first) (length gs) l) (λ g. read_from h first (gs ++ (g ∷ [])) (at + line_size l) ls))
 
 -- lines from the top; gate lines start at line 1
 unfoldable pub reading : List ℕ → Outcome Reading
 reading text =
     and_then (header_on (first_line (lines_of text))) (λ n.
-    read_from n 1 [] (line_size (first_line (lines_of text))) (later_lines (lines_of text)))
+    read_from (unmarked n) 1 [] (line_size (first_line (lines_of text))) (later_lines (lines_of text)))
+
+-- the number of mark lines of a header
+abbrev pub mark_lines : Header → ℕ
+mark_lines h = count_ones h.constants + count_ones h.junk
+
+-- the line index after its `end`, by what was read: the header line, its mark lines, its gates and `end` stand before
+abbrev pub line_after_end : Reading → ℕ
+line_after_end c = mark_lines c.header + length c.gates + 2
 
 -- ---- the two calls
 
--- what a served reading tells: the line count, the number of gates, the bytes taken
+-- what a served reading tells: the header, the number of gates, the bytes taken
 abbrev pub counts_of : Reading → ReadCounts
-counts_of c = record { lines = c.lines; gates = length c.gates; taken = c.taken }
+counts_of c = record { header = c.header; gates = length c.gates; taken = c.taken }
 
 abbrev pub gates_read : Outcome Reading → List Gate
 gates_read (served c) = c.gates
@@ -186,12 +196,12 @@ read_outcome text room =
 unfoldable pub read_buffer : List ℕ → List ℕ → List ℕ
 read_buffer text out = written (read_outcome text (length out)) (words_of (gates_read (reading text))) out
 
--- 2, 11, 6, 7, 10: the buffer has room for the text
-unfoldable pub write_outcome : ℕ → List ℕ → ℕ → Outcome ℕ
-write_outcome n ws room =
-    and_then (check_outcome n ws max_gates) (λ k.
-    demand (nat_le (length (text_of n (gates_of ws))) room) no_room 0 (served (length (text_of n (gates_of ws)))))
+-- 2, 14, 11, 6, 7, 10: the buffer has room for the text
+unfoldable pub write_outcome : Header → List ℕ → ℕ → Outcome ℕ
+write_outcome h ws room =
+    and_then (headed_outcome h ws max_gates) (λ k.
+    demand (nat_le (length (text_of h (gates_of ws))) room) no_room 0 (served (length (text_of h (gates_of ws)))))
 
 -- the cascade's text at the buffer's start
-unfoldable pub write_buffer : ℕ → List ℕ → List ℕ → List ℕ
-write_buffer n ws out = written (write_outcome n ws (length out)) (text_of n (gates_of ws)) out
+unfoldable pub write_buffer : Header → List ℕ → List ℕ → List ℕ
+write_buffer h ws out = written (write_outcome h ws (length out)) (text_of h (gates_of ws)) out

@@ -2,20 +2,25 @@
 use Rattle.std.specs.Prelude.{◌≡◌, ℕ, ◌+◌, ◌*◌, ◌/◌, ◌<◌, ◌≤◌, true, false, ◌↔◌, List, [], ◌∷◌, ◌++◌, map, length, take, ◌≢◌}
 use Rattle.bits.specs.Lists.{over}
 use Rattle.circuit.specs.declared.gate.Gate.{Gate}
+use Rattle.circuit.specs.declared.header.Header.{Header}
 use Rattle.circuit.specs.Gate.{max_lines, max_gates, Control, Inside}
+use Rattle.circuit.specs.Header.{unmarked, marks_good}
 use Rattle.circuit.specs.Outcome.{Outcome, served, refused, Wrong, Fails, Untouched, Yields}
 use Rattle.circuit.specs.Refusal.{wrong_form, bad_line_count, line_outside, target_controlled, not_rising, too_many_gates, no_room}
-use Rattle.circuit.specs.Words.{gates_of, words_of, all_valid, Cascade, WordsRefused}
+use Rattle.circuit.specs.Words.{gates_of, words_of, all_valid, Headed, HeadedRefused}
 use Rattle.circuit.specs.Text.{lines_word, gate_word, end_word, number_text, control_text, header_line, gate_lines, text_of}
-use Rattle.circuit.specs.File.{Line, first_line, lines_of, fields_of, Reading, reading, read_outcome, read_buffer, write_outcome, write_buffer}
+use Rattle.circuit.specs.File.{Line, first_line, lines_of, fields_of, Reading, mark_lines, reading, read_outcome, read_buffer, write_outcome, write_buffer}
 use Rattle.circuit.specs.declared.file.ReadCounts.{ReadCounts}
 
 -- a cascade that a file can hold
-pub record FileCascade (n : ℕ) (gs : List Gate) : Type 0 where
-  pub lines_low : 1 ≤ n
-  pub lines_high : n ≤ max_lines
+pub record FileCascade (h : Header) (gs : List Gate) : Type 0 where
+  pub lines_low : 1 ≤ h.lines
+  pub lines_high : h.lines ≤ max_lines
+  pub marks : marks_good h ≡ true
   pub few : length gs ≤ max_gates
-  pub gates : all_valid n gs ≡ true
+  pub gates : all_valid h.lines gs ≡ true
+  -- INTERIM: until mark lines are read and written
+  pub plain : h ≡ unmarked h.lines
 
 -- ---- what is wrong with one line
 
@@ -82,17 +87,17 @@ pub data LineOffence (n i count : ℕ) (l : Line) : ℕ → Type 0 where
 -- the lines before are good, and the line or the missing line after them is not
 pub data FileRefused (text : List ℕ) : ℕ → ℕ → Type 0 where
   on_header_line : (number : ℕ) → HeaderOffence (first_line (lines_of text)) number → FileRefused text number 0
-  later_line : (n : ℕ) (gs : List Gate) (rest : List ℕ) → FileCascade n gs → text ≡ header_line n ++ (gate_lines gs ++ rest)
-      → (number : ℕ) → LineOffence n (length gs + 1) (length gs) (first_line (lines_of rest)) number → FileRefused text number (length gs + 1)
+  later_line : (h : Header) (gs : List Gate) (rest : List ℕ) → FileCascade h gs → text ≡ header_line h.lines ++ (gate_lines gs ++ rest)
+      → (number : ℕ) → LineOffence h.lines (mark_lines h + length gs + 1) (length gs) (first_line (lines_of rest)) number → FileRefused text number (mark_lines h + length gs + 1)
 
 -- ---- the laws, of any reader
 
 pub record ReaderLaws (read : List ℕ → Outcome Reading) : Type 0 where
   -- the text of a cascade, followed by anything, is read as that cascade and takes the length of its text
-  pub text_read : (n : ℕ) (gs : List Gate) (rest : List ℕ) → FileCascade n gs
-      → read (text_of n gs ++ rest) ≡ served (record { lines = n; gates = gs; taken = length (text_of n gs) })
+  pub text_read : (h : Header) (gs : List Gate) (rest : List ℕ) → FileCascade h gs
+      → read (text_of h gs ++ rest) ≡ served (record { header = h; gates = gs; taken = length (text_of h gs) })
   -- a text that is read as a cascade, with t bytes taken, has the cascade's text as its first t bytes
-  pub read_text : (text : List ℕ) (c : Reading) → read text ≡ served c → (FileCascade c.lines c.gates) × (take c.taken text ≡ text_of c.lines c.gates)
+  pub read_text : (text : List ℕ) (c : Reading) → read text ≡ served c → (FileCascade c.header c.gates) × (take c.taken text ≡ text_of c.header c.gates)
   -- refused with a number at a place exactly for what is wrong there first
   pub read_refused : (text : List ℕ) (number place : ℕ) → (read text ≡ refused number place) ↔ FileRefused text number place
 
@@ -100,50 +105,50 @@ pub record ReaderLaws (read : List ℕ → Outcome Reading) : Type 0 where
 pub record Readable (text : List ℕ) (room : ℕ) (c : ReadCounts) : Type 0 where
   pub cascade : List Gate
   pub rest : List ℕ
-  pub good : FileCascade c.lines cascade
-  pub starts : text ≡ text_of c.lines cascade ++ rest
+  pub good : FileCascade c.header cascade
+  pub starts : text ≡ text_of c.header cascade ++ rest
   pub gates : c.gates ≡ length cascade
-  pub taken : c.taken ≡ length (text_of c.lines cascade)
+  pub taken : c.taken ≡ length (text_of c.header cascade)
   pub fits : 3 * length cascade ≤ room
 
 -- a text that starts with the text of what is read
 pub record ReadAs (text : List ℕ) (c : Reading) : Type 0 where
-  pub good : FileCascade c.lines c.gates
+  pub good : FileCascade c.header c.gates
   pub rest : List ℕ
-  pub starts : text ≡ text_of c.lines c.gates ++ rest
-  pub bytes : c.taken ≡ length (text_of c.lines c.gates)
+  pub starts : text ≡ text_of c.header c.gates ++ rest
+  pub bytes : c.taken ≡ length (text_of c.header c.gates)
 
 -- what is wrong with the text; or 10 for the text of a cascade and a buffer with room for fewer words than it has
 abbrev pub ReadRefused : List ℕ → ℕ → ℕ → ℕ → Type 0
 ReadRefused text room = Wrong (FileRefused text) (ReadAs text) (λ c. Fails (room < 3 * length c.gates) no_room 0)
 
 -- the words of a cascade, and a buffer that has room for its text of k bytes
-pub record Writable (n : ℕ) (ws : List ℕ) (room k : ℕ) : Type 0 where
+pub record Writable (h : Header) (ws : List ℕ) (room k : ℕ) : Type 0 where
   pub gates : ℕ
-  pub good : Cascade n ws max_gates gates
-  pub bytes : k ≡ length (text_of n (gates_of ws))
+  pub good : Headed h ws max_gates gates
+  pub bytes : k ≡ length (text_of h (gates_of ws))
   pub fits : k ≤ room
 
--- what is wrong with a writing: with the words, or 10 for a cascade and a buffer shorter than its text
-abbrev pub WriteRefused : ℕ → List ℕ → ℕ → ℕ → ℕ → Type 0
-WriteRefused n ws room = Wrong (WordsRefused n ws max_gates) (Cascade n ws max_gates) (λ k. Fails (room < length (text_of n (gates_of ws))) no_room 0)
+-- what is wrong with a writing: with the header or the words, or 10 for a cascade and a buffer shorter than its text
+abbrev pub WriteRefused : Header → List ℕ → ℕ → ℕ → ℕ → Type 0
+WriteRefused h ws room = Wrong (HeadedRefused h ws max_gates) (Headed h ws max_gates) (λ k. Fails (room < length (text_of h (gates_of ws))) no_room 0)
 
 -- of two calls on files, by their outcomes and what they leave in their buffers
 pub record RoundTrip (read : List ℕ → ℕ → Outcome ReadCounts) (read_into : List ℕ → List ℕ → List ℕ)
-    (write : ℕ → List ℕ → ℕ → Outcome ℕ) (write_into : ℕ → List ℕ → List ℕ → List ℕ) : Type 0 where
+    (write : Header → List ℕ → ℕ → Outcome ℕ) (write_into : Header → List ℕ → List ℕ → List ℕ) : Type 0 where
   -- each puts what it is asked for at the buffer's start and leaves the rest; a refused one leaves all of it
-  pub read_leaves : (n : ℕ) (gs : List Gate) (rest out : List ℕ) → FileCascade n gs → 3 * length gs ≤ length out
-      → read_into (text_of n gs ++ rest) out ≡ over (words_of gs) out
+  pub read_leaves : (h : Header) (gs : List Gate) (rest out : List ℕ) → FileCascade h gs → 3 * length gs ≤ length out
+      → read_into (text_of h gs ++ rest) out ≡ over (words_of gs) out
   pub read_untouched : (text out : List ℕ) → Untouched (read text (length out)) out (read_into text out)
-  pub write_leaves : (n : ℕ) (ws out : List ℕ) (k : ℕ) → write n ws (length out) ≡ served k → write_into n ws out ≡ over (text_of n (gates_of ws)) out
-  pub write_untouched : (n : ℕ) (ws out : List ℕ) → Untouched (write n ws (length out)) out (write_into n ws out)
-  -- where writing is served with k bytes, reading the first k of its buffer is served with the line count, the gates and k, and leaves the words at the buffer's start
-  pub write_read : (n : ℕ) (ws out : List ℕ) (k : ℕ) → write n ws (length out) ≡ served k → (into : List ℕ) → length ws ≤ length into
-      → Yields (read (take k (write_into n ws out)) (length into)) (read_into (take k (write_into n ws out)) into)
-      (served (record { lines = n; gates = length ws / 3; taken = k })) (over ws into)
+  pub write_leaves : (h : Header) (ws out : List ℕ) (k : ℕ) → write h ws (length out) ≡ served k → write_into h ws out ≡ over (text_of h (gates_of ws)) out
+  pub write_untouched : (h : Header) (ws out : List ℕ) → Untouched (write h ws (length out)) out (write_into h ws out)
+  -- where writing is served with k bytes, reading the first k of its buffer is served with the header, the gates and k, and leaves the words at the buffer's start
+  pub write_read : (h : Header) (ws out : List ℕ) (k : ℕ) → h ≡ unmarked h.lines → write h ws (length out) ≡ served k → (into : List ℕ) → length ws ≤ length into
+      → Yields (read (take k (write_into h ws out)) (length into)) (read_into (take k (write_into h ws out)) into)
+      (served (record { header = h; gates = length ws / 3; taken = k })) (over ws into)
   -- where reading is served, writing the words of its buffer is served with the bytes taken, and leaves these bytes at the buffer's start
   pub read_write : (text out : List ℕ) (c : ReadCounts) → read text (length out) ≡ served c → (into : List ℕ) → c.taken ≤ length into
-      → Yields (write c.lines (take (3 * c.gates) (read_into text out)) (length into)) (write_into c.lines (take (3 * c.gates) (read_into text out)) into)
+      → Yields (write c.header (take (3 * c.gates) (read_into text out)) (length into)) (write_into c.header (take (3 * c.gates) (read_into text out)) into)
       (served c.taken) (over (take c.taken text) into)
 
 pub record FileLaws : Type 0 where
@@ -151,14 +156,14 @@ pub record FileLaws : Type 0 where
   -- the calls themselves: reading a written cascade gives that cascade, writing a read one the same bytes
   pub round_trip : RoundTrip read_outcome read_buffer write_outcome write_buffer
   -- a reading, or a writing, that leaves its buffer as it was has not these laws
-  pub idle_reading : (read : List ℕ → ℕ → Outcome ReadCounts) (write : ℕ → List ℕ → ℕ → Outcome ℕ) (write_into : ℕ → List ℕ → List ℕ → List ℕ)
+  pub idle_reading : (read : List ℕ → ℕ → Outcome ReadCounts) (write : Header → List ℕ → ℕ → Outcome ℕ) (write_into : Header → List ℕ → List ℕ → List ℕ)
       → RoundTrip read (λ text out. out) write write_into → ⊥
-  pub idle_writing : (read : List ℕ → ℕ → Outcome ReadCounts) (read_into : List ℕ → List ℕ → List ℕ) → RoundTrip read read_into write_outcome (λ n ws out. out) → ⊥
+  pub idle_writing : (read : List ℕ → ℕ → Outcome ReadCounts) (read_into : List ℕ → List ℕ → List ℕ) → RoundTrip read read_into write_outcome (λ h ws out. out) → ⊥
   -- a text is served exactly when it starts with the text of a cascade and the buffer is long enough, and refused exactly by what is wrong
   pub read_served : (text : List ℕ) (room : ℕ) (c : ReadCounts) → (read_outcome text room ≡ served c) ↔ Readable text room c
   pub read_refused : (text : List ℕ) (room number place : ℕ) → (read_outcome text room ≡ refused number place) ↔ ReadRefused text room number place
   -- words are written exactly where they are a cascade's and the buffer has room for its text, and refused exactly by what is wrong
-  pub write_served : (n : ℕ) (ws : List ℕ) (room k : ℕ) → (write_outcome n ws room ≡ served k) ↔ Writable n ws room k
-  pub write_refused : (n : ℕ) (ws : List ℕ) (room number place : ℕ) → (write_outcome n ws room ≡ refused number place) ↔ WriteRefused n ws room number place
+  pub write_served : (h : Header) (ws : List ℕ) (room k : ℕ) → (write_outcome h ws room ≡ served k) ↔ Writable h ws room k
+  pub write_refused : (h : Header) (ws : List ℕ) (room number place : ℕ) → (write_outcome h ws room ≡ refused number place) ↔ WriteRefused h ws room number place
   -- a reader that refuses all does not have the laws
   pub refuses_all : (read : List ℕ → Outcome Reading) → ((text : List ℕ) → (number : ℕ) × (place : ℕ) × (read text ≡ refused number place)) → ReaderLaws read → ⊥

@@ -1,6 +1,7 @@
 -- The text of a cascade, by document 01.
 use Rattle.std.specs.Prelude.{ℕ, ◌+◌, ◌/◌, ◌%◌, cond, List, [], ◌∷◌, ◌++◌, nat_lt}
 use Rattle.circuit.specs.declared.gate.Gate.{Gate}
+use Rattle.circuit.specs.declared.header.Header.{Header}
 use Rattle.circuit.specs.Gate.{Control, controls_of}
 
 -- tab, LF, `+`, `-`, and the digit of a number below 10
@@ -61,5 +62,5 @@ gate_lines [] = []
 gate_lines (g ∷ gs) = gate_line g ++ gate_lines gs
 
 -- first `lines`, n; each gate; last `end`
-abbrev pub text_of : ℕ → List Gate → List ℕ
-text_of n gs = header_line n ++ (gate_lines gs ++ end_line)
+abbrev pub text_of : Header → List Gate → List ℕ
+text_of h gs = header_line h.lines ++ (gate_lines gs ++ end_line)

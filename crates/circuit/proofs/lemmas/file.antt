@@ -1,5 +1,6 @@
--- The laws of `specs/Text.antt` and `specs/File.antt`: `Lines` on lines and fields, `Numbers` on number fields, `Controls` on a gate's controls,
+-- The laws of `specs/Text.antt` and `specs/File.antt`: `Marks` on mark lines, `Lines` on lines and fields, `Numbers` on number fields, `Controls` on a gate's controls,
 -- `Texts` reads what was written, `Offences` tells what a reading says of its text, and `RoundTrip` has the two calls one after the other.
+pub mod Marks
 pub mod Lines
 pub mod Numbers
 pub mod Controls

@@ -1,6 +1,7 @@
 -- For the contracts of the functions that read at a position of a text: what stands there, and where it ends.
 use Rattle.std.specs.Prelude.{ℕ, ◌+◌, Bool, cond, not, ◌&&◌, ◌||◌, List, [], ◌∷◌, Option, None, Some, drop, ◌==◌, nat_le}
 use Rattle.circuit.specs.declared.file.ReadCounts.{ReadCounts}
+use Rattle.circuit.specs.declared.header.Header.{Header}
 use Rattle.circuit.specs.declared.file.scan.Numeral.{Numeral}
 use Rattle.circuit.specs.declared.file.scan.ControlRead.{ControlRead}
 use Rattle.circuit.specs.declared.file.scan.HeaderNext.{HeaderNext}
@@ -61,6 +62,6 @@ abbrev pub controls_next : ℕ → ℕ → ℕ → ℕ → List ℕ → Outcome 
 controls_next n i t at r =
     and_then (and_then (controls_from n i [] (later_fields (fields_of (line_at r).bytes))) (closed_gate i (line_at r).ended t)) (λ g. served (at + line_size (line_at r)))
 
--- the counts of the cascade on n lines whose gate lines start at line 1 and at a position
-abbrev pub counts_from : ℕ → ℕ → List ℕ → Outcome ReadCounts
-counts_from n start text = and_then (read_from n 1 [] start (lines_of (drop start text))) (λ c. served (counts_of c))
+-- the counts of the cascade with this header whose gate lines start at line `first` and at a position
+abbrev pub counts_from : Header → ℕ → ℕ → List ℕ → Outcome ReadCounts
+counts_from h first start text = and_then (read_from h first [] start (lines_of (drop start text))) (λ c. served (counts_of c))

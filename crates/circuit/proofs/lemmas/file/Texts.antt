@@ -3,7 +3,9 @@ use Rattle.std.proofs.Common.{◌≡◌, ℕ, ◌+◌, ◌<◌, ◌≤◌, Bool,
 use Rattle.bits.proofs.Bools.{and_parts, both}
 use Rattle.bits.proofs.Lists.{free, free_append}
 use Rattle.circuit.specs.declared.gate.Gate.{Gate}
+use Rattle.circuit.specs.declared.header.Header.{Header}
 use Rattle.circuit.specs.Gate.{max_lines, max_gates, valid, Control, Inside, controls_of}
+use Rattle.circuit.specs.Header.{unmarked}
 use Rattle.circuit.specs.Outcome.{served, and_then}
 use Rattle.circuit.specs.Words.{all_valid}
 use Rattle.circuit.specs.Text.{tab, line_feed, plus_sign, minus_sign, lines_word, gate_word, end_word, number_text, control_text, controls_text, gate_text, header_line, gate_line, end_line, gate_lines, text_of}
@@ -105,24 +107,25 @@ module _ (n : ℕ) (lines_high : n ≤ max_lines) where
       ∙ closed_good i g.target (controls_of g) (target_apart g m) (controls_rising g)
       ∙ ap served (gate_controls g m)
 
-  -- the gate lines of a cascade
-  pub gates_read_lem : (first : ℕ) (hs gs : List Gate) (at : ℕ) (r : List ℕ) → all_valid n hs ≡ true → length gs + length hs ≤ max_gates
-      → read_from n first gs at (lines_of (gate_lines hs ++ r)) ≡ read_from n first (gs ++ hs) (at + length (gate_lines hs)) (lines_of r)
+-- the gate lines of a cascade
+module _ (h : Header) (lines_high : h.lines ≤ max_lines) where
+  pub gates_read_lem : (first : ℕ) (hs gs : List Gate) (at : ℕ) (r : List ℕ) → all_valid h.lines hs ≡ true → length gs + length hs ≤ max_gates
+      → read_from h first gs at (lines_of (gate_lines hs ++ r)) ≡ read_from h first (gs ++ hs) (at + length (gate_lines hs)) (lines_of r)
   unfolding gate_lines all_valid read_from same
   gates_read_lem first [] gs at r v few =
       let e : at ≡ at + 0 = omega arith in
-      ap₂ (λ (l : List Gate) (k : ℕ). read_from n first l k (lines_of r)) (sym (append-nil gs)) e
-  gates_read_lem first (h ∷ hs) gs at r v few =
-      let (a, b) = and_parts (valid n h) (all_valid n hs) v in
-      let k : length (gs ++ (h ∷ [])) ≡ length gs + 1 = length-append gs (h ∷ []) in
-      let z : length (gate_line h) ≡ length (gate_text h) + 1 = length-append (gate_text h) (line_feed ∷ []) in
-      let m : length (gate_line h ++ gate_lines hs) ≡ length (gate_line h) + length (gate_lines hs) = length-append (gate_line h) (gate_lines hs) in
-      let e : at + (length (gate_text h) + 1) + length (gate_lines hs) ≡ at + length (gate_line h ++ gate_lines hs) = omega arith in
-      ap (λ (x : List ℕ). read_from n first gs at (lines_of x)) (append_assoc (gate_line h) (gate_lines hs) r)
-      ∙ ap (read_from n first gs at) (gate_line_lem h (gate_lines hs ++ r) a)
-      ∙ then_served _ _ h (gate_read h (length gs + first) (length gs) a (omega arith))
-      ∙ gates_read_lem first hs (gs ++ (h ∷ [])) (at + (length (gate_text h) + 1)) r b (omega arith)
-      ∙ ap₂ (λ (l : List Gate) (q : ℕ). read_from n first l q (lines_of r)) (append_assoc gs (h ∷ []) hs) e
+      ap₂ (λ (l : List Gate) (k : ℕ). read_from h first l k (lines_of r)) (sym (append-nil gs)) e
+  gates_read_lem first (g ∷ hs) gs at r v few =
+      let (a, b) = and_parts (valid h.lines g) (all_valid h.lines hs) v in
+      let k : length (gs ++ (g ∷ [])) ≡ length gs + 1 = length-append gs (g ∷ []) in
+      let z : length (gate_line g) ≡ length (gate_text g) + 1 = length-append (gate_text g) (line_feed ∷ []) in
+      let m : length (gate_line g ++ gate_lines hs) ≡ length (gate_line g) + length (gate_lines hs) = length-append (gate_line g) (gate_lines hs) in
+      let e : at + (length (gate_text g) + 1) + length (gate_lines hs) ≡ at + length (gate_line g ++ gate_lines hs) = omega arith in
+      ap (λ (x : List ℕ). read_from h first gs at (lines_of x)) (append_assoc (gate_line g) (gate_lines hs) r)
+      ∙ ap (read_from h first gs at) (gate_line_lem h.lines lines_high g (gate_lines hs ++ r) a)
+      ∙ then_served _ _ g (gate_read h.lines lines_high g (length gs + first) (length gs) a (omega arith))
+      ∙ gates_read_lem first hs (gs ++ (g ∷ [])) (at + (length (gate_text g) + 1)) r b (omega arith)
+      ∙ ap₂ (λ (l : List Gate) (q : ℕ). read_from h first l q (lines_of r)) (append_assoc gs (g ∷ []) hs) e
 
 -- ---- the header and `end`
 
@@ -150,27 +153,30 @@ header_read_lem n low high =
     ∙ demand_met _ _ _ _ (good_lines n low high)
 
 -- a text that starts with a header and gate lines
-pub start_read : (n : ℕ) (gs : List Gate) (r : List ℕ) → FileCascade n gs
-    → reading (header_line n ++ (gate_lines gs ++ r)) ≡ read_from n 1 gs (length (header_line n) + length (gate_lines gs)) (lines_of r)
+pub start_read : (h : Header) (gs : List Gate) (r : List ℕ) → FileCascade h gs
+    → reading (header_line h.lines ++ (gate_lines gs ++ r)) ≡ read_from h 1 gs (length (header_line h.lines) + length (gate_lines gs)) (lines_of r)
 unfolding reading
-start_read n gs r c =
+start_read h gs r c =
+    let n : ℕ = h.lines in
     let x : List ℕ = gate_lines gs ++ r in
     let z : length (number_text n ++ (line_feed ∷ [])) ≡ length (number_text n) + 1 = length-append (number_text n) (line_feed ∷ []) in
     let e : line_size (record { bytes = header_text n; ended = true }) ≡ length (header_line n) = omega arith in
-    ap (λ (ls : List Line). and_then (header_on (first_line ls)) (λ n. read_from n 1 [] (line_size (first_line ls)) (later_lines ls))) (header_line_lem n x c.lines_high)
+    ap (λ (ls : List Line). and_then (header_on (first_line ls)) (λ n. read_from (unmarked n) 1 [] (line_size (first_line ls)) (later_lines ls))) (header_line_lem n x c.lines_high)
     ∙ then_served _ _ n (header_read_lem n c.lines_low c.lines_high)
-    ∙ ap (λ (k : ℕ). read_from n 1 [] k (lines_of x)) e
-    ∙ gates_read_lem n c.lines_high 1 gs [] (length (header_line n)) r c.gates (omega arith)
+    ∙ ap (λ (k : ℕ). read_from (unmarked n) 1 [] k (lines_of x)) e
+    ∙ ap (λ (k : Header). read_from k 1 [] (length (header_line n)) (lines_of x)) (sym c.plain)
+    ∙ gates_read_lem h c.lines_high 1 gs [] (length (header_line n)) r c.gates (omega arith)
 
 -- the text of a cascade, followed by anything
-pub text_read : (n : ℕ) (gs : List Gate) (rest : List ℕ) → FileCascade n gs
-    → reading (text_of n gs ++ rest) ≡ served (record { lines = n; gates = gs; taken = length (text_of n gs) })
+pub text_read : (h : Header) (gs : List Gate) (rest : List ℕ) → FileCascade h gs
+    → reading (text_of h gs ++ rest) ≡ served (record { header = h; gates = gs; taken = length (text_of h gs) })
 unfolding read_from free same
-text_read n gs rest c =
+text_read h gs rest c =
+    let n : ℕ = h.lines in
     let a = length-append (header_line n) (gate_lines gs ++ end_line) in
     let b = length-append (gate_lines gs) end_line in
-    let e : length (header_line n) + length (gate_lines gs) + 4 ≡ length (text_of n gs) = omega arith in
+    let e : length (header_line n) + length (gate_lines gs) + 4 ≡ length (text_of h gs) = omega arith in
     ap reading (append_assoc (header_line n) (gate_lines gs ++ end_line) rest ∙ ap (λ (x : List ℕ). header_line n ++ x) (append_assoc (gate_lines gs) end_line rest))
-    ∙ start_read n gs (end_line ++ rest) c
-    ∙ ap (read_from n 1 gs (length (header_line n) + length (gate_lines gs))) (lines_cut end_word rest refl)
-    ∙ ap (λ (k : ℕ). served (record { lines = n; gates = gs; taken = k })) e
+    ∙ start_read h gs (end_line ++ rest) c
+    ∙ ap (read_from h 1 gs (length (header_line n) + length (gate_lines gs))) (lines_cut end_word rest refl)
+    ∙ ap (λ (k : ℕ). served (record { header = h; gates = gs; taken = k })) e
