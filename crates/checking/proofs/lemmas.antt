@@ -10,6 +10,7 @@ pub mod emission
 pub mod emitter
 pub mod faults
 pub mod miter
+pub mod pair
 pub mod pair_emission
 pub mod reduce
 pub mod step

@@ -74,7 +74,7 @@ module _ (h : Header) (a b : List Gate) (few : h.lines ≤ max_lines) where
   abbrev n : ℕ
   n = h.lines
 
-  side_within : all_valid n a ≡ true → all_valid n b ≡ true → ClausesWithin (used_after_both h a b + length (counted_lines h)) (side_by_side h a b)
+  pub side_within : all_valid n a ≡ true → all_valid n b ≡ true → ClausesWithin (used_after_both h a b + length (counted_lines h)) (side_by_side h a b)
   unfolding side_by_side
   side_within v w =
       let m = used_after_both h a b + length (counted_lines h) in

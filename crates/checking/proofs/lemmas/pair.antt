@@ -1,0 +1,3 @@
+-- The laws of the clause list of two cascades with the same header: `Lines` its constants and the lines that count, `Meaning` what it tells.
+pub mod Lines
+pub mod Meaning
