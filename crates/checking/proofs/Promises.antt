@@ -8,11 +8,12 @@ pub use Rattle.checking.proofs.lemmas.clauses.Laws.{clause_laws}
 pub use Rattle.checking.proofs.lemmas.clauses.Answers.{emit_laws}
 pub use Rattle.checking.proofs.lemmas.EqualityLaws.{equality_laws}
 pub use Rattle.checking.proofs.lemmas.faults.StandIns.{fault_laws}
+pub use Rattle.checking.proofs.lemmas.faults.Unmarked.{unmarked_laws}
 pub use Rattle.checking.proofs.lemmas.faults.Refusals.{refusal_laws}
 -- calls on two cascades
 pub use Rattle.checking.proofs.lemmas.miter.Laws.{miter_refused}
 pub use Rattle.checking.proofs.lemmas.check.Laws.{uncalled_refused, uncalled_served, uncalled_clauses}
-pub use Rattle.checking.proofs.lemmas.compare.Laws.{sweep_says, difference_made, refused_pick, made_pick}
+pub use Rattle.checking.proofs.lemmas.compare.Laws.{Gates, gates_good, agree_state, differ_state, sweep_says, difference_made, refused_pick, made_pick}
 -- clauses: what the list is made of, what satisfies it, and how it is stored and emitted
 pub use Rattle.checking.proofs.lemmas.clauses.Maps.{clauses_none, clauses_next, differences_none, differences_next, list_parts}
 pub use Rattle.checking.proofs.lemmas.clauses.Tests.{some_true, odd_true, holds_or, holds_xor, value_neg, satisfies_none, satisfies_next, satisfies_append}

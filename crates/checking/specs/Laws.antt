@@ -9,6 +9,7 @@ use Rattle.checking.specs.EmitLaws.{EmitLaws}
 use Rattle.checking.specs.Rows.{RowLaws}
 use Rattle.checking.specs.RefusalLaws.{RefusalLaws}
 use Rattle.checking.specs.FaultLaws.{FaultLaws}
+use Rattle.checking.specs.UnmarkedLaws.{UnmarkedLaws}
 
 pub record CheckingLaws : Type 0 where
   pub miter : MiterLaws
@@ -22,3 +23,5 @@ pub record CheckingLaws : Type 0 where
   pub rows : RowLaws
   pub refusals : RefusalLaws
   pub faults : FaultLaws
+  -- two cascades without marks compared
+  pub unmarked : UnmarkedLaws

@@ -26,5 +26,6 @@ pub mod Compare
 pub mod Faults
 pub mod RefusalLaws
 pub mod FaultLaws
+pub mod UnmarkedLaws
 pub mod Laws
 pub mod private

@@ -9,6 +9,7 @@ use Rattle.checking.proofs.lemmas.clauses.Answers.{emit_laws}
 use Rattle.checking.proofs.lemmas.Rows.{row_laws}
 use Rattle.checking.proofs.lemmas.faults.Refusals.{refusal_laws}
 use Rattle.checking.proofs.lemmas.faults.StandIns.{fault_laws}
+use Rattle.checking.proofs.lemmas.faults.Unmarked.{unmarked_laws}
 use Rattle.checking.proofs.laws.Goals as goal
 
 pub returns : goal.returns
@@ -24,4 +25,5 @@ returns c =
       rows = row_laws;
       refusals = refusal_laws;
       faults = fault_laws;
+      unmarked = unmarked_laws;
     }
