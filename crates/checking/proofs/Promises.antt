@@ -21,3 +21,7 @@ pub use Rattle.checking.proofs.lemmas.clauses.Within.{neg_size, neg_within}
 pub use Rattle.checking.proofs.lemmas.clauses.Meaning.{tells_same}
 pub use Rattle.checking.proofs.lemmas.clauses.Reading.{stored_none, stored_next, stored_append, read_back}
 pub use Rattle.checking.proofs.lemmas.clauses.Answers.{emit_cascade}
+-- the clause list of two cascades with the same header
+pub use Rattle.checking.proofs.lemmas.pair.Parts.{marked_parts, unmarked_clauses, unmarked_variables}
+pub use Rattle.checking.proofs.lemmas.pair.Meaning.{tells_unmarked, pair_tells}
+pub use Rattle.checking.proofs.lemmas.pair_emission.Fits.{pair_variables_few}

@@ -1,3 +1,4 @@
--- The laws of the clause list of two cascades with the same header: `Lines` its constants and the lines that count, `Meaning` what it tells.
+-- The laws of the clause list of two cascades with the same header: `Parts` what it is made of, `Lines` its constants and the lines that count, `Meaning` what it tells.
+pub mod Parts
 pub mod Lines
 pub mod Meaning
