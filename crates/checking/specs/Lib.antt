@@ -17,6 +17,7 @@ pub mod Pair
 pub mod PairTold
 pub mod Told
 pub mod Equality
+pub mod StepsAlone
 pub mod Check
 pub mod ClauseLaws
 pub mod EqualityLaws

@@ -26,7 +26,7 @@ use Rattle.checking.specs.ReduceLaws.{Reduces}
 use Rattle.checking.specs.Clauses.{Clause, clauses_of, variables_of, max_variables}
 use Rattle.checking.specs.Satisfaction.{ClausesWithin}
 use Rattle.checking.specs.PairTold.{TellsFor}
-use Rattle.checking.proofs.Promises.{miter_laws, reduce_laws, sweep_says, clause_laws, tells_same, tells_unmarked, pair_tells, pair_variables_few}
+use Rattle.checking.proofs.Promises.{miter_laws, reduce_laws, sweep_says, clause_laws, tells_same, tells_unmarked, pair_tells, differs_for_same, tells_for_same, pair_variables_few}
 use Rattle.text.specs.Formula.{Formula, formula_of, pair_formula}
 use Rattle.text.specs.Compare.{gates_left, alone, left_formula}
 use Rattle.text.specs.private.Words.{AllShort}
@@ -45,32 +45,6 @@ module _ (n : ℕ) (gs : List Gate) (lines : n ≤ max_lines) (valid : all_valid
   -- and are no more
   pub no_more : length (alone gs) ≤ length gs
   no_more = omega (arith, reduce_laws.reduce_count gs _ _ _ reduces_all)
-
--- ---- cascades that run alike
-
-module _ (h : Header) (a b c d : List Gate) (first : (x : ℕ) → run c x ≡ run a x) (second : (x : ℕ) → run d x ≡ run b x) where
-  pub equal_alike : EqualFor h a b → EqualFor h c d
-  equal_alike e x p k l = ap (λ (y : ℕ). bit y k) (first x) ∙ e x p k l ∙ sym (ap (λ (y : ℕ). bit y k) (second x))
-
-  pub differs_alike : (x : ℕ) → DiffersFor h a b x → DiffersFor h c d x
-  differs_alike x d =
-      record {
-        permitted = d.permitted;
-        line = d.line;
-        counts = d.counts;
-        outputs = λ e. d.outputs (sym (ap (λ (y : ℕ). bit y d.line) (first x)) ∙ e ∙ ap (λ (y : ℕ). bit y d.line) (second x));
-      }
-
-pub tells_alike : (h : Header) (variables : ℕ) (cs : List Clause) (a b c d : List Gate) → ((x : ℕ) → run c x ≡ run a x) → ((x : ℕ) → run d x ≡ run b x)
-    → TellsFor h variables cs c d → TellsFor h variables cs a b
-tells_alike h variables cs a b c d first second t =
-    let back = differs_alike h c d a b (λ x. sym (first x)) (λ x. sym (second x)) in
-    record {
-      equal = ((λ e. t.equal.0 (equal_alike h a b c d first second e)), (λ unsat. equal_alike h c d a b (λ x. sym (first x)) (λ x. sym (second x)) (t.equal.1 unsat)));
-      differing = λ x e. t.differing x (differs_alike h a b c d first second x e);
-      no_other = λ σ s. back _ (t.no_other σ s);
-      within = t.within;
-    }
 
 -- ---- two cascades
 
@@ -115,10 +89,15 @@ module _ (h : Header) (a b : List Gate) (good_a : FileCascade h a) (good_b : Fil
   Telling f = TellsFor h f.variables f.clauses a b
 
   -- each alone
+  alone_differs : (x : ℕ) → DiffersFor h (alone a) (alone b) x ↔ DiffersFor h a b x
+  alone_differs x = (
+    differs_for_same h (alone a) (alone b) a b kept_a.same kept_b.same x,
+    differs_for_same h a b (alone a) (alone b) (λ y. sym (kept_a.same y)) (λ y. sym (kept_b.same y)) x,
+  )
+
   alone_tells : Telling (pair_formula h (alone a) (alone b))
   alone_tells =
-      tells_alike h _ _ a b (alone a) (alone b) kept_a.same kept_b.same
-      (pair_tells h (alone a) (alone b) good_a.marks lines kept_a.good kept_b.good)
+      tells_for_same h (alone a) (alone b) a b alone_differs _ _ (pair_tells h (alone a) (alone b) good_a.marks lines kept_a.good kept_b.good)
 
   -- the miter
   miter_tells : marked h ≡ false → Telling (formula_of h.lines gl)
