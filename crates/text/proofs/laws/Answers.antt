@@ -8,7 +8,7 @@ use Rattle.text.proofs.ProgramLaws.{program_laws, program_only, call}
 use Rattle.text.proofs.StandIns.{contradiction_fails, without_first_fails, refuses_all}
 use Rattle.text.proofs.PlainClauses.{plain_satisfied, plain_within, plain_or, plain_each, plain_same}
 use Rattle.text.proofs.plain.Laws.{pair_parts, triple_parts}
-use Rattle.text.proofs.Verdicts.{compares}
+use Rattle.text.proofs.Compares.{compares}
 use Rattle.text.proofs.Rooms.{call as compare-call}
 use Rattle.text.proofs.Longest.{text_fits as compared-fits, room_enough as compared-room}
 use Rattle.text.proofs.Inputs.{state_size, state_line, state_back, state_was, checks, checks_only, call as input-call, text_fits as checked-fits, room_enough as checked-room}
