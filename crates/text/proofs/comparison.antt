@@ -1,2 +1,3 @@
--- `Laws`: what comparing two cascades owes.
+-- `Laws`: what comparing two cascades owes; `Miter`: the miter of two that were read.
+pub mod Miter
 pub mod Laws
