@@ -3,11 +3,19 @@
 ghost use Rattle.std.specs.Prelude.{◌≡◌, ◌/◌, ◌≤◌, length};
 ghost use Rattle.circuit.specs.Gate.{max_gates};
 ghost use Rattle.circuit.specs.Words.{Headed};
+ghost use Rattle.circuit.specs.File.{mark_lines};
 
 use crate::refused::{File, FileRefusal};
 use circuit::gate::Gate;
 use circuit::header::Header;
 use circuit::refusal::Refusal;
+
+// The number of mark lines of a header.
+fn mark_lines(h: Header) -> u64
+    ensures { (result ≡ mark_lines h) × (result ≤ 128) }
+{
+    circuit::gate::count(h.constants) + circuit::gate::count(h.junk)
+}
 
 // A cascade that was read, whose words stand in a lent room.
 #[derive(Clone, Copy)]
@@ -70,7 +78,8 @@ impl<'a> CascadeRead<'a> {
         let start = StartRead::read(text, room)?;
         if start.taken != text.len() {
             let gates = start.cascade.words.len() / Gate::WORDS;
-            return Err(Refusal::WrongForm(gates as u64 + 2));
+            let before = mark_lines(start.cascade.header) + gates as u64;
+            return Err(Refusal::WrongForm(before + 2));
         }
         Ok(start.cascade)
     }
