@@ -5,6 +5,7 @@ use Rattle.checking.specs.ReduceLaws.{ReduceLaws}
 use Rattle.checking.specs.StandIns.{StandInLaws}
 use Rattle.checking.specs.ClauseLaws.{ClauseLaws}
 use Rattle.checking.specs.EqualityLaws.{EqualityLaws}
+use Rattle.checking.specs.PairLaws.{PairLaws}
 use Rattle.checking.specs.EmitLaws.{EmitLaws}
 use Rattle.checking.specs.Rows.{RowLaws}
 use Rattle.checking.specs.RefusalLaws.{RefusalLaws}
@@ -19,6 +20,8 @@ pub record CheckingLaws : Type 0 where
   pub clauses : ClauseLaws
   -- demand 3
   pub equality : EqualityLaws
+  -- the theorem for pairs
+  pub pairs : PairLaws
   pub emission : EmitLaws
   pub rows : RowLaws
   pub refusals : RefusalLaws

@@ -17,10 +17,12 @@ pub mod Pair
 pub mod PairTold
 pub mod Told
 pub mod Equality
+pub mod PairEquality
 pub mod StepsAlone
 pub mod Check
 pub mod ClauseLaws
 pub mod EqualityLaws
+pub mod PairLaws
 pub mod EmitLaws
 pub mod Rows
 pub mod Compare

@@ -1,3 +1,2 @@
--- `Laws`: what comparing two cascades owes; `Miter`: the miter of two that were read.
-pub mod Miter
+-- `Laws`: what comparing two cascades owes.
 pub mod Laws

@@ -1,12 +1,14 @@
 // Two cascades compared: by the reduction of their miter, by the sweep, or by clauses for a solver.
 
-ghost use Rattle.std.specs.Prelude.{◌*◌, ◌^◌, ◌≤◌, length, take};
+ghost use Rattle.std.specs.Prelude.{◌≡◌, ◌*◌, ◌^◌, ◌≤◌, length, take};
+ghost use Rattle.circuit.specs.Outcome.{outcome_of};
 ghost use Rattle.circuit.specs.Words.{gates_of};
 ghost use Rattle.checking.specs.Reduce.{reduce_gates};
 ghost use Rattle.checking.specs.Compare.{max_sweep_lines, lowest_from};
 ghost use Rattle.text.specs.Compare.{max_list, file_words, miter_words, gates_left, alone, swept_as, list_as, compared, comparison};
 ghost use Rattle.text.specs.Formula.{formula_of, pair_formula};
-ghost use Rattle.text.specs.private.Comparing.{MiterWords, MiterCascade, LeftIn, AloneIn, SaysCompared, SaysAny};
+ghost use Rattle.text.specs.FileOutcome.{answer_of};
+ghost use Rattle.text.specs.private.Comparing.{MiterWords, MiterCascade, LeftIn, listed_as, SaysCompared, SaysAny};
 
 use crate::pair::{CascadeRead, PairRead};
 use crate::refused::{File, FileRefusal};
@@ -71,30 +73,33 @@ fn sweep(pair: PairRead) -> Compared
     }
 }
 
-// The clause list of gates, in the room; else 10.
-fn list_gates(n: u64, words: &[u64], clauses: &mut [ClauseWord]) -> Result<Compared, FileRefusal>
-    requires miter_cascade { MiterCascade n words.now }
-    requires clause_room { max_list ≤ length clauses.old }
-    ensures { SaysCompared result clauses.new (list_as (formula_of n (gates_of words.now))) }
+// The totals of a clause list that was emitted, where it is no longer than one may be; else 10.
+fn listed(emitted: Result<Totals, Refusal>) -> Result<Compared, FileRefusal>
+    ensures { answer_of result ≡ listed_as (outcome_of emitted) }
 {
-    let totals = File::Both.of(checking::clauses::emit(n, words, clauses))?;
+    let totals = File::Both.of(emitted)?;
     if (crate::MAX_LIST as u64) < totals.words {
         return Err(FileRefusal::both(Refusal::NoRoom));
     }
     Ok(Compared::Clauses(totals))
 }
 
+// The clause list of gates; else 10.
+fn list_gates(n: u64, words: &[u64], clauses: &mut [ClauseWord]) -> Result<Compared, FileRefusal>
+    requires miter_cascade { MiterCascade n words.now }
+    requires clause_room { max_list ≤ length clauses.old }
+    ensures { SaysCompared result clauses.new (list_as (formula_of n (gates_of words.now))) }
+{
+    listed(checking::clauses::emit(n, words, clauses))
+}
+
 // The gates that the full reduction of a cascade leaves, at the room's start; how many.
 fn reduce_alone(cascade: CascadeRead, room: &mut [u64]) -> usize
     requires { file_words ≤ length room.old }
-    ensures { AloneIn cascade.entry.header.lines result room.new (alone (gates_of cascade.entry.words.now)) }
+    ensures { LeftIn cascade.entry.header.lines result room.new (alone (gates_of cascade.entry.words.now)) }
 {
-    crate::put::put(room, cascade.words);
-    reduce_gates(
-        cascade.header.lines,
-        cascade.words.len() / Gate::WORDS,
-        room,
-    )
+    let gates = crate::put::put(room, cascade.words) / Gate::WORDS;
+    reduce_gates(cascade.header.lines, gates, room)
 }
 
 // The clause list of two cascades, each reduced alone in its part of `room`; else 10.
@@ -108,20 +113,16 @@ fn list_alone(
     ensures { SaysCompared result clauses.new (list_as (pair_formula pair.entry.first.header (alone (gates_of pair.entry.first.words.now)) (alone (gates_of pair.entry.second.words.now)))) }
 {
     let PairRead { first, second } = pair;
-    let end = Gate::WORDS * reduce_alone(first, room);
-    let start = crate::FILE_WORDS;
-    let last = start + Gate::WORDS * reduce_alone(second, &mut room[start..]);
-    let totals = File::Both.of(checking::pair::emit(
+    let (a, b) = room.split_at_mut(crate::FILE_WORDS);
+    let i = Gate::WORDS * reduce_alone(first, a);
+    let j = Gate::WORDS * reduce_alone(second, b);
+    listed(checking::pair::emit(
         first.header,
-        &room[..end],
+        &a[..i],
         second.header,
-        &room[start..last],
+        &b[..j],
         clauses,
-    ))?;
-    if (crate::MAX_LIST as u64) < totals.words {
-        return Err(FileRefusal::both(Refusal::NoRoom));
-    }
-    Ok(Compared::Clauses(totals))
+    ))
 }
 
 // Compares two cascades; the miter and what the reduction leaves of it, or of each alone, stand in `room`.

@@ -5,6 +5,7 @@ use Rattle.checking.proofs.lemmas.reduce.Relation.{reduce_laws}
 use Rattle.checking.proofs.lemmas.StandIns.{stand_in_laws}
 use Rattle.checking.proofs.lemmas.clauses.Laws.{clause_laws}
 use Rattle.checking.proofs.lemmas.EqualityLaws.{equality_laws}
+use Rattle.checking.proofs.lemmas.pair.Laws.{pair_laws}
 use Rattle.checking.proofs.lemmas.clauses.Answers.{emit_laws}
 use Rattle.checking.proofs.lemmas.Rows.{row_laws}
 use Rattle.checking.proofs.lemmas.faults.Refusals.{refusal_laws}
@@ -21,6 +22,7 @@ returns c =
       stand_ins = stand_in_laws;
       clauses = clause_laws;
       equality = equality_laws;
+      pairs = pair_laws;
       emission = emit_laws;
       rows = row_laws;
       refusals = refusal_laws;

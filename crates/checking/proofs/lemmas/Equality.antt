@@ -1,6 +1,5 @@
 -- Demand 3: the calls keep what stands, and the emitted clauses tell on which states the two cascades differ. Assumes nothing.
-use Rattle.std.proofs.Common.{◌≡◌, ℕ, ◌+◌, ◌*◌, ◌≤◌, true, ◌↔◌, List, [], ◌∷◌, length, take, drop, ℤ, sym, refl, ap, ◌∙◌, subst, arith, le-leb}
-use Rattle.bits.specs.Lists.{over}
+use Rattle.std.proofs.Common.{◌≡◌, ℕ, ◌+◌, ◌*◌, ◌≤◌, true, ◌↔◌, List, [], ◌∷◌, length, take, ℤ, sym, refl, ap, ◌∙◌, subst, arith, le-leb}
 use Rattle.circuit.specs.declared.gate.Gate.{Gate}
 use Rattle.circuit.specs.Gate.{max_lines, max_miter_gates}
 use Rattle.circuit.specs.Outcome.{Outcome, served, refused, written}
@@ -14,7 +13,7 @@ use Rattle.checking.specs.StepLaws.{Steps, Keeps, Stands}
 use Rattle.checking.specs.Reduce.{Reduced, reduce_gates, reduce_outcome, reduce_buffer}
 use Rattle.checking.specs.ReduceLaws.{Reduces}
 use Rattle.checking.specs.Clauses.{Clause, clauses_of, variables_of}
-use Rattle.checking.specs.Stored.{stored, clauses_in}
+use Rattle.checking.specs.Stored.{stored}
 use Rattle.checking.specs.Sizes.{totals, sizes_of, sizes_outcome}
 use Rattle.checking.specs.Emit.{emit_outcome, emit_buffer}
 use Rattle.checking.specs.Equality.{step_leaves, reduce_leaves, after, after_all, miter_leaves, left_after, Emitted, EqualityOf, Equality}
@@ -26,6 +25,7 @@ use Rattle.checking.proofs.lemmas.step.Laws.{none_kept, step_laws}
 use Rattle.checking.proofs.lemmas.reduce.Relation.{reduce_laws}
 use Rattle.checking.proofs.lemmas.clauses.Meaning.{tells_same}
 use Rattle.checking.proofs.lemmas.clauses.Laws.{clause_laws}
+use Rattle.checking.proofs.lemmas.Listed.{Listed, are_read}
 
 -- ---- what stands
 
@@ -97,19 +97,11 @@ after_calls n start (c ∷ calls) ws g = after_calls n start calls (after c ws) 
 
 -- ---- the emission
 
-pub served_same : (t u : Totals) → served t ≡ served u → t ≡ u
-served_same t u e = cc
-
--- an answer and a buffer that are those of the clause list of the gates that stand
-pub record Lists (n : ℕ) (gs : List Gate) (out : List ℤ) (answer : Outcome Totals) (buffer : List ℤ) : Type 0 where
-  pub counts : answer ≡ served (totals (variables_of n gs) (length (clauses_of n gs)) (length (stored (clauses_of n gs))))
-  pub words : buffer ≡ over (stored (clauses_of n gs)) out
-
 -- of words of a cascade, and a buffer that is long enough
 abbrev pub ListedBy : (ℕ → List ℕ → ℕ → Outcome Totals) → (ℕ → List ℕ → List ℤ → List ℤ) → Type 0
 ListedBy emits leaves =
     (n : ℕ) (ws : List ℕ) (k : ℕ) (out : List ℤ) → Cascade n ws max_miter_gates k → length (stored (clauses_of n (gates_of ws))) ≤ length out
-    → Lists n (gates_of ws) out (emits n ws (length out)) (leaves n ws out)
+    → Listed (variables_of n (gates_of ws)) (clauses_of n (gates_of ws)) out (emits n ws (length out)) (leaves n ws out)
 
 listed : ListedBy emit_outcome emit_buffer
 unfolding emit_outcome emit_buffer sizes_outcome
@@ -136,7 +128,7 @@ module _ (n : ℕ) (a b ws : List ℕ) (out : List ℤ) (g : Standing n (miter_g
       let m = miter_laws.identity (gates_of a) (gates_of b) x in
       ((λ e. m.0 (sym (g.same x) ∙ e ∙ run_none x)), (λ e. g.same x ∙ m.1 e ∙ sym (run_none x)))
 
-  emitted : (answer : Outcome Totals) (buffer : List ℤ) → Lists n gs out answer buffer → Emitted n a b answer buffer
+  emitted : (answer : Outcome Totals) (buffer : List ℤ) → Listed (variables_of n gs) cs out answer buffer → Emitted n a b answer buffer
   emitted answer buffer l =
       record {
         totals = totals (variables_of n gs) (length cs) (length (stored cs));
@@ -144,7 +136,7 @@ module _ (n : ℕ) (a b ws : List ℕ) (out : List ℤ) (g : Standing n (miter_g
         told =
             record {
               clauses = cs;
-              are_read = ap (λ (ws : List ℤ). clauses_in (take (length (stored cs)) ws)) l.words ∙ clause_laws.read_back cs (drop (length (stored cs)) out);
+              are_read = are_read (variables_of n gs) cs out answer buffer l;
               counted = refl;
               tells =
                   tells_same n (variables_of n gs) cs gs [] (gates_of a) (gates_of b) same_states
