@@ -26,6 +26,7 @@ use Rattle.text.proofs.FileOutcome.{not_refused, unanswered}
 use Rattle.text.proofs.Fields.{differ_apart}
 use Rattle.text.proofs.Strict.{text_was}
 use Rattle.text.proofs.Verdicts.{judged_is}
+use Rattle.text.proofs.Pairs.{listable}
 use Rattle.text.proofs.Reduced.{found}
 use Rattle.text.proofs.Compares.{by_none, by_sweep, by_clauses, list_fits, list_long}
 use Rattle.text.proofs.StandIns.{once, once_runs, none_good, once_good, first, second, first_bytes, second_bytes}
@@ -198,7 +199,7 @@ module _ (one two : List ℕ) where
     -- what the sweep says is what it found
     by_found : (d : Difference) → ((e : Difference) → sweep.Says h a b (served e) → e ≡ d) → (gates_left a b ≡ [] → ⊥) → h.lines ≤ max_sweep_lines
         → compared h a b ≡ answered (swept_as a b d)
-    by_found d only more few = by_sweep h a b more few ∙ ap (λ (e : Difference). answered (swept_as a b e)) (only _ (found h a b t.first_good t.second_good))
+    by_found d only more few = by_sweep h a b more few ∙ ap (λ (e : Difference). answered (swept_as a b e)) (only _ (found h a b (listable h a b t.first_good t.second_good)))
 
   decided : (text : List ℕ) → MayWrite one two text → text ≡ compare_text one two
   decided text (refuses k f p e s) = e ∙ sym (text_at (refused_at k f p) (judged_is one two (refused_at k f p) s))
