@@ -17,7 +17,7 @@ use Rattle.circuit.specs.Run.{run, EqualFor}
 use Rattle.circuit.specs.Text.{number_text, controls_text, gate_lines, text_of}
 use Rattle.circuit.specs.FileLaws.{FileCascade}
 use Rattle.circuit.specs.Header.{unmarked}
-use Rattle.circuit.proofs.Promises.{unmarked_good, unmarked_equal}
+use Rattle.circuit.proofs.Promises.{run_none, unmarked_good, unmarked_equal}
 use Rattle.checking.specs.Clauses.{Clause, OR, up_from, moved, gates_clauses, used_after, current_after, targeted, difference_clauses, clauses_of, variables_of}
 use Rattle.checking.specs.Pair.{pair_clauses, pair_variables}
 use Rattle.checking.specs.PairTold.{TellsFor}
@@ -57,7 +57,7 @@ once_good = record { lines_low = omega arith; lines_high = omega arith; marks = 
 -- which differ on state 0
 pub once_differs : EqualFor plain once [] → ⊥
 once_differs e =
-    let f : run once 0 ≡ 0 = (unmarked_equal 1 once [] once_good.gates none_good.gates).0 e 0 (omega arith) in
+    let f : run once 0 ≡ 0 = (unmarked_equal 1 once [] once_good.gates none_good.gates).0 e 0 (omega arith) ∙ run_none 0 in
     let z : ◌≡◌ {A = ℕ} 0 1 = sym f ∙ once_runs in
     omega arith
 

@@ -3,7 +3,7 @@ use Rattle.text.proofs.Reading.{number_back, text_back}
 use Rattle.text.proofs.Fields.{refusal_fields, refusal_apart, differ_fields}
 use Rattle.text.proofs.Strict.{text_was}
 use Rattle.text.proofs.Sizes.{text_fits, room_enough}
-use Rattle.text.proofs.Telling.{as_built}
+use Rattle.text.proofs.Telling.{as_built, unmarked_text}
 use Rattle.text.proofs.ProgramLaws.{program_laws, program_only, call}
 use Rattle.text.proofs.StandIns.{contradiction_fails, without_first_fails, refuses_all}
 use Rattle.text.proofs.PlainClauses.{plain_satisfied, plain_within, plain_or, plain_each, plain_same}
@@ -28,6 +28,7 @@ returns c =
             refusal_apart = refusal_apart;
             program = program_laws;
             as_built = as_built;
+            unmarked_text = unmarked_text;
             program_only = program_only;
             contradiction_fails = contradiction_fails;
             without_first_fails = without_first_fails;
