@@ -1,5 +1,6 @@
 -- The facts about the tables of rows. Assumes nothing.
-use mathlib.Core.Path.{refl}
+use mathlib.Core.Path.{◌≡◌, refl}
+use mathlib.Core.List.{[], ◌∷◌}
 use Rattle.bits.specs.Lists.{fold}
 use Rattle.bits.specs.Digits.{bit}
 use lib.Count.{ones}
@@ -10,7 +11,7 @@ use Rattle.checking.specs.Match.{control_lines, targets_uncontrolled, opposing, 
 use Rattle.checking.specs.Step.{scan_from, search_from, replaced, step_gates}
 use Rattle.checking.specs.Reduce.{reduce_by, reduce_gates}
 use Rattle.checking.specs.Compare.{lowest_from}
-use Rattle.checking.specs.Clauses.{moved, gates_clauses, used_after, current_after, targeted, up_from, difference_clauses, clauses_of, variables_of}
+use Rattle.checking.specs.Clauses.{OR, moved, gates_clauses, used_after, current_after, targeted, up_from, difference_clauses, clauses_of, variables_of}
 use Rattle.checking.specs.Pair.{pair_clauses, pair_variables}
 use Rattle.checking.specs.Stored.{stored}
 use Rattle.text.specs.Dimacs.{decimal_within, decimal, literals_text, clauses_text, header_text, dimacs_of}
@@ -21,6 +22,10 @@ use Rattle.text.specs.Plain.{negations, plain_clauses}
 use Rattle.text.specs.Compare.{second_file, files_of, left_formula, list_as, compared, comparison, differ_text, compare_text}
 use Rattle.text.specs.CheckInput.{state_text, state_read, checked, outputs_text, check_text}
 use Rattle.text.specs.Rows.{RowsHold, text_rows, FilesHold, files_rows, InputsHold, input_rows}
+
+pub empty_or : dimacs_of 1 (OR [] ∷ []) ≡ 112 ∷ 32 ∷ 99 ∷ 110 ∷ 102 ∷ 32 ∷ 49 ∷ 32 ∷ 49 ∷ 10 ∷ 32 ∷ 48 ∷ 10 ∷ []
+unfolding decimal_within decimal clauses_text header_text dimacs_of
+empty_or = refl
 
 pub rows_hold : RowsHold text_rows
 unfolding bit controls_below lines_of parted_by same number_of line_of control_of controls_from among rising_from mask_of closed_gate gate_fields header_fields read_from reading moved gates_clauses used_after current_after targeted up_from difference_clauses clauses_of variables_of pair_clauses pair_variables ones stored decimal_within decimal literals_text clauses_text header_text dimacs_of list_verdict pair_verdict whole_file second_verdict verdict refusal_text tomiter_text

@@ -1,7 +1,7 @@
 -- No text is longer than `max_text`. Assumes nothing.
 use mathlib.Core.Path.{◌≡◌, refl, sym, ap, subst}
 use mathlib.Core.List.{List, [], ◌∷◌, ◌++◌}
-use Prim.Native.Nat.{ℕ, suc, ◌*◌, ◌≤◌, ◌<◌}
+use Prim.Native.Nat.{ℕ, suc, ◌+◌, ◌*◌, ◌≤◌, ◌<◌}
 use native.Mathlib.Nat.{le_trans}
 use native.Mathlib.Omega.{arith}
 use lib.Dec.{leb}
@@ -23,7 +23,7 @@ use Rattle.checking.specs.Clauses.{Clause, OR, XOR, max_variables}
 use Rattle.checking.specs.Satisfaction.{variable_of, LiteralsWithin, clause_literals, ClausesWithin}
 use Rattle.checking.specs.Stored.{stored_clause, stored}
 use Rattle.checking.proofs.Promises.{stored_next}
-use Rattle.text.specs.Dimacs.{blank, decimal, literal_text, literals_text, closing, clause_text, clauses_text, header_text, dimacs_of}
+use Rattle.text.specs.Dimacs.{blank, decimal, literal_text, literals_text, body_text, closing, clause_text, clauses_text, header_text, dimacs_of}
 use Rattle.text.specs.Formula.{Formula}
 use Rattle.text.specs.WholeFile.{whole_file, WholeRefused}
 use Rattle.text.specs.FileOutcome.{FileOutcome, answered, refused_at, of_file}
@@ -50,9 +50,14 @@ literals_few v [] h w = omega arith
 literals_few v (l ∷ ls) h w =
     omega (arith, literal_few v l h w.0.1, literals_few v ls h w.1, length-append (literal_text l ++ (blank ∷ [])) (literals_text ls), length-append (literal_text l) (blank ∷ []))
 
+-- the blank of no literals is one byte
+pub body_few : (v : ℕ) (ls : List ℤ) → v ≤ max_variables → LiteralsWithin v ls → length (body_text ls) ≤ 6 * length ls + 1
+body_few v [] h w = omega arith
+body_few v (l ∷ ls) h w = omega (arith, literals_few v (l ∷ ls) h w)
+
 clause_few : (v : ℕ) (c : Clause) → v ≤ max_variables → LiteralsWithin v (clause_literals c) → length (clause_text c) ≤ 6 * length (stored_clause c)
-clause_few v (OR ls) h w = omega (arith, literals_few v ls h w, length-append (literals_text ls) closing)
-clause_few v (XOR ls) h w = omega (arith, literals_few v ls h w, length-append (literals_text ls) closing)
+clause_few v (OR ls) h w = omega (arith, body_few v ls h w, length-append (body_text ls) closing)
+clause_few v (XOR ls) h w = omega (arith, body_few v ls h w, length-append (body_text ls) closing)
 
 clauses_few : (v : ℕ) (cs : List Clause) → v ≤ max_variables → ClausesWithin v cs → length (clauses_text cs) ≤ 6 * length (stored cs)
 unfolding clauses_text

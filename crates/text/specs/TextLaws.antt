@@ -81,6 +81,8 @@ pub record TextLaws : Type 0 where
       → dimacs_read (dimacs_of variables cs) ≡ some (record { variables = variables; count = length cs; clauses = cs })
   -- and only such a text is read
   pub read_text : (text : List ℕ) (d : Dimacs) → dimacs_read text ≡ some d → text ≡ header_text d.variables d.count ++ clauses_text d.clauses
+  -- the text of an OR without literals: `p cnf 1 1` and the line ` 0`
+  pub empty_or : dimacs_of 1 (OR [] ∷ []) ≡ 112 ∷ 32 ∷ 99 ∷ 110 ∷ 102 ∷ 32 ∷ 49 ∷ 32 ∷ 49 ∷ 10 ∷ 32 ∷ 48 ∷ 10 ∷ []
   -- a number is read back
   pub number_back : (k : ℕ) → number_read (decimal k) ≡ some k
   -- the fields of a refusal's text; so it tells its number, its file and its place

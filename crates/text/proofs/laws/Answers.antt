@@ -13,7 +13,7 @@ use Rattle.text.proofs.Rooms.{call as compare-call}
 use Rattle.text.proofs.Longest.{text_fits as compared-fits, room_enough as compared-room}
 use Rattle.text.proofs.Inputs.{state_size, state_line, state_back, state_was, checks, checks_only, call as input-call, text_fits as checked-fits, room_enough as checked-room}
 use Rattle.text.proofs.Others.{refused_told, equal_true, differ_true, always_equal, always_asks, compares_only}
-use Rattle.text.proofs.Rows.{rows_hold, files_hold, inputs_hold}
+use Rattle.text.proofs.Rows.{empty_or, rows_hold, files_hold, inputs_hold}
 use Rattle.text.proofs.laws.Goals as goal
 
 pub returns : goal.returns
@@ -23,6 +23,7 @@ returns c =
           record {
             read_back = text_back;
             read_text = text_was;
+            empty_or = empty_or;
             number_back = number_back;
             refusal_fields = refusal_fields;
             refusal_apart = refusal_apart;
