@@ -14,11 +14,9 @@ use Rattle.circuit.specs.Outcome.{served}
 use Rattle.circuit.specs.Refusal.{no_room}
 use Rattle.checking.specs.Compare.{max_sweep_lines, Difference, none, lowest, lowest_from}
 use Rattle.checking.specs.Compare as sweep
-use Rattle.checking.specs.Clauses.{Clause}
 use Rattle.checking.specs.PairTold.{TellsFor}
 use Rattle.checking.specs.Stored.{stored}
-use Rattle.checking.proofs.Promises.{sweep_says}
-use Rattle.text.specs.Dimacs.{dimacs_of, dimacs_read}
+use Rattle.text.specs.Dimacs.{dimacs_of}
 use Rattle.text.specs.Formula.{Formula}
 use Rattle.text.specs.Plain.{plain_clauses}
 use Rattle.text.specs.BytesTell.{TextTells}

@@ -21,7 +21,7 @@ use Rattle.checking.specs.StepLaws.{Keeps}
 use Rattle.checking.specs.Reduce.{reduce_gates}
 use Rattle.checking.specs.Compare.{lowest_from, Says}
 use Rattle.checking.specs.ReduceLaws.{Reduces}
-use Rattle.checking.specs.Clauses.{Clause, clauses_of, variables_of, max_variables}
+use Rattle.checking.specs.Clauses.{clauses_of, variables_of, max_variables}
 use Rattle.checking.specs.Satisfaction.{ClausesWithin}
 use Rattle.checking.specs.PairTold.{TellsFor}
 use Rattle.checking.proofs.Promises.{miter_laws, reduce_laws, sweep_says, clause_laws, tells_same, tells_unmarked, differs_for_same, tells_for_same}

@@ -1,6 +1,6 @@
 -- What comparing two cascades owes, case by case. Assumes nothing.
 use mathlib.Core.Path.{◌≡◌, refl, sym, ap, ap₂, subst, ◌∙◌}
-use mathlib.Core.Bool.{Bool, true, false}
+use mathlib.Core.Bool.{true, false}
 use mathlib.Core.List.{List, [], ◌++◌}
 use Prim.Native.Nat.{ℕ, ◌+◌, ◌*◌, ◌^◌, ◌≤◌, ◌<◌}
 use native.Mathlib.Omega.{arith}
@@ -8,7 +8,7 @@ use lib.Dec.{leb}
 use lib.IntN.{ℤ}
 use lib.ListN.{length, take, drop, length-append}
 use lib.Seq.{length-take-le, take-append-le}
-use borrow.Author.Tests.{le-leb, lt-leb, leb-true, leb-false}
+use borrow.Author.Tests.{le-leb, leb-true, leb-false}
 use Rattle.bits.specs.Lists.{over}
 use Rattle.bits.proofs.Bools.{either}
 use Rattle.bits.proofs.Lists.{empty}
@@ -35,8 +35,8 @@ use Rattle.text.specs.declared.comparison.Compared.{Compared}
 use Rattle.text.specs.declared.comparison.Compared.TheVariants.{Clauses}
 use Rattle.text.specs.declared.refused.FileRefusal.{FileRefusal}
 use Rattle.text.specs.Formula.{Formula, formula_of, pair_formula}
-use Rattle.text.specs.FileOutcome.{FileOutcome, answered, refused_at, of_both, of_file, answer_of, map_answer}
-use Rattle.text.specs.Compare.{miter_words, max_list, Comparison, unsolved, gates_left, alone, swept_as, list_as}
+use Rattle.text.specs.FileOutcome.{FileOutcome, answered, refused_at, answer_of, map_answer}
+use Rattle.text.specs.Compare.{miter_words, max_list, Comparison, unsolved, alone, swept_as, list_as}
 use Rattle.text.specs.private.Lists.{ListStands}
 use Rattle.text.specs.private.Words.{AllShort}
 use Rattle.text.specs.private.Comparing.{MiterWords, MiterCascade, LeftIn, listed_as, compared_as, ClausesReady, ComparedReady, InClauses, SaysCompared, SaysAny}
