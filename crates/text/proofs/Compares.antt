@@ -14,11 +14,9 @@ use Rattle.circuit.specs.Outcome.{served}
 use Rattle.circuit.specs.Refusal.{no_room}
 use Rattle.checking.specs.Compare.{max_sweep_lines, Difference, none, lowest, lowest_from}
 use Rattle.checking.specs.Compare as sweep
-use Rattle.checking.specs.Clauses.{Clause}
 use Rattle.checking.specs.PairTold.{TellsFor}
 use Rattle.checking.specs.Stored.{stored}
-use Rattle.checking.proofs.Promises.{sweep_says}
-use Rattle.text.specs.Dimacs.{dimacs_of, dimacs_read}
+use Rattle.text.specs.Dimacs.{dimacs_of}
 use Rattle.text.specs.Formula.{Formula}
 use Rattle.text.specs.Plain.{plain_clauses}
 use Rattle.text.specs.BytesTell.{TextTells}
@@ -30,6 +28,7 @@ use Rattle.text.specs.CompareLaws.{MayWrite, refuses, overflows, reduces, sweeps
 use Rattle.text.proofs.Reading.{text_back}
 use Rattle.text.proofs.PlainClauses.{plain_or, plain_tells}
 use Rattle.text.proofs.Verdicts.{Judged, judged}
+use Rattle.text.proofs.Pairs.{listable}
 use Rattle.text.proofs.Reduced.{none_equal, found, left_tells}
 
 -- ---- what is decided of two cascades, by cases
@@ -93,7 +92,7 @@ module _ (first second : List ℕ) (h : Header) (a b : List Gate) (t : TwoFiles 
   text = dimacs_of f.variables (plain_clauses f.clauses)
 
   tells : TellsFor h f.variables (plain_clauses f.clauses) a b
-  tells = plain_tells h f.variables f.clauses a b (left_tells h a b t.first_good t.second_good)
+  tells = plain_tells h f.variables f.clauses a b (left_tells h a b (listable h a b t.first_good t.second_good))
 
   text_tells : TextTells text h a b
   text_tells =
@@ -113,8 +112,8 @@ module _ (first second : List ℕ) (h : Header) (a b : List Gate) (t : TwoFiles 
   unfolding text_tells
   compared_claim =
       by_cases (λ c. MayWrite first second (compared_text c)) h a b
-      (λ e. reduces h a b t refl e (none_equal h a b t.first_good t.second_good e))
-      (λ more l. by_difference more l (lowest_from h a b 0 (2 ^ h.lines)) (found h a b t.first_good t.second_good))
+      (λ e. reduces h a b t refl e (none_equal h a b (listable h a b t.first_good t.second_good) e))
+      (λ more l. by_difference more l (lowest_from h a b 0 (2 ^ h.lines)) (found h a b (listable h a b t.first_good t.second_good)))
       (λ more l few. asks h a b t refl text_tells (plain_or f.clauses) more l few)
       (λ more l long. overflows h a b t refl more l long)
 

@@ -25,6 +25,7 @@ use Rattle.text.proofs.Decimal.{decimal_few}
 use Rattle.text.proofs.Sizes.{variable_few, whole_few}
 use Rattle.text.proofs.Rooms.{rooms_good}
 use Rattle.text.proofs.Verdicts.{Judged, judged}
+use Rattle.text.proofs.Pairs.{listable}
 use Rattle.text.proofs.Reduced.{found, left_variables, left_short, left_within}
 use Rattle.text.proofs.Compares.{by_cases}
 use Rattle.text.proofs.plain.Laws.{plain_few}
@@ -64,14 +65,14 @@ module _ (first second : List ℕ) (h : Header) (a b : List Gate) (t : TwoFiles 
 
   list_few : length (stored f.clauses) ≤ max_list → length (dimacs_of f.variables (plain_clauses f.clauses)) ≤ max_compared
   list_few few =
-      let (x, y) = plain_few f.clauses (left_short h a b t.first_good t.second_good) (left_within h a b t.first_good t.second_good) in
-      omega (arith, x, few, header_few f.variables (length (plain_clauses f.clauses)) (left_variables h a b t.first_good t.second_good) (omega (arith, y)), dimacs_long f.variables (plain_clauses f.clauses))
+      let (x, y) = plain_few f.clauses (left_short h a b (listable h a b t.first_good t.second_good)) (left_within h a b (listable h a b t.first_good t.second_good)) in
+      omega (arith, x, few, header_few f.variables (length (plain_clauses f.clauses)) (left_variables h a b (listable h a b t.first_good t.second_good)) (omega (arith, y)), dimacs_long f.variables (plain_clauses f.clauses))
 
   pair_few : length (compared_text (compared h a b)) ≤ max_compared
   pair_few =
       by_cases (λ c. length (compared_text c) ≤ max_compared) h a b
       (λ e. omega arith)
-      (λ more l. difference_few (lowest_from h a b 0 (2 ^ h.lines)) (found h a b t.first_good t.second_good))
+      (λ more l. difference_few (lowest_from h a b 0 (2 ^ h.lines)) (found h a b (listable h a b t.first_good t.second_good)))
       (λ more l few. list_few few)
       (λ more l long. omega (arith, refusal_few 10 0 0 (omega arith) (omega arith) (omega arith)))
 

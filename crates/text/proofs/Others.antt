@@ -2,18 +2,15 @@
 use mathlib.Core.Path.{◌≡◌, refl, sym, ap, subst, ◌∙◌}
 use mathlib.Core.List.{List, [], ◌∷◌}
 use mathlib.Core.Option.{some}
-use Prim.Native.Nat.{ℕ, ◌<◌, ◌≤◌, ◌^◌}
+use Prim.Native.Nat.{ℕ, ◌<◌, ◌≤◌}
 use native.Mathlib.Omega.{arith}
 use lib.Dec.{eqb, leb}
-use lib.Pow.{pow_pos}
 use borrow.Author.Tests.{eqb-true, eqb-false, leb-true, leb-false}
 use Rattle.bits.proofs.Bools.{either}
 use Rattle.circuit.specs.declared.gate.Gate.{Gate}
 use Rattle.circuit.specs.declared.header.Header.{Header}
 use Rattle.circuit.specs.Outcome.{served}
-use Rattle.circuit.specs.Header.{unmarked}
 use Rattle.circuit.specs.Run.{run, EqualFor, DiffersFor}
-use Rattle.circuit.proofs.Promises.{run_none, unmarked_equal}
 use Rattle.checking.specs.Compare.{max_sweep_lines, Difference, none, lowest}
 use Rattle.checking.specs.Compare as sweep
 use Rattle.text.specs.Dimacs.{Dimacs, header_text, dimacs_read}
@@ -26,9 +23,10 @@ use Rattle.text.proofs.FileOutcome.{not_refused, unanswered}
 use Rattle.text.proofs.Fields.{differ_apart}
 use Rattle.text.proofs.Strict.{text_was}
 use Rattle.text.proofs.Verdicts.{judged_is}
+use Rattle.text.proofs.Pairs.{listable}
 use Rattle.text.proofs.Reduced.{found}
 use Rattle.text.proofs.Compares.{by_none, by_sweep, by_clauses, list_fits, list_long}
-use Rattle.text.proofs.StandIns.{once, once_runs, none_good, once_good, first, second, first_bytes, second_bytes}
+use Rattle.text.proofs.StandIns.{once, plain, none_good, once_good, once_differs, first, second, first_bytes, second_bytes}
 
 -- ---- the files decide the cascades
 
@@ -89,21 +87,17 @@ refused_told program one two number file place r laws = refused_case one two num
 
 -- ---- NOT and nothing, on one line
 
-files : TwoFiles first second (unmarked 1) once []
+files : TwoFiles first second plain once []
 files = record { first_good = once_good; second_good = none_good; first_text = refl; second_text = refl; first_bytes = first_bytes; second_bytes = second_bytes }
 
-these : (h : Header) (a b : List Gate) → TwoFiles first second h a b → Same h (unmarked 1) a b once []
-these h a b t = same first second h (unmarked 1) a b once [] t files
+these : (h : Header) (a b : List Gate) → TwoFiles first second h a b → Same h plain a b once []
+these h a b t = same first second h plain a b once [] t files
 
--- they differ on state 0
+-- which differ
 not_equal : (h : Header) (a b : List Gate) → TwoFiles first second h a b → EqualFor h a b → ⊥
 not_equal h a b t equal =
     let s = these h a b t in
-    let e : EqualFor (unmarked 1) once [] =
-    subst (λ (k : Header). EqualFor k once []) s.header (subst (λ (gs : List Gate). EqualFor h once gs) s.second (subst (λ (gs : List Gate). EqualFor h gs b) s.first equal)) in
-    let f : run once 0 ≡ run [] 0 = (unmarked_equal 1 once [] once_good.gates none_good.gates).0 e 0 (pow_pos 1) in
-    let z : ◌≡◌ {A = ℕ} 0 1 = sym (run_none 0) ∙ sym f ∙ once_runs in
-    omega arith
+    once_differs (subst (λ (k : Header). EqualFor k once []) s.header (subst (λ (gs : List Gate). EqualFor h once gs) s.second (subst (λ (gs : List Gate). EqualFor h gs b) s.first equal)))
 
 -- ---- the stand-ins
 
@@ -128,8 +122,8 @@ equal_true program one two word h a b t e laws = equal_case one two h a b t (pro
 pub always_equal : (program : List ℕ → List ℕ → List ℕ) → ((first second : List ℕ) (h : Header) (a b : List Gate) → TwoFiles first second h a b → (word : List ℕ) × (program first second ≡ equal_text word))
     → Compares program → ⊥
 always_equal program all laws =
-    let (word, e) = all first second (unmarked 1) once [] files in
-    not_equal (unmarked 1) once [] files (equal_true program first second word (unmarked 1) once [] files e laws)
+    let (word, e) = all first second plain once [] files in
+    not_equal plain once [] files (equal_true program first second word plain once [] files e laws)
 
 asked_case : (text : List ℕ) → start text ≡ 112 → MayWrite first second text → ⊥
 asked_case text e (refuses number file place f g) = omega (arith, refusal_start number file place, ap start f)
@@ -141,7 +135,7 @@ asked_case text e (asks h a b t f tells ors more wide fits) = omega (arith, ap (
 
 pub always_asks : (program : List ℕ → List ℕ → List ℕ) → ((first second : List ℕ) (h : Header) (a b : List Gate) → TwoFiles first second h a b → (d : Dimacs) × (dimacs_read (program first second) ≡ some d))
     → Compares program → ⊥
-always_asks program all laws = let (d, e) = all first second (unmarked 1) once [] files in asked_case (program first second) (read_start _ d e) (laws first second)
+always_asks program all laws = let (d, e) = all first second plain once [] files in asked_case (program first second) (read_start _ d e) (laws first second)
 
 -- ---- a difference
 
@@ -198,7 +192,7 @@ module _ (one two : List ℕ) where
     -- what the sweep says is what it found
     by_found : (d : Difference) → ((e : Difference) → sweep.Says h a b (served e) → e ≡ d) → (gates_left a b ≡ [] → ⊥) → h.lines ≤ max_sweep_lines
         → compared h a b ≡ answered (swept_as a b d)
-    by_found d only more few = by_sweep h a b more few ∙ ap (λ (e : Difference). answered (swept_as a b e)) (only _ (found h a b t.first_good t.second_good))
+    by_found d only more few = by_sweep h a b more few ∙ ap (λ (e : Difference). answered (swept_as a b e)) (only _ (found h a b (listable h a b t.first_good t.second_good)))
 
   decided : (text : List ℕ) → MayWrite one two text → text ≡ compare_text one two
   decided text (refuses k f p e s) = e ∙ sym (text_at (refused_at k f p) (judged_is one two (refused_at k f p) s))

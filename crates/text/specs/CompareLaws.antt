@@ -4,8 +4,8 @@ use Rattle.std.proofs.Math.Option.{some}
 use Rattle.circuit.specs.declared.gate.Gate.{Gate}
 use Rattle.circuit.specs.declared.header.Header.{Header}
 use Rattle.circuit.specs.Outcome.{served}
+use Rattle.circuit.specs.Header.{unmarked}
 use Rattle.circuit.specs.Refusal.{no_room}
-use Rattle.circuit.specs.Header.{Permitted, LineCounts}
 use Rattle.circuit.specs.Run.{run, EqualFor, DiffersFor}
 use Rattle.circuit.specs.Text.{line_feed}
 use Rattle.circuit.specs.File.{fields_of}
@@ -18,6 +18,7 @@ use Rattle.text.specs.Dimacs.{decimal, Dimacs, dimacs_of, dimacs_read}
 use Rattle.text.specs.Plain.{plain_clause, plain_clauses, AllOr}
 use Rattle.text.specs.FileOutcome.{refusal_text}
 use Rattle.text.specs.BytesTell.{TextTells}
+use Rattle.text.specs.Formula.{formula_of}
 use Rattle.text.specs.Compare.{max_list, max_compared, gates_left, left_formula, reduction_word, sweep_word, differ_word, equal_text, differ_text, compare_text, Rooms, RoomsFit, compare_outcome, compare_buffer}
 use Rattle.text.specs.Rows.{FilesHold, files_rows}
 use Rattle.text.specs.TwoFiles.{TwoFiles, FilesRefused}
@@ -76,6 +77,8 @@ pub record CompareLaws : Type 0 where
       → Compares program → ⊥
   pub always_asks : (program : List ℕ → List ℕ → List ℕ) → ((first second : List ℕ) (h : Header) (a b : List Gate) → TwoFiles first second h a b → (d : Dimacs) × (dimacs_read (program first second) ≡ some d))
       → Compares program → ⊥
+  -- without marks the clauses for a solver are those of the gates that the reduction of the miter leaves, as by document 01
+  pub unmarked_left : (n : ℕ) (a b : List Gate) → left_formula (unmarked n) a b ≡ formula_of n (gates_left a b)
   -- the call writes the text exactly where the rooms and the buffer are long enough
   pub call : (first second : List ℕ) (lent : Rooms) (out : List ℕ) → WritesWhere (RoomsFit lent × (length (compare_text first second) ≤ length out))
       (compare_outcome first second lent (length out)) (compare_text first second) out (compare_buffer first second lent out)

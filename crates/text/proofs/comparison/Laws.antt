@@ -1,17 +1,17 @@
 -- What comparing two cascades owes, case by case. Assumes nothing.
 use mathlib.Core.Path.{◌≡◌, refl, sym, ap, ap₂, subst, ◌∙◌}
-use mathlib.Core.Bool.{Bool, true, false}
+use mathlib.Core.Bool.{true, false}
 use mathlib.Core.List.{List, [], ◌++◌}
 use Prim.Native.Nat.{ℕ, ◌+◌, ◌*◌, ◌^◌, ◌≤◌, ◌<◌}
 use native.Mathlib.Omega.{arith}
 use lib.Dec.{leb}
 use lib.IntN.{ℤ}
 use lib.ListN.{length, take, drop, length-append}
-use lib.Seq.{length-take-le, take-append-le, take_at}
-use borrow.Author.Tests.{le-leb, lt-leb, leb-true, leb-false}
+use lib.Seq.{length-take-le, take-append-le}
+use borrow.Author.Tests.{le-leb, leb-true, leb-false}
 use Rattle.bits.specs.Lists.{over}
 use Rattle.bits.proofs.Bools.{either}
-use Rattle.bits.proofs.Lists.{empty, over_length}
+use Rattle.bits.proofs.Lists.{empty}
 use Rattle.circuit.specs.declared.gate.Gate.{Gate}
 use Rattle.circuit.specs.declared.header.Header.{Header}
 use Rattle.std.proofs.Common.{Result, Ok, Err}
@@ -27,21 +27,24 @@ use Rattle.checking.specs.Compare.{max_sweep_lines, Difference, lowest_from, dif
 use Rattle.checking.specs.Clauses.{Clause, max_variables}
 use Rattle.checking.specs.Satisfaction.{ClausesWithin}
 use Rattle.checking.specs.Sizes.{totals}
+use Rattle.checking.specs.Emit.{emit_outcome, emit_buffer}
+use Rattle.checking.specs.Pair.{pair_emit_outcome, pair_emit_buffer}
 use Rattle.checking.specs.Stored.{stored}
-use Rattle.checking.proofs.Promises.{miter_laws, reduce_laws, difference_made}
+use Rattle.checking.proofs.Promises.{miter_laws, reduce_laws, difference_made, emit_laws, emit_cascade, pair_emit_good, pair_emit_leaves}
 use Rattle.text.specs.declared.comparison.Compared.{Compared}
 use Rattle.text.specs.declared.comparison.Compared.TheVariants.{Clauses}
 use Rattle.text.specs.declared.refused.FileRefusal.{FileRefusal}
-use Rattle.text.specs.Formula.{Formula}
-use Rattle.text.specs.FileOutcome.{FileOutcome, answered, refused_at, of_both, of_file, answer_of, map_answer}
-use Rattle.text.specs.Compare.{file_words, miter_words, max_list, Comparison, unsolved, gates_left, alone, swept_as, list_as}
+use Rattle.text.specs.Formula.{Formula, formula_of, pair_formula}
+use Rattle.text.specs.FileOutcome.{FileOutcome, answered, refused_at, answer_of, map_answer}
+use Rattle.text.specs.Compare.{miter_words, max_list, Comparison, unsolved, alone, swept_as, list_as}
 use Rattle.text.specs.private.Lists.{ListStands}
 use Rattle.text.specs.private.Words.{AllShort}
-use Rattle.text.specs.private.Comparing.{MiterWords, LeftIn, listed_as, compared_as, ClausesReady, ComparedReady, InClauses, SaysCompared, SaysAny}
+use Rattle.text.specs.private.Comparing.{MiterWords, MiterCascade, LeftIn, listed_as, compared_as, ClausesReady, ComparedReady, InClauses, SaysCompared, SaysAny}
 use Rattle.text.proofs.FileOutcome.{both_met, both_failed, file_served, file_refused, unanswered, not_refused}
-use Rattle.text.proofs.list.Laws.{list_stands}
+use Rattle.text.proofs.Pairs.{list_below}
+use Rattle.text.proofs.list.Laws.{list_stands, words_listable}
 use Rattle.text.proofs.stored.Laws.{stored_in_lem}
-use Rattle.text.proofs.plain.Short.{stands_stored}
+use Rattle.text.proofs.plain.Short.{list_short, pair_short, list_within, stands_stored}
 use Rattle.text.proofs.Reduced.{no_more}
 use Rattle.text.proofs.Compares.{list_fits, list_long}
 
@@ -139,24 +142,7 @@ module _ (h k : Header) (a b : List ℕ) (i j : ℕ) (ga : Headed h a max_gates 
 
 -- ---- each cascade alone
 
--- a cascade in the room of a file
 module _ (h : Header) (ws : List ℕ) (k : ℕ) (good : Headed h ws max_gates k) where
-  -- copied to the start of a room
-  pub copied_in : (out room : List ℕ) → file_words ≤ length out → room ≡ over ws out → LeftIn h.lines k room (gates_of ws)
-  copied_in out room long is =
-      let c = good.cascade in
-      let t : take (3 * k) room ≡ ws = ap (take (3 * k)) is ∙ take_at ws (drop (length ws) out) (3 * k) c.size in
-      record {
-        words =
-            record {
-              inside = omega (arith, ap length is, over_length ws out (omega (arith, c.size, c.few)), c.size, c.few);
-              cascade =
-                  subst (λ (x : List ℕ). Cascade h.lines x max_miter_gates k) (sym t)
-                  (record { lines_low = c.lines_low; lines_high = c.lines_high; size = c.size; few = omega (arith, c.few); gates = c.gates });
-            };
-        gates_are = ap gates_of t;
-      }
-
   -- what its reduction leaves is such a cascade
   pub left_headed : (left : ℕ) (room : List ℕ) → LeftIn h.lines left room (alone (gates_of ws)) → Headed h (take (3 * left) room) max_gates left
   left_headed left room l =
@@ -219,6 +205,25 @@ module _ (f : Formula) (short : AllShort f.clauses) (within : ClausesWithin max_
             either (leb size (length out))
             (λ v. refused_says (e ∙ file_served 0 emitted _ _ (demand_met _ _ _ _ v) ∙ both_failed (leb size max_list) _ _ u) l)
             (λ v. refused_says (e ∙ file_refused 0 emitted _ no_room 0 (demand_failed _ _ _ _ v)) l)
+
+-- of gates
+pub gates_say : (n : ℕ) (ws : List ℕ) → MiterCascade n ws → (out buffer : List ℤ) → max_list ≤ length out → buffer ≡ emit_buffer n ws out
+    → (r : Result Compared FileRefusal) → answer_of r ≡ listed_as (emit_outcome n ws (length out)) → SaysCompared r buffer (list_as (formula_of n (gates_of ws)))
+gates_say n ws m out buffer long is r e =
+    let c = m.cascade in
+    let o = emit_cascade n ws m.count c (length out) in
+    let w = list_within n (gates_of ws) c.lines_high (omega (arith, gates_length ws, c.size, c.few)) c.gates in
+    listed_says (formula_of n (gates_of ws)) (list_short n (gates_of ws)) w out long buffer (λ t s. is ∙ emit_laws.emit_leaves n ws out t (o ∙ s)) r (e ∙ ap listed_as o)
+
+-- of two cascades
+pub pair_says : (h k : Header) (a b : List ℕ) (i j : ℕ) → Headed h a max_gates i → Headed k b max_gates j → h ≡ k → (out buffer : List ℤ) → max_list ≤ length out
+    → buffer ≡ pair_emit_buffer h a k b out → (r : Result Compared FileRefusal) → answer_of r ≡ listed_as (pair_emit_outcome h a k b (length out))
+    → SaysCompared r buffer (list_as (pair_formula h (gates_of a) (gates_of b)))
+pair_says h k a b i j ga gb same out buffer long is r e =
+    let o = pair_emit_good h a k b (record { first = i; second = j }) (record { first_good = ga; second_good = gb; header = same }) (length out) in
+    let l = words_listable h a k b (record { count = i; cascade = ga }) (record { count = j; cascade = gb }) same in
+    listed_says (pair_formula h (gates_of a) (gates_of b)) (pair_short h (gates_of a) (gates_of b)) (list_below h (gates_of a) (gates_of b) l) out long buffer
+    (λ t s. is ∙ pair_emit_leaves h a k b out t (o ∙ s)) r (e ∙ ap listed_as o)
 
 -- the same comparison, said in another way
 pub says_as : (r : Result Compared FileRefusal) (clauses : List ℤ) (x y : FileOutcome Comparison) → x ≡ y → SaysCompared r clauses y → SaysCompared r clauses x

@@ -1,5 +1,5 @@
 -- The clause list of two cascades with the same header, by its parts: side by side where they have marks, else that of their miter. Assumes nothing.
-use Rattle.std.proofs.Common.{◌≡◌, ℕ, suc, true, false, List, [], ◌∷◌, ◌++◌, map, length, ◌∙◌}
+use Rattle.std.proofs.Common.{◌≡◌, suc, true, false, List, [], ◌∷◌, ◌++◌, map, length}
 use Rattle.bits.proofs.Bools.{cond-true, cond-false}
 use Rattle.circuit.specs.declared.gate.Gate.{Gate}
 use Rattle.circuit.specs.declared.header.Header.{Header}

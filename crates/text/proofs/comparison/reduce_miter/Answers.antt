@@ -1,5 +1,5 @@
 -- `text::comparison::reduce_miter` meets its contract. Assumes nothing.
-use Rattle.std.proofs.Common.{List, length, sym, ap, subst, arith}
+use Rattle.std.proofs.Common.{List, length, sym, ap, subst}
 use Rattle.circuit.specs.declared.gate.Gate.{Gate}
 use Rattle.circuit.specs.Words.{gates_of}
 use Rattle.circuit.proofs.Promises.{never}
