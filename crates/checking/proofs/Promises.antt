@@ -6,6 +6,7 @@ pub use Rattle.checking.proofs.lemmas.step.Laws.{step_laws}
 pub use Rattle.checking.proofs.lemmas.reduce.Relation.{reduce_laws}
 pub use Rattle.checking.proofs.lemmas.clauses.Laws.{clause_laws}
 pub use Rattle.checking.proofs.lemmas.clauses.Answers.{emit_laws}
+pub use Rattle.checking.proofs.lemmas.pair_emission.Laws.{pair_emit_laws}
 pub use Rattle.checking.proofs.lemmas.EqualityLaws.{equality_laws}
 pub use Rattle.checking.proofs.lemmas.pair.Laws.{pair_laws}
 pub use Rattle.checking.proofs.lemmas.faults.StandIns.{fault_laws}

@@ -7,6 +7,7 @@ use Rattle.checking.specs.ClauseLaws.{ClauseLaws}
 use Rattle.checking.specs.EqualityLaws.{EqualityLaws}
 use Rattle.checking.specs.PairLaws.{PairLaws}
 use Rattle.checking.specs.EmitLaws.{EmitLaws}
+use Rattle.checking.specs.PairEmitLaws.{PairEmitLaws}
 use Rattle.checking.specs.Rows.{RowLaws}
 use Rattle.checking.specs.RefusalLaws.{RefusalLaws}
 use Rattle.checking.specs.FaultLaws.{FaultLaws}
@@ -23,6 +24,7 @@ pub record CheckingLaws : Type 0 where
   -- the theorem for pairs
   pub pairs : PairLaws
   pub emission : EmitLaws
+  pub pair_emission : PairEmitLaws
   pub rows : RowLaws
   pub refusals : RefusalLaws
   pub faults : FaultLaws

@@ -15,6 +15,8 @@ pub mod ClauseRows
 pub mod Emit
 pub mod Pair
 pub mod PairTold
+pub mod PairEmit
+pub mod PairEmitLaws
 pub mod Told
 pub mod Equality
 pub mod PairEquality

@@ -7,6 +7,7 @@ use Rattle.checking.proofs.lemmas.clauses.Laws.{clause_laws}
 use Rattle.checking.proofs.lemmas.EqualityLaws.{equality_laws}
 use Rattle.checking.proofs.lemmas.pair.Laws.{pair_laws}
 use Rattle.checking.proofs.lemmas.clauses.Answers.{emit_laws}
+use Rattle.checking.proofs.lemmas.pair_emission.Laws.{pair_emit_laws}
 use Rattle.checking.proofs.lemmas.Rows.{row_laws}
 use Rattle.checking.proofs.lemmas.faults.Refusals.{refusal_laws}
 use Rattle.checking.proofs.lemmas.faults.StandIns.{fault_laws}
@@ -24,6 +25,7 @@ returns c =
       equality = equality_laws;
       pairs = pair_laws;
       emission = emit_laws;
+      pair_emission = pair_emit_laws;
       rows = row_laws;
       refusals = refusal_laws;
       faults = fault_laws;

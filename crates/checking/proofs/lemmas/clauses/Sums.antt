@@ -12,6 +12,10 @@ use Rattle.checking.specs.Sizes.{totals, added, gate_sizes, gates_sizes, line_si
 use Rattle.checking.proofs.lemmas.clauses.Reading.{stored_append}
 use Rattle.checking.proofs.lemmas.clauses.Forced.{length_up_from}
 
+-- totals are the same where each of the three numbers is
+pub totals_same : (s t : Totals) → s.variables ≡ t.variables → s.clauses ≡ t.clauses → s.words ≡ t.words → s ≡ t
+totals_same s t a b c = ap₂ (λ (x y : ℕ). totals x y s.words) a b ∙ ap (totals t.variables t.clauses) c
+
 -- the sizes of a list of clauses that adds `new` variables
 abbrev pub sizes_in : ℕ → List Clause → Totals
 sizes_in new cs = totals new (length cs) (length (stored cs))
