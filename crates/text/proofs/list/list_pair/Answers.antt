@@ -6,4 +6,4 @@ pub returns : goal.returns
 returns c =
     let a = c.args.first in
     let b = c.args.second in
-    pair_delivers _ _ _ _ (own_words _ _ a.cascade) (own_words _ _ b.cascade) c.args.clauses.now c.requires _ c.emit.ensures.answer _ _ c.of.ensures c.emit.ensures.buffer
+    pair_delivers _ _ _ _ (own_words _ _ a.cascade) (own_words _ _ b.cascade) c.args.clauses.now c.requires _ c.emit.ensures.yields.answer _ _ c.of.ensures c.emit.ensures.yields.buffer
