@@ -11,6 +11,8 @@ use Rattle.circuit.specs.declared.gate.Gate.{Gate}
 use Rattle.circuit.specs.declared.header.Header.{Header}
 use Rattle.circuit.specs.Outcome.{served}
 use Rattle.circuit.specs.Run.{run, EqualFor, DiffersFor}
+use Rattle.circuit.specs.Text.{text_of}
+use Rattle.circuit.proofs.Promises.{equal_differs_for}
 use Rattle.checking.specs.Compare.{max_sweep_lines, Difference, none, lowest}
 use Rattle.checking.specs.Compare as sweep
 use Rattle.text.specs.Dimacs.{Dimacs, header_text, dimacs_read}
@@ -162,6 +164,23 @@ module _ (one two : List ℕ) (h : Header) (a b : List Gate) (x y z : ℕ) (t : 
 pub differ_true : (program : List ℕ → List ℕ → List ℕ) (first second : List ℕ) (h : Header) (a b : List Gate) (x y z : ℕ) → TwoFiles first second h a b
     → program first second ≡ differ_text x y z → Compares program → DiffersFor h a b x × ((w : ℕ) → w < x → DiffersFor h a b w → ⊥) × (y ≡ run a x) × (z ≡ run b x)
 differ_true program one two h a b x y z t e laws = difference_case one two h a b x y z t (program one two) e (laws one two)
+
+-- ---- marks that are passed over
+
+module _ (program : List ℕ → List ℕ → List ℕ) (laws : Compares program) (h k : Header) (a b : List Gate) where
+  -- two cascades that are equal with the marks of h, and not with those of k
+  module _ (t : TwoFiles (text_of h a) (text_of h b) h a b) (s : TwoFiles (text_of k a) (text_of k b) k a b) (equal : EqualFor h a b) (apart : EqualFor k a b → ⊥) (few : k.lines ≤ max_sweep_lines) where
+    told_apart : (text : List ℕ) → program (text_of h a) (text_of h b) ≡ text → MayWrite (text_of k a) (text_of k b) text → ⊥
+    told_apart text e (refuses number file place f g) = not_both _ _ k a b number file place s g
+    told_apart text e (overflows j c d u f more wide long) = omega (arith, ap (λ (i : Header). i.lines) (same _ _ j k c d a b u s).header, wide, few)
+    told_apart text e (reduces j c d u f gone q) = apart (same_equal _ _ k a b s j c d u q)
+    told_apart text e (sweeps j c d u f more narrow q) = apart (same_equal _ _ k a b s j c d u q)
+    told_apart text e (differs j c d u x f more narrow on low) =
+        (equal_differs_for h a b).0 equal x (differ_true program _ _ h a b x _ _ t (e ∙ f) laws).0
+    told_apart text e (asks j c d u f tells ors more wide fits) = omega (arith, ap (λ (i : Header). i.lines) (same _ _ j k c d a b u s).header, wide, few)
+
+    no_notice : program (text_of h a) (text_of h b) ≡ program (text_of k a) (text_of k b) → ⊥
+    no_notice e = told_apart _ e (laws (text_of k a) (text_of k b))
 
 -- ---- the files decide the text
 

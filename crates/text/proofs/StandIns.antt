@@ -3,7 +3,7 @@ use mathlib.Core.Path.{◌≡◌, refl, sym, ap, subst, ◌∙◌}
 use mathlib.Core.Bool.{Bool, true, false, false≢true}
 use mathlib.Core.List.{List, [], ◌∷◌, ◌++◌}
 use mathlib.Core.Option.{some}
-use Prim.Native.Nat.{ℕ, ◌≤◌}
+use Prim.Native.Nat.{ℕ, zero, suc, ◌≤◌, ◌<◌}
 use native.Mathlib.Omega.{arith}
 use lib.ListN.{length, drop}
 use borrow.Author.Tests.{leb-true}
@@ -75,6 +75,46 @@ first_bytes = leb-true (length first) max_file refl
 pub second_bytes : length second ≤ max_file
 unfolding number_text controls_text gate_lines controls_below bit
 second_bytes = leb-true (length second) max_file refl
+
+-- ---- with marks
+
+-- one line, which is junk: any two cascades are equal
+abbrev pub junk_line : Header
+junk_line = record { lines = 1; constants = 0; values = 0; junk = 1 }
+
+pub junk_equal : (a b : List Gate) → EqualFor junk_line a b
+unfolding bit
+junk_equal a b x p zero c = absurd (false≢true (sym c.kept))
+junk_equal a b x p (suc k) c = let l = c.below in absurd (omega arith)
+
+-- two lines, of which line 0 is the constant 0: a gate that it controls does nothing
+abbrev pub constant_line : Header
+constant_line = record { lines = 2; constants = 1; values = 0; junk = 0 }
+
+abbrev pub controlled : List Gate
+controlled = record { positive = 1; negative = 0; target = 1 } ∷ []
+
+idle : (x : ℕ) → x < 4 → bit x 0 ≡ false → run controlled x ≡ run [] x
+unfolding bit fold apply valid inverted fires
+idle zero l e = refl
+idle (suc zero) l e = absurd (false≢true (sym e))
+idle (suc (suc zero)) l e = refl
+idle (suc (suc (suc zero))) l e = absurd (false≢true (sym e))
+idle (suc (suc (suc (suc x)))) l e = absurd (omega arith)
+
+pub constant_equal : EqualFor constant_line controlled []
+unfolding bit
+constant_equal x p k c = ap (λ (y : ℕ). bit y k) (idle x p.state (p.constants 0 refl))
+
+-- and does something without the constant
+pub controlled_acts : EqualFor (unmarked 2) controlled [] → ⊥
+unfolding fold apply valid inverted fires all_valid
+controlled_acts e =
+    let f : run controlled 1 ≡ run [] 1 = (unmarked_equal 2 controlled [] refl refl).0 e 1 (omega arith) in
+    let z : ◌≡◌ {A = ℕ} 3 1 = f in
+    omega arith
+
+-- ---- stand-ins for tomiter
 
 -- NOT against nothing, and against NOT
 abbrev differing : List ℕ

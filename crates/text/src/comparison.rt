@@ -116,13 +116,7 @@ fn list_alone(
     let (a, b) = room.split_at_mut(crate::FILE_WORDS);
     let i = Gate::WORDS * reduce_alone(first, a);
     let j = Gate::WORDS * reduce_alone(second, b);
-    listed(checking::pair::emit(
-        first.header,
-        &a[..i],
-        second.header,
-        &b[..j],
-        clauses,
-    ))
+    listed(checking::pair::emit(first.header, &a[..i], second.header, &b[..j], clauses))
 }
 
 // Compares two cascades; the miter and what the reduction leaves of it, or of each alone, stand in `room`.

@@ -196,9 +196,11 @@ module _ (f : Formula) (short : AllShort f.clauses) (within : ClausesWithin max_
                   ∙ sym (list_fits f l);
               ready = ready_as r t g (record { inside = s.inside; stores = stands_stored t buffer f s l });
             }
+
         refused_says : answer_of r ≡ refused_at no_room 0 0 → max_list < size → SaysCompared r buffer (list_as f)
         refused_says g l =
             record { is = ap (map_answer (λ (c : Compared). compared_as c buffer)) g ∙ sym (list_long f l); ready = ready_refused r no_room 0 0 g }
+
         many : leb size max_list ≡ false → SaysCompared r buffer (list_as f)
         many u =
             let l : max_list < size = leb-false size max_list u in

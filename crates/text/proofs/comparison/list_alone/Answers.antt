@@ -14,4 +14,4 @@ returns c =
     let right = c.reduce_alone-j.ensures in
     subst (SaysCompared _ _) (ap₂ (λ (a b : List Gate). list_as (pair_formula p.first.header a b)) left.gates_are right.gates_are)
     (pair_says p.first.header p.second.header _ _ _ _ (left_headed p.first.header _ _ p.first.cascade _ _ left) (left_headed p.second.header _ _ p.second.cascade _ _ right)
-    p.same_header c.args.clauses.now _ c.requires.clause_room c.emit.ensures.buffer _ (c.listed.ensures ∙ ap listed_as c.emit.ensures.answer))
+    p.same_header c.args.clauses.now _ c.requires.clause_room c.emit.ensures.yields.buffer _ (c.listed.ensures ∙ ap listed_as c.emit.ensures.yields.answer))
