@@ -23,7 +23,9 @@ pub use Rattle.checking.proofs.lemmas.clauses.Within.{neg_size, neg_within}
 pub use Rattle.checking.proofs.lemmas.clauses.Meaning.{tells_same}
 pub use Rattle.checking.proofs.lemmas.clauses.Reading.{stored_none, stored_next, stored_append, read_back}
 pub use Rattle.checking.proofs.lemmas.clauses.Answers.{emit_cascade}
--- the list of a pair: what it tells, how large it is, and what its emission answers and leaves
-pub use Rattle.checking.proofs.lemmas.pair.Meaning.{pair_tells}
+-- the list of a pair: what it is made of, what it tells, how large it is, and what its emission answers and leaves
+pub use Rattle.checking.proofs.lemmas.pair.Parts.{marked_parts, unmarked_clauses, unmarked_variables}
+pub use Rattle.checking.proofs.lemmas.pair.Meaning.{tells_unmarked, pair_tells}
+pub use Rattle.checking.proofs.lemmas.pair.Alone.{differs_for_same, tells_for_same}
 pub use Rattle.checking.proofs.lemmas.pair_emission.Fits.{pair_within, pair_variables_few}
 pub use Rattle.checking.proofs.lemmas.pair_emission.Answers.{pair_emit_good, pair_emit_wrong, pair_emit_leaves}

@@ -18,7 +18,7 @@ use Rattle.checking.proofs.lemmas.Equality.{Standing, after_calls}
 -- ---- cascades with the same runs
 
 module _ (h : Header) (a b c d : List Gate) (first : (x : ℕ) → run a x ≡ run c x) (second : (x : ℕ) → run b x ≡ run d x) where
-  differs_for_same : (x : ℕ) → DiffersFor h a b x → DiffersFor h c d x
+  pub differs_for_same : (x : ℕ) → DiffersFor h a b x → DiffersFor h c d x
   differs_for_same x e =
       record {
         permitted = e.permitted;
