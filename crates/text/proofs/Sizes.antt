@@ -14,7 +14,7 @@ use Rattle.circuit.specs.declared.header.Header.{Header}
 use Rattle.circuit.specs.Outcome.{Outcome, served, refused, before, then, Fails, fails}
 use Rattle.circuit.specs.Refusal.{wrong_form}
 use Rattle.circuit.specs.Text.{line_feed}
-use Rattle.circuit.specs.File.{Line, Reading, mark_lines, reading, line_after_end}
+use Rattle.circuit.specs.File.{Line, Reading, reading, line_after_end}
 use Rattle.circuit.specs.FileLaws.{FileCascade, HeaderOffence, no_lines, no_number, outside, ControlsOffence, form, value, later, LineOffence, no_gate_line, many, target_form, target_value, controls, controlled, controls_not_rising, FileRefused, on_header_line, later_line}
 use Rattle.circuit.specs.FileLaws as laws
 use Rattle.circuit.proofs.Promises.{reader, mark_lines_few}
