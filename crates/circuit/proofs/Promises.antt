@@ -23,7 +23,7 @@ pub use Rattle.circuit.proofs.lemmas.inverse.Laws.{run_inverse, inverse_run, inv
 pub use Rattle.circuit.proofs.lemmas.file.Laws.{reader, read_as, read_served, served_read, read_refused, write_served, served_write, write_refused, refuses_all}
 pub use Rattle.circuit.proofs.lemmas.file.RoundTrip.{round_trip, idle_reading, idle_writing, read_leaves}
 pub use Rattle.circuit.proofs.lemmas.file.Controls.{controls_inside}
-pub use Rattle.circuit.proofs.lemmas.file.Marks.{no_mark_lines, mark_lines_few}
+pub use Rattle.circuit.proofs.lemmas.file.MarkLines.{no_mark_lines, mark_lines_few}
 pub use Rattle.circuit.proofs.lemmas.file.Lines.{whole, whole_one, whole_next, parts_none, parts_some, parts_cut, parts_one, parts_back, same_true, same_self, true_same}
 pub use Rattle.circuit.proofs.lemmas.file.Numbers.{is_digit_lem, digit_bounds}
 pub use Rattle.circuit.proofs.lemmas.file.put.Laws.{Written, copied, written_none, written_first, written_more, written_put, put_as, rest_length}

@@ -1,15 +1,16 @@
 -- What this crate proves of cascade files: the round trip both ways, and what each refusal says of its line.
-use Rattle.std.specs.Prelude.{◌≡◌, ℕ, ◌+◌, ◌*◌, ◌/◌, ◌<◌, ◌≤◌, true, false, ◌↔◌, List, [], ◌∷◌, ◌++◌, map, length, take, ◌≢◌}
+use Rattle.std.specs.Prelude.{◌≡◌, ℕ, ◌+◌, ◌*◌, ◌/◌, ◌<◌, ◌≤◌, Bool, cond, true, false, ◌↔◌, List, [], ◌∷◌, ◌++◌, map, length, take, ◌≢◌}
+use Rattle.bits.specs.Digits.{bit}
 use Rattle.bits.specs.Lists.{over}
 use Rattle.circuit.specs.declared.gate.Gate.{Gate}
 use Rattle.circuit.specs.declared.header.Header.{Header}
 use Rattle.circuit.specs.Gate.{max_lines, max_gates, Control, Inside}
 use Rattle.circuit.specs.Header.{unmarked, marks_good}
-use Rattle.circuit.specs.Outcome.{Outcome, served, refused, Wrong, Fails, Untouched, Yields}
-use Rattle.circuit.specs.Refusal.{wrong_form, bad_line_count, line_outside, target_controlled, not_rising, too_many_gates, no_room}
+use Rattle.circuit.specs.Outcome.{Outcome, served, refused, and_then, Wrong, Fails, Untouched, Yields}
+use Rattle.circuit.specs.Refusal.{wrong_form, bad_line_count, line_outside, target_controlled, not_rising, too_many_gates, no_room, bad_mark}
 use Rattle.circuit.specs.Words.{gates_of, words_of, all_valid, Headed, HeadedRefused}
-use Rattle.circuit.specs.Text.{lines_word, gate_word, end_word, number_text, control_text, header_line, gate_lines, text_of}
-use Rattle.circuit.specs.File.{Line, first_line, lines_of, fields_of, Reading, mark_lines, reading, read_outcome, read_buffer, write_outcome, write_buffer}
+use Rattle.circuit.specs.Text.{digit, lines_word, gate_word, end_word, number_text, control_text, header_line, header_lines, gate_lines, end_line, text_of}
+use Rattle.circuit.specs.File.{Line, first_line, later_lines, lines_of, line_size, fields_of, header_on, mark_word, starts_mark, Reading, read_from, mark_lines, reading, read_outcome, read_buffer, write_outcome, write_buffer}
 use Rattle.circuit.specs.declared.file.ReadCounts.{ReadCounts}
 
 -- a cascade that a file can hold
@@ -19,8 +20,6 @@ pub record FileCascade (h : Header) (gs : List Gate) : Type 0 where
   pub marks : marks_good h ≡ true
   pub few : length gs ≤ max_gates
   pub gates : all_valid h.lines gs ≡ true
-  -- INTERIM: until mark lines are read and written
-  pub plain : h ≡ unmarked h.lines
 
 -- ---- what is wrong with one line
 
@@ -45,6 +44,22 @@ pub data HeaderOffence (l : Line) : ℕ → Type 0 where
   -- n is good, and a further field stands there or the LF is missing
   no_end : (k : List ℕ) (fs : List (List ℕ)) → fields_of l.bytes ≡ lines_word ∷ k ∷ fs → (n : ℕ) → NumberField k n → 1 ≤ n → n ≤ max_lines
       → (fs ≡ [] → l.ended ≢ true) → HeaderOffence l wrong_form
+
+-- what may follow the line of a mark: a constant's value, and nothing for a junk line
+abbrev pub value_fields : Bool → Bool → List (List ℕ)
+value_fields constant value = cond constant ((digit (cond value 1 0) ∷ []) ∷ []) []
+
+-- a mark line, of a constant or else a junk line, after those of its group, whose lines are in the mask
+pub data MarkOffence (constant : Bool) (n mask : ℕ) (l : Line) : ℕ → Type 0 where
+  -- no number follows the word
+  no_line : (f : List ℕ) (fs : List (List ℕ)) → fields_of l.bytes ≡ mark_word constant ∷ f ∷ fs → ((k : ℕ) → NumberField f k → ⊥) → MarkOffence constant n mask l wrong_form
+  -- the mark's line is n or more, or not above one before it
+  beyond : (f : List ℕ) (fs : List (List ℕ)) → fields_of l.bytes ≡ mark_word constant ∷ f ∷ fs → (k : ℕ) → NumberField f k → n ≤ k → MarkOffence constant n mask l bad_mark
+  mark_not_rising : (f : List ℕ) (fs : List (List ℕ)) → fields_of l.bytes ≡ mark_word constant ∷ f ∷ fs → (k : ℕ) → NumberField f k → k < n
+      → (j : ℕ) → bit mask j ≡ true → k ≤ j → MarkOffence constant n mask l bad_mark
+  -- it is good, and a constant's value is missing or neither `0` nor `1`, or a further field stands there, or the LF is missing
+  mark_no_end : (f : List ℕ) (fs : List (List ℕ)) → fields_of l.bytes ≡ mark_word constant ∷ f ∷ fs → (k : ℕ) → NumberField f k → k < n
+      → ((j : ℕ) → bit mask j ≡ true → j < k) → ((value : Bool) → fs ≡ value_fields constant value → l.ended ≢ true) → MarkOffence constant n mask l wrong_form
 
 -- the first control field that is wrong, by its form or its value
 pub data ControlsOffence (n : ℕ) : List (List ℕ) → ℕ → Type 0 where
@@ -84,10 +99,21 @@ pub data LineOffence (n i count : ℕ) (l : Line) : ℕ → Type 0 where
   controlled : (k : ℕ) (cs : List Control) → GoodFields n l k cs → count < max_gates → l.ended ≡ true → Among k cs → LineOffence n i count l target_controlled
   controls_not_rising : (k : ℕ) (cs : List Control) → GoodFields n l k cs → count < max_gates → l.ended ≡ true → (Among k cs → ⊥) → NotRising cs → LineOffence n i count l not_rising
 
+-- after a header's lines and gate lines, a constant's line may stand where no junk line and no gate line does, and a junk line where no gate line does
+pub record GroupOpen (constant : Bool) (h : Header) (gs : List Gate) : Type 0 where
+  pub no_junk : constant ≡ true → h.junk ≡ 0
+  pub no_gates : gs ≡ []
+
+abbrev pub group_mask : Bool → Header → ℕ
+group_mask constant h = cond constant h.constants h.junk
+
 -- the lines before are good, and the line or the missing line after them is not
 pub data FileRefused (text : List ℕ) : ℕ → ℕ → Type 0 where
   on_header_line : (number : ℕ) → HeaderOffence (first_line (lines_of text)) number → FileRefused text number 0
-  later_line : (h : Header) (gs : List Gate) (rest : List ℕ) → FileCascade h gs → text ≡ header_line h.lines ++ (gate_lines gs ++ rest)
+  on_mark_line : (h : Header) (rest : List ℕ) → FileCascade h [] → text ≡ header_lines h ++ rest → (constant : Bool) → GroupOpen constant h []
+      → (number : ℕ) → MarkOffence constant h.lines (group_mask constant h) (first_line (lines_of rest)) number → FileRefused text number (mark_lines h + 1)
+  later_line : (h : Header) (gs : List Gate) (rest : List ℕ) → FileCascade h gs → text ≡ header_lines h ++ (gate_lines gs ++ rest)
+      → ((constant : Bool) → GroupOpen constant h gs → starts_mark constant (first_line (lines_of rest)) ≡ false)
       → (number : ℕ) → LineOffence h.lines (mark_lines h + length gs + 1) (length gs) (first_line (lines_of rest)) number → FileRefused text number (mark_lines h + length gs + 1)
 
 -- ---- the laws, of any reader
@@ -143,7 +169,7 @@ pub record RoundTrip (read : List ℕ → ℕ → Outcome ReadCounts) (read_into
   pub write_leaves : (h : Header) (ws out : List ℕ) (k : ℕ) → write h ws (length out) ≡ served k → write_into h ws out ≡ over (text_of h (gates_of ws)) out
   pub write_untouched : (h : Header) (ws out : List ℕ) → Untouched (write h ws (length out)) out (write_into h ws out)
   -- where writing is served with k bytes, reading the first k of its buffer is served with the header, the gates and k, and leaves the words at the buffer's start
-  pub write_read : (h : Header) (ws out : List ℕ) (k : ℕ) → h ≡ unmarked h.lines → write h ws (length out) ≡ served k → (into : List ℕ) → length ws ≤ length into
+  pub write_read : (h : Header) (ws out : List ℕ) (k : ℕ) → write h ws (length out) ≡ served k → (into : List ℕ) → length ws ≤ length into
       → Yields (read (take k (write_into h ws out)) (length into)) (read_into (take k (write_into h ws out)) into)
       (served (record { header = h; gates = length ws / 3; taken = k })) (over ws into)
   -- where reading is served, writing the words of its buffer is served with the bytes taken, and leaves these bytes at the buffer's start
@@ -151,8 +177,33 @@ pub record RoundTrip (read : List ℕ → ℕ → Outcome ReadCounts) (read_into
       → Yields (write c.header (take (3 * c.gates) (read_into text out)) (length into)) (write_into c.header (take (3 * c.gates) (read_into text out)) into)
       (served c.taken) (over (take c.taken text) into)
 
+-- a file without marks, by document 01: its text and its reading
+abbrev pub unmarked_text : ℕ → List Gate → List ℕ
+unmarked_text n gs = header_line n ++ (gate_lines gs ++ end_line)
+
+unfoldable pub unmarked_reading : List ℕ → Outcome Reading
+unmarked_reading text =
+    and_then (header_on (first_line (lines_of text))) (λ n.
+    read_from (unmarked n) 1 [] (line_size (first_line (lines_of text))) (later_lines (lines_of text)))
+
+-- line 1 of a text
+abbrev pub line_1 : List ℕ → Line
+line_1 text = first_line (later_lines (lines_of text))
+
+-- with marks, files are what they were without
+pub record UnmarkedFiles : Type 0 where
+  -- the same bytes
+  pub text : (n : ℕ) (gs : List Gate) → text_of (unmarked n) gs ≡ unmarked_text n gs
+  -- the same answer for every text whose line 1 starts neither `const` tab nor `junk` tab
+  pub answer : (text : List ℕ) → starts_mark true (line_1 text) ≡ false → starts_mark false (line_1 text) ≡ false → reading text ≡ unmarked_reading text
+  -- every text that was served is such a text, and gave a header without marks; and a text that now gives such a header was served
+  pub served_before : (text : List ℕ) (c : Reading) → unmarked_reading text ≡ served c
+      → (starts_mark true (line_1 text) ≡ false) × (starts_mark false (line_1 text) ≡ false) × (c.header ≡ unmarked c.header.lines)
+  pub served_now : (text : List ℕ) (c : Reading) → reading text ≡ served c → c.header ≡ unmarked c.header.lines → unmarked_reading text ≡ served c
+
 pub record FileLaws : Type 0 where
   pub reader : ReaderLaws reading
+  pub unmarked_files : UnmarkedFiles
   -- the calls themselves: reading a written cascade gives that cascade, writing a read one the same bytes
   pub round_trip : RoundTrip read_outcome read_buffer write_outcome write_buffer
   -- a reading, or a writing, that leaves its buffer as it was has not these laws

@@ -11,6 +11,7 @@ use Rattle.circuit.proofs.lemmas.run.Laws.{run_append, tested_run, run_below, eq
 use Rattle.circuit.proofs.lemmas.run.Records.{records_words, records_served, served_records, records_refused, refused_records}
 use Rattle.circuit.proofs.lemmas.inverse.Laws.{run_inverse, inverse_run, inverse_append, inverse_twice, inverse_valid, refused_exactly, inverse_served, served_inverse, inverse_stands, inverse_untouched}
 use Rattle.circuit.proofs.lemmas.file.Laws.{reader, read_served, served_read, read_refused, write_served, served_write, write_refused, refuses_all}
+use Rattle.circuit.proofs.lemmas.file.Unmarked.{unmarked_files}
 use Rattle.circuit.proofs.lemmas.file.RoundTrip.{round_trip, idle_reading, idle_writing}
 use Rattle.circuit.proofs.laws.Goals as goal
 
@@ -84,6 +85,7 @@ returns c =
       file =
           record {
             reader = reader;
+            unmarked_files = unmarked_files;
             round_trip = round_trip;
             idle_reading = idle_reading;
             idle_writing = idle_writing;

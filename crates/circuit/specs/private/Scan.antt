@@ -4,7 +4,6 @@ use Rattle.circuit.specs.declared.file.ReadCounts.{ReadCounts}
 use Rattle.circuit.specs.declared.header.Header.{Header}
 use Rattle.circuit.specs.declared.file.scan.Numeral.{Numeral}
 use Rattle.circuit.specs.declared.file.scan.ControlRead.{ControlRead}
-use Rattle.circuit.specs.declared.file.scan.HeaderNext.{HeaderNext}
 use Rattle.circuit.specs.declared.file.scan.Seen.{Seen}
 use Rattle.circuit.specs.Outcome.{Outcome, served, refused, and_then}
 use Rattle.circuit.specs.Text.{tab, line_feed}
@@ -49,9 +48,9 @@ abbrev pub later_fields : List (List ℕ) → List (List ℕ)
 later_fields [] = []
 later_fields (f ∷ fs) = fs
 
--- the header of a text
-abbrev pub header_next : List ℕ → Outcome HeaderNext
-header_next r = and_then (header_on (line_at r)) (λ n. served (record { lines = n; next = line_size (line_at r) }))
+-- the line count of a text, and the position after its line
+abbrev pub count_next : List ℕ → Outcome Numeral
+count_next r = and_then (header_on (line_at r)) (λ n. served (record { value = n; next = line_size (line_at r) }))
 
 -- the position after the gate line at a position, with index i and after so many gate lines
 abbrev pub gate_next : ℕ → ℕ → ℕ → ℕ → List ℕ → Outcome ℕ

@@ -22,7 +22,9 @@ returns-in_err-check_headed c =
     write_told _ _ _ _ (outcome_of (Err c.in_err-check_headed.field-0.0)) _ (ap outcome_of e) (write_refused _ _ _ _ _ (sym c.in_err-check_headed.ensures)) refl
 
 pub text_size-size-requires : goal.text_size-size-requires
-text_size-size-requires c = let k = (cascade (goal.at.text_size-size-requires c).In_ok-check_headed).cascade in omega (arith, k.size, k.few)
+text_size-size-requires c = let h = cascade (goal.at.text_size-size-requires c).In_ok-check_headed in
+    let k = h.cascade in
+    (omega (arith, k.size, k.few), k.lines_high, h.marks)
 
 pub returns-then-out-size : goal.returns-then-out-size
 returns-then-out-size c =
@@ -31,8 +33,9 @@ returns-then-out-size c =
 
 pub put_text-requires : goal.put_text-requires
 put_text-requires c =
-    let k = (cascade (goal.at.put_text-requires c).In_ok-check_headed).cascade in
-    (omega (arith, k.lines_high), valid_all_more _ max_lines _ k.lines_high k.gates, omega (arith, c.text_size-size.ensures, c.if-out-size.false))
+    let h = cascade (goal.at.put_text-requires c).In_ok-check_headed in
+    let k = h.cascade in
+    (k.lines_high, h.marks, valid_all_more _ max_lines _ k.lines_high k.gates, omega (arith, c.text_size-size.ensures, c.if-out-size.false))
 
 pub returns : goal.returns
 returns c =

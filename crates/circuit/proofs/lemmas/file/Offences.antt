@@ -30,7 +30,7 @@ pub field_number : (i : ℕ) (f : List ℕ) (k : ℕ) → NumberField f k → nu
 field_number i f k n = ap (number_of i) n.text ∙ number_text_lem i k n.small
 
 -- a field that is no number
-no_number : (i : ℕ) (f : List ℕ) → ((k : ℕ) → NumberField f k → ⊥) → number_of i f ≡ refused wrong_form i
+pub no_number : (i : ℕ) (f : List ℕ) → ((k : ℕ) → NumberField f k → ⊥) → number_of i f ≡ refused wrong_form i
 no_number i f h = go (number_of i f) refl
   where
     go : (o : Outcome ℕ) → number_of i f ≡ o → number_of i f ≡ refused wrong_form i

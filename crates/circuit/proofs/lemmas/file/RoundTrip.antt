@@ -1,5 +1,6 @@
 -- The two calls on files, one after the other. Assumes nothing.
 use Rattle.std.proofs.Common.{◌≡◌, ℕ, ◌*◌, ◌/◌, ◌≤◌, List, [], ◌∷◌, ◌++◌, length, take, replicate, sym, refl, ap, ◌∙◌, ap₂, append-nil, arith, take_at}
+use Rattle.bits.specs.Digits.{bit, lines_in}
 use Rattle.bits.specs.Lists.{over}
 use Rattle.circuit.specs.declared.gate.Gate.{Gate}
 use Rattle.circuit.specs.declared.header.Header.{Header}
@@ -15,7 +16,7 @@ use Rattle.circuit.specs.FileLaws.{FileCascade, Readable, Writable, RoundTrip}
 use Rattle.circuit.proofs.lemmas.Outcome.{written_served, written_refused}
 use Rattle.circuit.proofs.lemmas.words.Gates.{gates_length, gates_words, words_length}
 use Rattle.circuit.proofs.lemmas.words.Tests.{words_cascade, cascade_count, cascade_words}
-use Rattle.circuit.proofs.lemmas.file.Texts.{text_read}
+use Rattle.circuit.proofs.lemmas.file.Headers.{text_read}
 use Rattle.circuit.proofs.lemmas.file.Laws.{read_fits, read_served, write_served, served_write}
 
 read_untouched : (text out : List ℕ) → Untouched (read_outcome text (length out)) out (read_buffer text out)
@@ -46,8 +47,8 @@ module _ (h : Header) (gs : List Gate) (rest out : List ℕ) (good : FileCascade
   text_words = read_leaves (text_of h gs ++ rest) out _ _ text_counts (text_read h gs rest good)
 
 -- a cascade of a caller's header and words
-headed_cascade : (h : Header) (ws : List ℕ) (k : ℕ) → h ≡ unmarked h.lines → Headed h ws max_gates k → FileCascade h (gates_of ws)
-headed_cascade h ws k plain c =
+headed_cascade : (h : Header) (ws : List ℕ) (k : ℕ) → Headed h ws max_gates k → FileCascade h (gates_of ws)
+headed_cascade h ws k c =
     let w = c.cascade in
     record {
       lines_low = w.lines_low;
@@ -55,17 +56,16 @@ headed_cascade h ws k plain c =
       marks = c.marks;
       few = omega (arith, w.few, cascade_count h.lines ws max_gates k w);
       gates = w.gates;
-      plain = plain;
     }
 
-write_read : (h : Header) (ws out : List ℕ) (k : ℕ) → h ≡ unmarked h.lines → write_outcome h ws (length out) ≡ served k → (into : List ℕ) → length ws ≤ length into
+write_read : (h : Header) (ws out : List ℕ) (k : ℕ) → write_outcome h ws (length out) ≡ served k → (into : List ℕ) → length ws ≤ length into
     → Yields (read_outcome (take k (write_buffer h ws out)) (length into)) (read_buffer (take k (write_buffer h ws out)) into)
     (served (record { header = h; gates = length ws / 3; taken = k })) (over ws into)
-write_read h ws out k plain e into l =
+write_read h ws out k e into l =
     let gs : List Gate = gates_of ws in
     let w : Writable h ws (length out) k = write_served h ws (length out) k e in
     let c = w.good.cascade in
-    let good : FileCascade h gs = headed_cascade h ws w.gates plain w.good in
+    let good : FileCascade h gs = headed_cascade h ws w.gates w.good in
     let fits : 3 * length gs ≤ length into = omega (arith, c.size, cascade_count h.lines ws max_gates w.gates c) in
     let text : take k (write_buffer h ws out) ≡ text_of h gs ++ [] =
     ap (take k) (write_leaves h ws out k e) ∙ take_at (text_of h gs) _ k (sym w.bytes) ∙ sym (append-nil (text_of h gs)) in
@@ -126,7 +126,7 @@ round_trip =
 not_0 : FileCascade (unmarked 1) (not_gate 0 ∷ [])
 unfolding all_valid valid
 not_0 =
-    record { lines_low = omega arith; lines_high = omega arith; marks = unmarked_good 1; few = omega arith; gates = refl; plain = refl }
+    record { lines_low = omega arith; lines_high = omega arith; marks = unmarked_good 1; few = omega arith; gates = refl }
 
 pub idle_reading : (read : List ℕ → ℕ → Outcome ReadCounts) (write : Header → List ℕ → ℕ → Outcome ℕ) (write_into : Header → List ℕ → List ℕ → List ℕ)
     → RoundTrip read (λ text out. out) write write_into → ⊥
@@ -138,7 +138,7 @@ idle_reading read write write_into r =
 
 -- no text has a byte 0
 pub idle_writing : (read : List ℕ → ℕ → Outcome ReadCounts) (read_into : List ℕ → List ℕ → List ℕ) → RoundTrip read read_into write_outcome (λ h ws out. out) → ⊥
-unfolding all_valid gates_of gate_lines number_text
+unfolding all_valid gates_of gate_lines number_text lines_in bit
 idle_writing read read_into r =
     let h : Header = unmarked 1 in
     let out : List ℕ = replicate 12 0 in

@@ -4,21 +4,20 @@ use mathlib.Core.Bool.{false≢true}
 use Rattle.bits.proofs.Bools.{and_parts, cond-true, cond-false}
 use Rattle.circuit.specs.declared.gate.Gate.{Gate}
 use Rattle.circuit.specs.declared.header.Header.{Header}
-use Rattle.circuit.specs.declared.file.scan.HeaderNext.{HeaderNext}
 use Rattle.circuit.specs.Gate.{max_lines, max_gates}
-use Rattle.circuit.specs.Header.{unmarked}
 use Rattle.circuit.specs.Outcome.{Outcome, served, refused, written, Yields}
 use Rattle.circuit.specs.Refusal.{wrong_form}
 use Rattle.circuit.specs.Text.{line_feed, end_word, end_line}
-use Rattle.circuit.specs.File.{Line, no_line, first_line, later_lines, lines_of, line_size, parted_by, same, gate_fields, gate_on, header_on, is_end, Reading, read_from, reading, counts_of, gates_read, read_outcome, read_buffer}
+use Rattle.circuit.specs.File.{Line, no_line, first_line, later_lines, lines_of, line_size, parted_by, same, gate_fields, gate_on, is_end, Reading, read_from, reading, counts_of, gates_read, read_outcome, read_buffer}
 use Rattle.circuit.specs.declared.file.ReadCounts.{ReadCounts}
 use Rattle.circuit.specs.Words.{words_of}
-use Rattle.circuit.specs.private.Scan.{line_at, gate_next, header_next, counts_from}
+use Rattle.circuit.specs.private.Scan.{line_at, gate_next, counts_from}
 use Rattle.circuit.specs.private.Fill.{GatesAt}
+use Rattle.circuit.proofs.lemmas.file.marks.Steps.{Started}
 use Rattle.circuit.proofs.lemmas.Outcome.{never, unserved, then_served, then_refused, then_both, told}
 use Rattle.circuit.proofs.lemmas.words.Gates.{valid_all_more}
 use Rattle.circuit.proofs.lemmas.file.Lines.{cut_first, same_true}
-use Rattle.circuit.proofs.lemmas.file.Offences.{GateFound, gate_found, HeaderFound, header_found, Walked, whole_text, stopped, walked}
+use Rattle.circuit.proofs.lemmas.file.Offences.{GateFound, gate_found, Walked, whole_text, stopped, walked}
 
 -- a gate line that was read
 pub record Stepped (h : Header) (first : ℕ) (text : List ℕ) (gs : List Gate) (at next : ℕ) : Type 0 where
@@ -149,46 +148,7 @@ module _ (h : Header) (first : ℕ) (text : List ℕ) (start at gates : ℕ) (j 
 
 -- ---- a text from its header on
 
-pub record Started (text : List ℕ) (h : Header) (first next : ℕ) : Type 0 where
-  pub high : h.lines ≤ max_lines
-  pub inside : next ≤ length text
-  pub is : reading text ≡ read_from h first [] next (lines_of (drop next text))
-
 module _ (text : List ℕ) where
-  pub header_bad : (number p : ℕ) → header_next text ≡ refused number p → reading text ≡ refused number p
-  unfolding reading
-  header_bad number p e = then_refused _ _ number p (bad (header_on (line_at text)) refl)
-    where
-      bad : (o : Outcome ℕ) → header_on (line_at text) ≡ o → header_on (line_at text) ≡ refused number p
-      bad (served n) q = absurd (never (then_served _ _ n q) e)
-      bad (refused x y) q =
-          let f : ◌≡◌ {A = Outcome HeaderNext} (refused x y) (refused number p) = sym (then_refused _ _ x y q) ∙ e in
-          let i : x ≡ number = cc in
-          let j : y ≡ p = cc in
-          q ∙ ap₂ (λ (a b : ℕ). refused a b) i j
-
-  pub header_start : (n next : ℕ) → header_next text ≡ served (record { lines = n; next = next }) → (h : Header) → h ≡ unmarked n → Started text h 1 next
-  unfolding reading
-  header_start n next e h plain =
-      let (m, a, b) = then_both (header_on (line_at text)) _ (record { lines = n; next = next }) e in
-      let l = line_at text in
-      let x : ◌≡◌ {A = HeaderNext} (record { lines = m; next = line_size l }) (record { lines = n; next = next }) = unserved b in
-      let p : m ≡ n = ap (λ (y : HeaderNext). y.lines) x in
-      let q : line_size l ≡ next = ap (λ (y : HeaderNext). y.next) x in
-      let good : header_on l ≡ served n = a ∙ ap served p in
-      let (low, d) = facts (header_on l) (header_found l) good in
-      let c = cut_first text d in
-      let s : length text ≡ length l.bytes + length (line_feed ∷ drop (line_size l) text) = ap length c.text ∙ length-append l.bytes _ in
-      record {
-        high = omega (arith, low, ap (λ (x : Header). x.lines) plain);
-        inside = omega arith;
-        is = then_served _ _ n good ∙ ap (λ (x : Header). read_from x 1 [] (line_size l) (later_lines (lines_of text))) (sym plain) ∙ ap₂ (λ (k : ℕ) (ls : List Line). read_from h 1 [] k ls) q (sym c.later ∙ ap (λ (k : ℕ). lines_of (drop k text)) q);
-      }
-    where
-      facts : (o : Outcome ℕ) → HeaderFound (line_at text) o → o ≡ served n → (n ≤ max_lines) × ((line_at text).ended ≡ true)
-      facts o (HeaderFound.good k low high b d) q = let x : k ≡ n = cc in (omega arith, d)
-      facts o (HeaderFound.bad number y) q = absurd (never q refl)
-
   module _ (h : Header) (first next : ℕ) (s : Started text h first next) where
     -- what the judging loop told
     pub judged_bad : (number p : ℕ) → counts_from h first next text ≡ refused number p → reading text ≡ refused number p

@@ -5,12 +5,10 @@ use Rattle.bits.proofs.Lists.{free, free_append}
 use Rattle.circuit.specs.declared.gate.Gate.{Gate}
 use Rattle.circuit.specs.declared.header.Header.{Header}
 use Rattle.circuit.specs.Gate.{max_lines, max_gates, valid, Control, Inside, controls_of}
-use Rattle.circuit.specs.Header.{unmarked}
-use Rattle.circuit.specs.Outcome.{served, and_then}
+use Rattle.circuit.specs.Outcome.{served}
 use Rattle.circuit.specs.Words.{all_valid}
-use Rattle.circuit.specs.Text.{tab, line_feed, plus_sign, minus_sign, lines_word, gate_word, end_word, number_text, control_text, controls_text, gate_text, header_line, gate_line, end_line, gate_lines, text_of}
-use Rattle.circuit.specs.File.{Line, first_line, later_lines, lines_of, line_size, fields_of, same, line_of, control_of, controls_from, among, rising_from, gate_of, closed_gate, gate_fields, gate_on, header_fields, header_on, read_from, reading}
-use Rattle.circuit.specs.FileLaws.{FileCascade}
+use Rattle.circuit.specs.Text.{tab, line_feed, plus_sign, minus_sign, lines_word, gate_word, number_text, control_text, controls_text, gate_text, header_line, gate_line, gate_lines}
+use Rattle.circuit.specs.File.{lines_of, fields_of, same, line_of, control_of, controls_from, among, rising_from, gate_of, closed_gate, gate_fields, gate_on, header_fields, header_on, read_from}
 use Rattle.circuit.proofs.lemmas.Outcome.{demand_met, then_served}
 use Rattle.circuit.proofs.lemmas.gate.Valid.{valid_facts, valid_more}
 use Rattle.circuit.proofs.lemmas.words.Tests.{good_lines}
@@ -151,32 +149,3 @@ header_read_lem n low high =
     ∙ demand_met _ _ _ _ (same_self lines_word)
     ∙ then_served _ _ n (number_text_lem 0 n (omega arith))
     ∙ demand_met _ _ _ _ (good_lines n low high)
-
--- a text that starts with a header and gate lines
-pub start_read : (h : Header) (gs : List Gate) (r : List ℕ) → FileCascade h gs
-    → reading (header_line h.lines ++ (gate_lines gs ++ r)) ≡ read_from h 1 gs (length (header_line h.lines) + length (gate_lines gs)) (lines_of r)
-unfolding reading
-start_read h gs r c =
-    let n : ℕ = h.lines in
-    let x : List ℕ = gate_lines gs ++ r in
-    let z : length (number_text n ++ (line_feed ∷ [])) ≡ length (number_text n) + 1 = length-append (number_text n) (line_feed ∷ []) in
-    let e : line_size (record { bytes = header_text n; ended = true }) ≡ length (header_line n) = omega arith in
-    ap (λ (ls : List Line). and_then (header_on (first_line ls)) (λ n. read_from (unmarked n) 1 [] (line_size (first_line ls)) (later_lines ls))) (header_line_lem n x c.lines_high)
-    ∙ then_served _ _ n (header_read_lem n c.lines_low c.lines_high)
-    ∙ ap (λ (k : ℕ). read_from (unmarked n) 1 [] k (lines_of x)) e
-    ∙ ap (λ (k : Header). read_from k 1 [] (length (header_line n)) (lines_of x)) (sym c.plain)
-    ∙ gates_read_lem h c.lines_high 1 gs [] (length (header_line n)) r c.gates (omega arith)
-
--- the text of a cascade, followed by anything
-pub text_read : (h : Header) (gs : List Gate) (rest : List ℕ) → FileCascade h gs
-    → reading (text_of h gs ++ rest) ≡ served (record { header = h; gates = gs; taken = length (text_of h gs) })
-unfolding read_from free same
-text_read h gs rest c =
-    let n : ℕ = h.lines in
-    let a = length-append (header_line n) (gate_lines gs ++ end_line) in
-    let b = length-append (gate_lines gs) end_line in
-    let e : length (header_line n) + length (gate_lines gs) + 4 ≡ length (text_of h gs) = omega arith in
-    ap reading (append_assoc (header_line n) (gate_lines gs ++ end_line) rest ∙ ap (λ (x : List ℕ). header_line n ++ x) (append_assoc (gate_lines gs) end_line rest))
-    ∙ start_read h gs (end_line ++ rest) c
-    ∙ ap (read_from h 1 gs (length (header_line n) + length (gate_lines gs))) (lines_cut end_word rest refl)
-    ∙ ap (λ (k : ℕ). served (record { header = h; gates = gs; taken = k })) e
