@@ -7,7 +7,7 @@ use Prim.Native.Nat.{ℕ, zero, suc, ◌≤◌, ◌<◌}
 use native.Mathlib.Omega.{arith}
 use lib.ListN.{length, drop}
 use borrow.Author.Tests.{leb-true}
-use Rattle.bits.specs.Digits.{bit}
+use Rattle.bits.specs.Digits.{bit, lines_in}
 use Rattle.bits.specs.Lists.{fold}
 use Rattle.circuit.specs.declared.gate.Gate.{Gate}
 use Rattle.circuit.specs.declared.header.Header.{Header}
@@ -48,11 +48,11 @@ plain = unmarked 1
 
 pub none_good : FileCascade plain []
 unfolding all_valid
-none_good = record { lines_low = omega arith; lines_high = omega arith; marks = unmarked_good 1; few = omega arith; gates = refl; plain = refl }
+none_good = record { lines_low = omega arith; lines_high = omega arith; marks = unmarked_good 1; few = omega arith; gates = refl }
 
 pub once_good : FileCascade plain once
 unfolding all_valid valid
-once_good = record { lines_low = omega arith; lines_high = omega arith; marks = unmarked_good 1; few = omega arith; gates = refl; plain = refl }
+once_good = record { lines_low = omega arith; lines_high = omega arith; marks = unmarked_good 1; few = omega arith; gates = refl }
 
 -- which differ on state 0
 pub once_differs : EqualFor plain once [] → ⊥
@@ -69,11 +69,11 @@ abbrev pub second : List ℕ
 second = text_of plain []
 
 pub first_bytes : length first ≤ max_file
-unfolding number_text controls_text gate_lines controls_below bit
+unfolding number_text controls_text gate_lines controls_below lines_in bit
 first_bytes = leb-true (length first) max_file refl
 
 pub second_bytes : length second ≤ max_file
-unfolding number_text controls_text gate_lines controls_below bit
+unfolding number_text controls_text gate_lines controls_below lines_in bit
 second_bytes = leb-true (length second) max_file refl
 
 -- ---- with marks
@@ -124,11 +124,11 @@ abbrev equal : List ℕ
 equal = text_of plain once ++ text_of plain once
 
 differing_bytes : length differing ≤ max_input
-unfolding number_text controls_text gate_lines controls_below bit
+unfolding number_text controls_text gate_lines controls_below lines_in bit
 differing_bytes = leb-true (length differing) max_input refl
 
 equal_bytes : length equal ≤ max_input
-unfolding number_text controls_text gate_lines controls_below bit
+unfolding number_text controls_text gate_lines controls_below lines_in bit
 equal_bytes = leb-true (length equal) max_input refl
 
 differing_words : length (stored (pair_clauses plain once [])) ≤ max_words
