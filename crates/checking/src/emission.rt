@@ -34,14 +34,12 @@ fn new_variable(used: u64, k: u64) -> u64
     used + 2
 }
 
-// The inputs of lines below n as their current variables.
-fn set_inputs(n: u64, current: &mut [u64])
-    requires few_lines { n ≤ max_lines }
-    requires current_room { n ≤ length current.old }
-    ensures { Holds n current.new input_of }
+// The inputs as the current variables.
+fn set_inputs(current: &mut [u64])
+    ensures { Holds (length current.old) current.new input_of }
 {
-    for k in 0..n {
-        current[k as usize] = k + 1;
+    for k in 0..current.len() {
+        current[k] = k as u64 + 1;
     }
 }
 
@@ -101,25 +99,18 @@ fn put_gates(
     Front { at, used }
 }
 
-// The clause of a line's d at the buffer's start; how many words.
-fn put_difference(hit: bool, d: u64, a: u64, b: u64, out: &mut [ClauseWord]) -> usize
-    requires { LineReady hit d a b (length out.old) }
-    ensures { Put result out.new (line_stored hit d a b) out.old }
+// The clause of a line's d at the buffer's start; how many words. Two variables that differ are those of a line that is hit.
+fn put_difference(d: u64, a: u64, b: u64, out: &mut [ClauseWord]) -> usize
+    requires { LineReady d a b (length out.old) }
+    ensures { Put result out.new (line_stored d a b) out.old }
 {
     let not_d = crate::emitter::literal(d, false);
-    if hit {
+    if a != b {
         let x = crate::emitter::literal(a, true);
         let y = crate::emitter::literal(b, true);
         return crate::put::put(out, &[1, 3, not_d, x, y]);
     }
     crate::put::put(out, &[0, 1, not_d])
-}
-
-// Whether a line is hit: one of its two variables is no input.
-fn hit(n: u64, a: u64, b: u64) -> bool
-    ensures { result ≡ (nat_lt n a || nat_lt n b) }
-{
-    n < a || n < b
 }
 
 // The clauses of the lines that are not junk at the buffer's start, with `used` variables numbered so far.
@@ -141,9 +132,7 @@ fn put_differences(
             continue;
         }
         used += 1;
-        let a = left[k as usize];
-        let b = right[k as usize];
-        at += put_difference(hit(n, a, b), used, a, b, &mut out[at..]);
+        at += put_difference(used, left[k as usize], right[k as usize], &mut out[at..]);
     }
     Front { at, used }
 }
@@ -201,8 +190,8 @@ pub(crate) fn put_list(h: Header, a: &[u64], b: &[u64], out: &mut [ClauseWord])
     let n = h.lines;
     let mut left = [0; 64];
     let mut right = [0; 64];
-    set_inputs(n, &mut left);
-    set_inputs(n, &mut right);
+    set_inputs(&mut left[..n as usize]);
+    set_inputs(&mut right[..n as usize]);
     let front = put_front(h, a, b, &mut left, &mut right, out);
     let lines = put_differences(n, h.junk, &left, &right, front.used, &mut out[front.at..]);
     let end = front.at + lines.at;

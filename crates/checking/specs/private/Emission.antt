@@ -1,5 +1,5 @@
 -- What the parts of the emission write, and what they are given.
-use Rattle.std.specs.Prelude.{◌≡◌, ℕ, suc, ◌+◌, ◌*◌, ◌^◌, ◌<◌, ◌≤◌, Bool, true, cond, ◌||◌, List, [], ◌∷◌, ◌++◌, map, length, ℤ, nat_lt}
+use Rattle.std.specs.Prelude.{◌≡◌, ℕ, suc, ◌+◌, ◌*◌, ◌^◌, ◌<◌, ◌≤◌, Bool, true, cond, not, List, [], ◌∷◌, ◌++◌, map, length, ℤ, ◌==◌}
 use Rattle.bits.specs.Lists.{Put}
 use Rattle.circuit.specs.declared.gate.Gate.{Gate}
 use Rattle.circuit.specs.declared.header.Header.{Header}
@@ -47,27 +47,23 @@ pub record GatesPut (n : ℕ) (gs : List Gate) (used : ℕ) (start : ℕ → ℕ
 
 -- ---- lines
 
--- the clause of a line's d
-abbrev pub line_stored : Bool → ℕ → ℕ → ℕ → List ℤ
-line_stored hit d a b = stored_clause (difference_clause hit d a b)
+-- the clause of a line's d: two variables that differ are those of a line that is hit
+abbrev pub line_stored : ℕ → ℕ → ℕ → List ℤ
+line_stored d a b = stored_clause (difference_clause (not (a == b)) d a b)
 
 -- variables that fit a word, and room for the clause
-pub record LineReady (hit : Bool) (d a b room : ℕ) : Type 0 where
+pub record LineReady (d a b room : ℕ) : Type 0 where
   pub difference : d < word_limit
   pub first : a < word_limit
   pub last : b < word_limit
-  pub enough : length (line_stored hit d a b) ≤ room
-
--- a line is hit where one of its two variables is none of the n inputs
-abbrev pub no_inputs : ℕ → List ℕ → List ℕ → ℕ → Bool
-no_inputs n left right k = nat_lt n (by_line left k) || nat_lt n (by_line right k)
+  pub enough : length (line_stored d a b) ≤ room
 
 -- the clauses of the given lines, and those of all that are not junk
-abbrev pub lines_stored : ℕ → List ℕ → List ℕ → ℕ → List ℕ → List ℤ
-lines_stored n left right used lines = stored (difference_clauses (no_inputs n left right) (by_line left) (by_line right) used lines)
+abbrev pub lines_stored : List ℕ → List ℕ → ℕ → List ℕ → List ℤ
+lines_stored left right used lines = stored (difference_clauses (λ k. not (by_line left k == by_line right k)) (by_line left) (by_line right) used lines)
 
 abbrev pub counted_stored : ℕ → ℕ → List ℕ → List ℕ → ℕ → List ℤ
-counted_stored n junk left right used = lines_stored n left right used (without_junk junk (up_from 0 n))
+counted_stored n junk left right used = lines_stored left right used (without_junk junk (up_from 0 n))
 
 pub record LinesReady (n junk : ℕ) (left right : List ℕ) (used room : ℕ) : Type 0 where
   pub lines : n ≤ max_lines

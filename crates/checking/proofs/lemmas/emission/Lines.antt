@@ -11,7 +11,7 @@ use Rattle.checking.specs.Clauses.{plus, up_from, difference_clauses}
 use Rattle.checking.specs.Pair.{without_junk}
 use Rattle.checking.specs.Stored.{stored}
 use Rattle.checking.specs.private.Emitter.{by_line}
-use Rattle.checking.specs.private.Emission.{line_stored, no_inputs, lines_stored, counted_stored, last_stored, LineReady, LinesReady, LinesPut}
+use Rattle.checking.specs.private.Emission.{line_stored, lines_stored, counted_stored, last_stored, LineReady, LinesReady, LinesPut}
 use Rattle.checking.proofs.lemmas.clauses.Forced.{length_up_from}
 use Rattle.checking.proofs.lemmas.clauses.Totals.{up_from_more}
 use Rattle.checking.proofs.lemmas.emitter.Parts.{lent_long}
@@ -27,7 +27,7 @@ pub record Compared (n junk : ℕ) (left right : List ℕ) (start_used : ℕ) (f
   pub front : List ℤ
   pub lines : ℕ
   pub count : k + lines ≡ n
-  pub clauses_left : counted_stored n junk left right start_used ≡ front ++ lines_stored n left right used (lines_left junk k lines)
+  pub clauses_left : counted_stored n junk left right start_used ≡ front ++ lines_stored left right used (lines_left junk k lines)
   pub number_left : used + length (lines_left junk k lines) ≡ start_used + length (lines_left junk 0 n)
   pub few : used ≤ start_used + k
   pub place : length front ≡ at
@@ -61,7 +61,7 @@ module _ (n junk : ℕ) (left right : List ℕ) (start_used : ℕ) (first out : 
         front = e.front;
         lines = lines.0;
         count = omega (arith, e.count, lines.1);
-        clauses_left = e.clauses_left ∙ ap (λ (ls : List ℕ). e.front ++ lines_stored n left right used ls) same;
+        clauses_left = e.clauses_left ∙ ap (λ (ls : List ℕ). e.front ++ lines_stored left right used ls) same;
         number_left = ap (λ (ls : List ℕ). used + length ls) (sym same) ∙ e.number_left;
         few = omega (arith, e.few);
         place = e.place;
@@ -71,34 +71,34 @@ module _ (n junk : ℕ) (left right : List ℕ) (start_used : ℕ) (first out : 
 
   module _ (j : bit junk k ≡ false) where
     abbrev new : List ℤ
-    new = line_stored (no_inputs n left right k) (used + 1) (by_line left k) (by_line right k)
+    new = line_stored (used + 1) (by_line left k) (by_line right k)
 
     kept : lines_left junk k e.lines ≡ k ∷ lines_left junk (k + 1) lines.0
     kept = next ∙ cond-false (bit junk k) _ _ j
 
-    split : counted_stored n junk left right start_used ≡ (e.front ++ new) ++ lines_stored n left right (used + 1) (lines_left junk (k + 1) lines.0)
+    split : counted_stored n junk left right start_used ≡ (e.front ++ new) ++ lines_stored left right (used + 1) (lines_left junk (k + 1) lines.0)
     unfolding difference_clauses stored
     split =
         let one : suc used ≡ used + 1 = omega arith in
         e.clauses_left
-        ∙ ap (λ (ls : List ℕ). e.front ++ lines_stored n left right used ls) kept
+        ∙ ap (λ (ls : List ℕ). e.front ++ lines_stored left right used ls) kept
         ∙ ap
-        (λ (d : ℕ). e.front ++ (line_stored (no_inputs n left right k) d (by_line left k) (by_line right k) ++ lines_stored n left right d (lines_left junk (k + 1) lines.0))) one
-        ∙ sym (append_assoc e.front new (lines_stored n left right (used + 1) (lines_left junk (k + 1) lines.0)))
+        (λ (d : ℕ). e.front ++ (line_stored d (by_line left k) (by_line right k) ++ lines_stored left right d (lines_left junk (k + 1) lines.0))) one
+        ∙ sym (append_assoc e.front new (lines_stored left right (used + 1) (lines_left junk (k + 1) lines.0)))
 
     pub line_room : at + length new ≤ length out
     line_room =
         omega (
           arith,
           ap length split,
-          length-append (e.front ++ new) (lines_stored n left right (used + 1) (lines_left junk (k + 1) lines.0)),
+          length-append (e.front ++ new) (lines_stored left right (used + 1) (lines_left junk (k + 1) lines.0)),
           length-append e.front new,
           ready.enough,
           e.place,
           e.as_long,
         )
 
-    pub line_ready : LineReady (no_inputs n left right k) (used + 1) (by_line left k) (by_line right k) (length (take (length out - at) (drop at out)))
+    pub line_ready : LineReady (used + 1) (by_line left k) (by_line right k) (length (take (length out - at) (drop at out)))
     line_ready =
         record {
           difference = omega (arith, ready.few, e.few);
@@ -131,7 +131,7 @@ unfolding difference_clauses up_from without_junk stored
 compared_all n junk left right start_used first out used at k past e =
     let none : e.lines ≡ 0 = omega (arith, e.count) in
     let all : counted_stored n junk left right start_used ≡ e.front =
-    e.clauses_left ∙ ap (λ (m : ℕ). e.front ++ lines_stored n left right used (lines_left junk k m)) none ∙ append-nil e.front in
+    e.clauses_left ∙ ap (λ (m : ℕ). e.front ++ lines_stored left right used (lines_left junk k m)) none ∙ append-nil e.front in
     record {
       variables = omega (arith, e.number_left, ap (λ (m : ℕ). length (lines_left junk k m)) none);
       written = record { count = sym e.place ∙ ap length (sym all); buffer = e.buffer ∙ ap (λ (f : List ℤ). over f first) (sym all) };

@@ -1,7 +1,8 @@
 -- The clauses before the d, those of the d, and the last one make the whole list. Assumes nothing.
-use Rattle.std.proofs.Common.{◌≡◌, ℕ, suc, ◌+◌, ◌-◌, ◌*◌, ◌<◌, ◌≤◌, Bool, true, false, cond, ◌||◌, eqb, ltb, List, [], ◌∷◌, ◌++◌, length, ℤ, sym, refl, ap, ◌∙◌, subst, ap₂, arith, length-append, le-ltb, lt-ltb}
+use Rattle.std.proofs.Common.{◌≡◌, ℕ, suc, ◌+◌, ◌-◌, ◌*◌, ◌<◌, ◌≤◌, Bool, true, false, cond, not, ◌||◌, eqb, ltb, ltb-true, ne_eqb, eq-eqb, true≢false, List, [], ◌∷◌, ◌++◌, length, ℤ, sym, refl, ap, ◌∙◌, subst, ap₂, arith, length-append, lt-ltb}
 use mathlib.Core.Bool.{or-false, or-true}
 use Rattle.bits.specs.Lists.{over, Put}
+use Rattle.bits.proofs.Bools.{cond-false, or_none}
 use Rattle.circuit.specs.declared.gate.Gate.{Gate}
 use Rattle.circuit.specs.declared.header.Header.{Header}
 use Rattle.circuit.specs.Gate.{max_lines, controls_of}
@@ -14,8 +15,9 @@ use Rattle.checking.specs.Miter.{miter_gates}
 use Rattle.checking.specs.Pair.{counted_lines, either_targets, used_after_both, pair_clauses}
 use Rattle.checking.specs.Stored.{stored, word_limit}
 use Rattle.checking.specs.private.Emitter.{by_line}
-use Rattle.checking.specs.private.Emission.{no_inputs, counted_stored, last_stored, LinesReady, LinesPut, front_used, left_after, right_after, ListReady, FrontPut}
+use Rattle.checking.specs.private.Emission.{counted_stored, last_stored, LinesReady, LinesPut, front_used, left_after, right_after, ListReady, FrontPut}
 use Rattle.checking.proofs.lemmas.clauses.Gates.{new_named}
+use Rattle.checking.proofs.lemmas.clauses.Within.{after_named, inputs_named}
 use Rattle.checking.proofs.lemmas.clauses.Fits.{used_bound}
 use Rattle.checking.proofs.lemmas.clauses.Maps.{differences_local}
 use Rattle.checking.proofs.lemmas.clauses.Forced.{used_more}
@@ -25,7 +27,7 @@ use Rattle.checking.proofs.lemmas.emission.Rest.{rest, back, rest_room, put_next
 use Rattle.checking.proofs.lemmas.pair_emission.Fits.{counted_below, counted_few}
 use Rattle.checking.proofs.lemmas.pair_emission.Sums.{targeted_miter}
 
--- ---- a line is targeted exactly where its last variable is no input
+-- ---- a gate targets a line exactly where its two variables differ
 
 moved_hit : (n used w line : ℕ) (b later : Bool) → n < w → (ltb n (cond b w line) || later) ≡ (ltb n line || (b || later))
 moved_hit n used w line true later h = ap (λ (x : Bool). x || later) (lt-ltb n w h) ∙ sym (or-true (ltb n line))
@@ -39,25 +41,54 @@ hit_after n used current (g ∷ gs) k h =
     hit_after n (used_by used g) (moved used current g) gs k (omega (arith, more))
     ∙ moved_hit n used (used_by used g) (current k) (eqb k g.target) (targeted gs k) (omega (arith, more))
 
-input_no_hit : (n k : ℕ) → k < n → ltb n (input_of k) ≡ false
-input_no_hit n k h = le-ltb n (suc k) (omega arith)
+-- a line that no gate targets keeps its variable
+untargeted : (used : ℕ) (current : ℕ → ℕ) (gs : List Gate) (k : ℕ) → targeted gs k ≡ false → current_after used current gs k ≡ current k
+unfolding current_after targeted moved
+untargeted used current [] k t = refl
+untargeted used current (g ∷ gs) k t =
+    let (x, y) = or_none (eqb k g.target) (targeted gs k) t in
+    untargeted (used_by used g) (moved used current g) gs k y ∙ cond-false (eqb k g.target) (used_by used g) (current k) x
 
-hit_line : (n used : ℕ) (gs : List Gate) (k : ℕ) → n ≤ used → k < n → ltb n (current_after used input_of gs k) ≡ targeted gs k
-hit_line n used gs k more h = hit_after n used input_of gs k more ∙ ap (λ (b : Bool). b || targeted gs k) (input_no_hit n k h)
+-- two variables of a line, the second numbered after `middle` where a gate targets the line: they differ exactly where one of them is no input
+apart : (line a b middle : ℕ) (s t : Bool) → (s ≡ true → line < a) → (s ≡ false → a ≡ line) → (t ≡ true → middle < b) → (t ≡ false → b ≡ line) → a ≤ middle
+    → not (eqb a b) ≡ (s || t)
+apart line a b middle true true f f' g g' few = ap not (ne_eqb a b (λ e. let h = g refl in omega arith))
+apart line a b middle false true f f' g g' few = ap not (ne_eqb a b (λ e. let h = g refl in omega arith))
+apart line a b middle true false f f' g g' few = ap not (ne_eqb a b (λ e. let h = f refl in let i = g' refl in omega arith))
+apart line a b middle false false f f' g g' few = ap not (eq-eqb a b (f' refl ∙ sym (g' refl)))
+
+-- a gate targets the line: its variable is numbered after those before the gates
+after_used : (m used : ℕ) (gs : List Gate) (k : ℕ) → m ≤ used → suc k ≤ m → targeted gs k ≡ true → m < current_after used input_of gs k
+after_used m used gs k few low t = ltb-true m _ (hit_after m used input_of gs k few ∙ ap (λ (b : Bool). ltb m (suc k) || b) t ∙ or-true (ltb m (suc k)))
+
+both_hit : (n : ℕ) (a b : List Gate) (k : ℕ) → k < n → not (eqb (current_after n input_of a k) (current_after (used_after n a) input_of b k)) ≡ (targeted a k || targeted b k)
+both_hit n a b k l =
+    let middle : ℕ = used_after n a in
+    let more = used_more n a in
+    let named = after_named n middle n input_of a (omega arith) (inputs_named n middle more) in
+    apart (suc k) (current_after n input_of a k) (current_after middle input_of b k) middle (targeted a k) (targeted b k)
+    (λ t. omega (arith, after_used n n a k (omega arith) l t))
+    (untargeted n input_of a k)
+    (λ t. after_used middle middle b k (omega arith) (omega arith) t)
+    (untargeted middle input_of b k)
+    (named.high k l)
 
 module _ (h : Header) (a b : List Gate) where
   abbrev n : ℕ
   n = h.lines
 
-  either_hit : (k : ℕ) → k < n → (ltb n (left_after h a b k) || ltb n (right_after h a b k)) ≡ either_targets a b k
+  -- B's variables are numbered after A's
+  either_hit : (k : ℕ) → k < n → not (eqb (left_after h a b k) (right_after h a b k)) ≡ either_targets a b k
   either_hit k l = by (marked h)
     where
       by : (t : Bool)
-          → (ltb n (cond t (current_after n input_of a) input_of k) || ltb n (cond t (current_after (used_after n a) input_of b) (current_after n input_of (miter_gates a b)) k))
+          → not (eqb (cond t (current_after n input_of a) input_of k) (cond t (current_after (used_after n a) input_of b) (current_after n input_of (miter_gates a b)) k))
           ≡ either_targets a b k
-      by true = ap₂ ◌||◌ (hit_line n n a k (omega arith) l) (hit_line n (used_after n a) b k (used_more n a) l)
+      by true = both_hit n a b k l
       by false =
-          ap₂ ◌||◌ (input_no_hit n k l) (hit_line n n (miter_gates a b) k (omega arith) l) ∙ ap (λ (f : ℕ → Bool). f k) (targeted_miter a b)
+          apart (suc k) (suc k) (current_after n input_of (miter_gates a b) k) n false (targeted (miter_gates a b) k)
+          (λ t. absurd (true≢false (sym t))) (λ t. refl) (after_used n n (miter_gates a b) k (omega arith) l) (untargeted n input_of (miter_gates a b) k) l
+          ∙ ap (λ (f : ℕ → Bool). f k) (targeted_miter a b)
 
   few_used : front_used h a b ≤ n + 2 * (length a + length b)
   few_used = by (marked h)
@@ -86,8 +117,8 @@ module _ (h : Header) (a b : List Gate) (first : List ℤ) (ready : ListReady h 
     same_lines =
         ap (counted_stored h.lines h.junk left right) p.variables
         ∙ ap stored
-        (differences_local h.lines (no_inputs h.lines left right) (either_targets a b) (by_line left) (left_after h a b) (by_line right) (right_after h a b)
-        (λ k l. ap₂ ◌||◌ (ap (ltb h.lines) (p.left_holds k l)) (ap (ltb h.lines) (p.right_holds k l)) ∙ either_hit h a b k l) p.left_holds p.right_holds
+        (differences_local h.lines (λ k. not (eqb (by_line left k) (by_line right k))) (either_targets a b) (by_line left) (left_after h a b) (by_line right) (right_after h a b)
+        (λ k l. ap₂ (λ (x y : ℕ). not (eqb x y)) (p.left_holds k l) (p.right_holds k l) ∙ either_hit h a b k l) p.left_holds p.right_holds
         (front_used h a b) (counted_lines h) (counted_below h))
 
     used_few : used + h.lines < word_limit
