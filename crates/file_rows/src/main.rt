@@ -3,6 +3,8 @@
 
 ghost use Rattle.std.specs.Prelude.{◌≤◌, length};
 
+use circuit::header::Header;
+
 // Lines, gates and bytes taken.
 fn print_read(rt: &impl Print, text: &[u8]) {
     let mut out = [0u64; 3072];
