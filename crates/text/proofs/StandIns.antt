@@ -5,9 +5,10 @@ use mathlib.Core.List.{List, [], ◌∷◌, ◌++◌}
 use mathlib.Core.Option.{some}
 use Prim.Native.Nat.{ℕ, zero, suc, ◌≤◌, ◌<◌}
 use native.Mathlib.Omega.{arith}
+use lib.Dec.{leb}
 use lib.ListN.{length, drop}
 use borrow.Author.Tests.{leb-true}
-use Rattle.bits.specs.Digits.{bit}
+use Rattle.bits.specs.Digits.{bit, lines_in}
 use Rattle.bits.specs.Lists.{fold}
 use Rattle.circuit.specs.declared.gate.Gate.{Gate}
 use Rattle.circuit.specs.declared.header.Header.{Header}
@@ -16,7 +17,7 @@ use Rattle.circuit.specs.Words.{all_valid}
 use Rattle.circuit.specs.Run.{run, EqualFor}
 use Rattle.circuit.specs.Text.{number_text, controls_text, gate_lines, text_of}
 use Rattle.circuit.specs.FileLaws.{FileCascade}
-use Rattle.circuit.specs.Header.{unmarked}
+use Rattle.circuit.specs.Header.{unmarked, marks_good}
 use Rattle.circuit.proofs.Promises.{run_none, unmarked_good, unmarked_equal}
 use Rattle.checking.specs.Clauses.{Clause, OR, up_from, moved, gates_clauses, used_after, current_after, targeted, difference_clauses, clauses_of, variables_of}
 use Rattle.checking.specs.Pair.{pair_clauses, pair_variables}
@@ -28,6 +29,7 @@ use Rattle.text.specs.Formula.{Formula}
 use Rattle.text.specs.Compare.{max_file}
 use Rattle.text.specs.FileOutcome.{refusal_text, answer_text}
 use Rattle.text.specs.Tomiter.{max_input, max_words}
+use Rattle.text.specs.TwoFiles.{TwoFiles}
 use Rattle.text.specs.BytesTell.{StartsProblem, TextTells}
 use Rattle.text.specs.TextLaws.{Fitting, ProgramLaws, contradiction, without_first}
 use Rattle.text.proofs.Reading.{text_back}
@@ -48,11 +50,11 @@ plain = unmarked 1
 
 pub none_good : FileCascade plain []
 unfolding all_valid
-none_good = record { lines_low = omega arith; lines_high = omega arith; marks = unmarked_good 1; few = omega arith; gates = refl; plain = refl }
+none_good = record { lines_low = omega arith; lines_high = omega arith; marks = unmarked_good 1; few = omega arith; gates = refl }
 
 pub once_good : FileCascade plain once
 unfolding all_valid valid
-once_good = record { lines_low = omega arith; lines_high = omega arith; marks = unmarked_good 1; few = omega arith; gates = refl; plain = refl }
+once_good = record { lines_low = omega arith; lines_high = omega arith; marks = unmarked_good 1; few = omega arith; gates = refl }
 
 -- which differ on state 0
 pub once_differs : EqualFor plain once [] → ⊥
@@ -69,11 +71,11 @@ abbrev pub second : List ℕ
 second = text_of plain []
 
 pub first_bytes : length first ≤ max_file
-unfolding number_text controls_text gate_lines controls_below bit
+unfolding number_text controls_text gate_lines controls_below bit lines_in
 first_bytes = leb-true (length first) max_file refl
 
 pub second_bytes : length second ≤ max_file
-unfolding number_text controls_text gate_lines controls_below bit
+unfolding number_text controls_text gate_lines controls_below bit lines_in
 second_bytes = leb-true (length second) max_file refl
 
 -- ---- with marks
@@ -114,6 +116,33 @@ controlled_acts e =
     let z : ◌≡◌ {A = ℕ} 3 1 = f in
     omega arith
 
+-- the files of two cascades
+files_of_two : (h : Header) (a b : List Gate) → FileCascade h a → FileCascade h b → leb (length (text_of h a)) max_file ≡ true → leb (length (text_of h b)) max_file ≡ true
+    → TwoFiles (text_of h a) (text_of h b) h a b
+files_of_two h a b x y l m =
+    record { first_good = x; second_good = y; first_text = refl; second_text = refl; first_bytes = leb-true _ _ l; second_bytes = leb-true _ _ m }
+
+pub junk_files : TwoFiles (text_of junk_line once) (text_of junk_line []) junk_line once []
+unfolding marks_good all_valid valid number_text controls_text gate_lines controls_below bit lines_in
+junk_files =
+    files_of_two junk_line once []
+    (record { lines_low = omega arith; lines_high = omega arith; marks = refl; few = omega arith; gates = refl })
+    (record { lines_low = omega arith; lines_high = omega arith; marks = refl; few = omega arith; gates = refl }) refl refl
+
+pub constant_files : TwoFiles (text_of constant_line controlled) (text_of constant_line []) constant_line controlled []
+unfolding marks_good all_valid valid number_text controls_text gate_lines controls_below bit lines_in
+constant_files =
+    files_of_two constant_line controlled []
+    (record { lines_low = omega arith; lines_high = omega arith; marks = refl; few = omega arith; gates = refl })
+    (record { lines_low = omega arith; lines_high = omega arith; marks = refl; few = omega arith; gates = refl }) refl refl
+
+pub two_files : TwoFiles (text_of (unmarked 2) controlled) (text_of (unmarked 2) []) (unmarked 2) controlled []
+unfolding marks_good all_valid valid number_text controls_text gate_lines controls_below bit lines_in
+two_files =
+    files_of_two (unmarked 2) controlled []
+    (record { lines_low = omega arith; lines_high = omega arith; marks = refl; few = omega arith; gates = refl })
+    (record { lines_low = omega arith; lines_high = omega arith; marks = refl; few = omega arith; gates = refl }) refl refl
+
 -- ---- stand-ins for tomiter
 
 -- NOT against nothing, and against NOT
@@ -124,11 +153,11 @@ abbrev equal : List ℕ
 equal = text_of plain once ++ text_of plain once
 
 differing_bytes : length differing ≤ max_input
-unfolding number_text controls_text gate_lines controls_below bit
+unfolding number_text controls_text gate_lines controls_below bit lines_in
 differing_bytes = leb-true (length differing) max_input refl
 
 equal_bytes : length equal ≤ max_input
-unfolding number_text controls_text gate_lines controls_below bit
+unfolding number_text controls_text gate_lines controls_below bit lines_in
 equal_bytes = leb-true (length equal) max_input refl
 
 differing_words : length (stored (pair_clauses plain once [])) ≤ max_words
