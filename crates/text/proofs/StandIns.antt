@@ -71,11 +71,11 @@ abbrev pub second : List ℕ
 second = text_of plain []
 
 pub first_bytes : length first ≤ max_file
-unfolding number_text controls_text gate_lines controls_below bit lines_in
+unfolding number_text controls_text gate_lines controls_below lines_in bit
 first_bytes = leb-true (length first) max_file refl
 
 pub second_bytes : length second ≤ max_file
-unfolding number_text controls_text gate_lines controls_below bit lines_in
+unfolding number_text controls_text gate_lines controls_below lines_in bit
 second_bytes = leb-true (length second) max_file refl
 
 -- ---- with marks
@@ -123,21 +123,21 @@ files_of_two h a b x y l m =
     record { first_good = x; second_good = y; first_text = refl; second_text = refl; first_bytes = leb-true _ _ l; second_bytes = leb-true _ _ m }
 
 pub junk_files : TwoFiles (text_of junk_line once) (text_of junk_line []) junk_line once []
-unfolding marks_good all_valid valid number_text controls_text gate_lines controls_below bit lines_in
+unfolding marks_good all_valid valid number_text controls_text gate_lines controls_below lines_in bit
 junk_files =
     files_of_two junk_line once []
     (record { lines_low = omega arith; lines_high = omega arith; marks = refl; few = omega arith; gates = refl })
     (record { lines_low = omega arith; lines_high = omega arith; marks = refl; few = omega arith; gates = refl }) refl refl
 
 pub constant_files : TwoFiles (text_of constant_line controlled) (text_of constant_line []) constant_line controlled []
-unfolding marks_good all_valid valid number_text controls_text gate_lines controls_below bit lines_in
+unfolding marks_good all_valid valid number_text controls_text gate_lines controls_below lines_in bit
 constant_files =
     files_of_two constant_line controlled []
     (record { lines_low = omega arith; lines_high = omega arith; marks = refl; few = omega arith; gates = refl })
     (record { lines_low = omega arith; lines_high = omega arith; marks = refl; few = omega arith; gates = refl }) refl refl
 
 pub two_files : TwoFiles (text_of (unmarked 2) controlled) (text_of (unmarked 2) []) (unmarked 2) controlled []
-unfolding marks_good all_valid valid number_text controls_text gate_lines controls_below bit lines_in
+unfolding marks_good all_valid valid number_text controls_text gate_lines controls_below lines_in bit
 two_files =
     files_of_two (unmarked 2) controlled []
     (record { lines_low = omega arith; lines_high = omega arith; marks = refl; few = omega arith; gates = refl })
@@ -153,11 +153,11 @@ abbrev equal : List ℕ
 equal = text_of plain once ++ text_of plain once
 
 differing_bytes : length differing ≤ max_input
-unfolding number_text controls_text gate_lines controls_below bit lines_in
+unfolding number_text controls_text gate_lines controls_below lines_in bit
 differing_bytes = leb-true (length differing) max_input refl
 
 equal_bytes : length equal ≤ max_input
-unfolding number_text controls_text gate_lines controls_below bit lines_in
+unfolding number_text controls_text gate_lines controls_below lines_in bit
 equal_bytes = leb-true (length equal) max_input refl
 
 differing_words : length (stored (pair_clauses plain once [])) ≤ max_words
