@@ -170,8 +170,8 @@ mark_value constant i (f ∷ x ∷ fs) = refused wrong_form i
 unfoldable pub mark_fields : Bool → ℕ → ℕ → Marks → Bool → List (List ℕ) → Outcome Marks
 mark_fields constant n i m ended [] = refused wrong_form i
 mark_fields constant n i m ended (f ∷ []) = refused wrong_form i
-mark_fields constant n i m ended (f ∷ k ∷ fs) =
-    and_then (mark_number n i m.mask k) (λ k.
+mark_fields constant n i m ended (f ∷ t ∷ fs) =
+    and_then (mark_number n i m.mask t) (λ k.
     and_then (mark_value constant i fs) (λ value. demand ended wrong_form i (served (with_mark m k value))))
 
 abbrev pub mark_on : Bool → ℕ → ℕ → Marks → Line → Outcome Marks

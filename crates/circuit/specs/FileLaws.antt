@@ -1,14 +1,14 @@
 -- What this crate proves of cascade files: the round trip both ways, and what each refusal says of its line.
-use Rattle.std.specs.Prelude.{◌≡◌, ℕ, ◌+◌, ◌*◌, ◌/◌, ◌<◌, ◌≤◌, Bool, cond, true, false, ◌↔◌, List, [], ◌∷◌, ◌++◌, map, length, take, ◌≢◌}
+use Rattle.std.specs.Prelude.{◌≡◌, ℕ, ◌+◌, ◌*◌, ◌/◌, ◌<◌, ◌≤◌, Bool, cond, true, false, ◌↔◌, List, [], ◌∷◌, ◌++◌, map, length, take, ◌≢◌, nat_le}
 use Rattle.bits.specs.Digits.{bit}
 use Rattle.bits.specs.Lists.{over}
 use Rattle.circuit.specs.declared.gate.Gate.{Gate}
 use Rattle.circuit.specs.declared.header.Header.{Header}
 use Rattle.circuit.specs.Gate.{max_lines, max_gates, Control, Inside}
 use Rattle.circuit.specs.Header.{unmarked, marks_good}
-use Rattle.circuit.specs.Outcome.{Outcome, served, refused, and_then, Wrong, Fails, Untouched, Yields}
+use Rattle.circuit.specs.Outcome.{Outcome, served, refused, demand, and_then, Wrong, Fails, Untouched, Yields}
 use Rattle.circuit.specs.Refusal.{wrong_form, bad_line_count, line_outside, target_controlled, not_rising, too_many_gates, no_room, bad_mark}
-use Rattle.circuit.specs.Words.{gates_of, words_of, all_valid, Headed, HeadedRefused}
+use Rattle.circuit.specs.Words.{gates_of, words_of, all_valid, check_outcome, Headed, HeadedRefused}
 use Rattle.circuit.specs.Text.{digit, lines_word, gate_word, end_word, number_text, control_text, header_line, header_lines, gate_lines, end_line, text_of}
 use Rattle.circuit.specs.File.{Line, first_line, later_lines, lines_of, line_size, fields_of, header_on, mark_word, starts_mark, Reading, read_from, mark_lines, reading, read_outcome, read_buffer, write_outcome, write_buffer}
 use Rattle.circuit.specs.declared.file.ReadCounts.{ReadCounts}
@@ -110,8 +110,10 @@ group_mask constant h = cond constant h.constants h.junk
 -- the lines before are good, and the line or the missing line after them is not
 pub data FileRefused (text : List ℕ) : ℕ → ℕ → Type 0 where
   on_header_line : (number : ℕ) → HeaderOffence (first_line (lines_of text)) number → FileRefused text number 0
+  -- a line that starts a mark of a group that is open
   on_mark_line : (h : Header) (rest : List ℕ) → FileCascade h [] → text ≡ header_lines h ++ rest → (constant : Bool) → GroupOpen constant h []
       → (number : ℕ) → MarkOffence constant h.lines (group_mask constant h) (first_line (lines_of rest)) number → FileRefused text number (mark_lines h + 1)
+  -- any other line after the header line
   later_line : (h : Header) (gs : List Gate) (rest : List ℕ) → FileCascade h gs → text ≡ header_lines h ++ (gate_lines gs ++ rest)
       → ((constant : Bool) → GroupOpen constant h gs → starts_mark constant (first_line (lines_of rest)) ≡ false)
       → (number : ℕ) → LineOffence h.lines (mark_lines h + length gs + 1) (length gs) (first_line (lines_of rest)) number → FileRefused text number (mark_lines h + length gs + 1)
@@ -177,7 +179,7 @@ pub record RoundTrip (read : List ℕ → ℕ → Outcome ReadCounts) (read_into
       → Yields (write c.header (take (3 * c.gates) (read_into text out)) (length into)) (write_into c.header (take (3 * c.gates) (read_into text out)) into)
       (served c.taken) (over (take c.taken text) into)
 
--- a file without marks, by document 01: its text and its reading
+-- a file without marks, by document 01: its text, its reading and its writing
 abbrev pub unmarked_text : ℕ → List Gate → List ℕ
 unmarked_text n gs = header_line n ++ (gate_lines gs ++ end_line)
 
@@ -186,14 +188,20 @@ unmarked_reading text =
     and_then (header_on (first_line (lines_of text))) (λ n.
     read_from (unmarked n) 1 [] (line_size (first_line (lines_of text))) (later_lines (lines_of text)))
 
+unfoldable pub unmarked_writing : ℕ → List ℕ → ℕ → Outcome ℕ
+unmarked_writing n ws room =
+    and_then (check_outcome n ws max_gates) (λ k.
+    demand (nat_le (length (unmarked_text n (gates_of ws))) room) no_room 0 (served (length (unmarked_text n (gates_of ws)))))
+
 -- line 1 of a text
 abbrev pub line_1 : List ℕ → Line
 line_1 text = first_line (later_lines (lines_of text))
 
 -- with marks, files are what they were without
 pub record UnmarkedFiles : Type 0 where
-  -- the same bytes
+  -- the same bytes, and the same answer of writing
   pub text : (n : ℕ) (gs : List Gate) → text_of (unmarked n) gs ≡ unmarked_text n gs
+  pub writing : (n : ℕ) (ws : List ℕ) (room : ℕ) → write_outcome (unmarked n) ws room ≡ unmarked_writing n ws room
   -- the same answer for every text whose line 1 starts neither `const` tab nor `junk` tab
   pub answer : (text : List ℕ) → starts_mark true (line_1 text) ≡ false → starts_mark false (line_1 text) ≡ false → reading text ≡ unmarked_reading text
   -- every text that was served is such a text, and gave a header without marks; and a text that now gives such a header was served
@@ -216,5 +224,6 @@ pub record FileLaws : Type 0 where
   -- words are written exactly where they are a cascade's and the buffer has room for its text, and refused exactly by what is wrong
   pub write_served : (h : Header) (ws : List ℕ) (room k : ℕ) → (write_outcome h ws room ≡ served k) ↔ Writable h ws room k
   pub write_refused : (h : Header) (ws : List ℕ) (room number place : ℕ) → (write_outcome h ws room ≡ refused number place) ↔ WriteRefused h ws room number place
-  -- a reader that refuses all does not have the laws
+  -- a reader that refuses all does not have the laws, and neither has the reading without marks
   pub refuses_all : (read : List ℕ → Outcome Reading) → ((text : List ℕ) → (number : ℕ) × (place : ℕ) × (read text ≡ refused number place)) → ReaderLaws read → ⊥
+  pub marks_unread : ReaderLaws unmarked_reading → ⊥

@@ -1,5 +1,6 @@
 -- No text is longer than `max_text`. Assumes nothing.
 use mathlib.Core.Path.{◌≡◌, refl, sym, ap, subst}
+use mathlib.Core.Bool.{Bool}
 use mathlib.Core.List.{List, [], ◌∷◌, ◌++◌}
 use Prim.Native.Nat.{ℕ, suc, ◌+◌, ◌*◌, ◌≤◌, ◌<◌}
 use native.Mathlib.Nat.{le_trans}
@@ -15,7 +16,7 @@ use Rattle.circuit.specs.Outcome.{Outcome, served, refused, before, then, Fails,
 use Rattle.circuit.specs.Refusal.{wrong_form}
 use Rattle.circuit.specs.Text.{line_feed}
 use Rattle.circuit.specs.File.{Line, Reading, reading, line_after_end}
-use Rattle.circuit.specs.FileLaws.{FileCascade, HeaderOffence, no_lines, no_number, outside, ControlsOffence, form, value, later, LineOffence, no_gate_line, many, target_form, target_value, controls, controlled, controls_not_rising, FileRefused, on_header_line, later_line}
+use Rattle.circuit.specs.FileLaws.{FileCascade, HeaderOffence, no_lines, no_number, outside, MarkOffence, no_line, beyond, mark_not_rising, mark_no_end, ControlsOffence, form, value, later, LineOffence, no_gate_line, many, target_form, target_value, controls, controlled, controls_not_rising, FileRefused, on_header_line, on_mark_line, later_line}
 use Rattle.circuit.specs.FileLaws as laws
 use Rattle.circuit.proofs.Promises.{reader, mark_lines_few}
 use Rattle.checking.specs.Pair.{pair_clauses}
@@ -98,6 +99,12 @@ header_number l _ (no_number _ _ _ _) = omega arith
 header_number l _ (outside _ _ _ _ _ _) = omega arith
 header_number l _ (laws.HeaderOffence.no_end _ _ _ _ _ _ _ _) = omega arith
 
+mark_number : (constant : Bool) (n mask : ℕ) (l : Line) (number : ℕ) → MarkOffence constant n mask l number → number < 100
+mark_number constant n mask l _ (no_line _ _ _ _) = omega arith
+mark_number constant n mask l _ (beyond _ _ _ _ _ _) = omega arith
+mark_number constant n mask l _ (mark_not_rising _ _ _ _ _ _ _ _ _) = omega arith
+mark_number constant n mask l _ (mark_no_end _ _ _ _ _ _ _ _) = omega arith
+
 controls_number : (n : ℕ) (fs : List (List ℕ)) (number : ℕ) → ControlsOffence n fs number → number < 100
 controls_number n _ _ (form _ _ _) = omega arith
 controls_number n _ _ (value _ _ _ _ _) = omega arith
@@ -115,7 +122,9 @@ line_number n i count l _ (controls_not_rising _ _ _ _ _ _ _) = omega arith
 
 pub refused_small : (text : List ℕ) (number place : ℕ) → FileRefused text number place → (number < 100) × (place < 10000)
 refused_small text _ _ (on_header_line number o) = (header_number _ number o, omega arith)
-refused_small text _ _ (later_line h gs rest good starts number o) =
+refused_small text _ _ (on_mark_line h rest good starts constant opened number o) =
+    (mark_number constant h.lines _ _ number o, omega (arith, good.lines_high, mark_lines_few h good.marks))
+refused_small text _ _ (later_line h gs rest good starts closed number o) =
     (line_number h.lines _ _ _ number o, omega (arith, good.few, good.lines_high, mark_lines_few h good.marks))
 
 -- the number and place of the one thing that is wrong

@@ -65,8 +65,57 @@ other_lines =
       text = 114 ∷ 101 ∷ 102 ∷ 117 ∷ 115 ∷ 101 ∷ 100 ∷ 9 ∷ 56 ∷ 9 ∷ 48 ∷ 9 ∷ 48 ∷ 10 ∷ [];
     }
 
+-- t0+1 against t2-0+1, on three lines, line 1 a constant 0 and line 2 junk: both from the inputs 1 to 3, and a d for lines 0 and 1
+abbrev pub marked_pair : Row
+marked_pair =
+    record {
+      input = 108 ∷ 105 ∷ 110 ∷ 101 ∷ 115 ∷ 9 ∷ 51 ∷ 10 ∷ 99 ∷ 111 ∷ 110 ∷ 115 ∷ 116 ∷ 9 ∷ 49 ∷ 9 ∷ 48 ∷ 10 ∷ 106 ∷ 117 ∷ 110 ∷ 107 ∷ 9 ∷ 50 ∷ 10 ∷ 103 ∷ 9 ∷ 48 ∷ 9 ∷ 43 ∷ 49 ∷ 10 ∷ 101 ∷ 110 ∷ 100 ∷ 10 ∷ 108 ∷ 105 ∷ 110 ∷ 101 ∷ 115 ∷ 9 ∷ 51 ∷ 10 ∷ 99 ∷ 111 ∷ 110 ∷ 115 ∷ 116 ∷ 9 ∷ 49 ∷ 9 ∷ 48 ∷ 10 ∷ 106 ∷ 117 ∷ 110 ∷ 107 ∷ 9 ∷ 50 ∷ 10 ∷ 103 ∷ 9 ∷ 50 ∷ 9 ∷ 45 ∷ 48 ∷ 9 ∷ 43 ∷ 49 ∷ 10 ∷ 101 ∷ 110 ∷ 100 ∷ 10 ∷ [];
+      text = 112 ∷ 32 ∷ 99 ∷ 110 ∷ 102 ∷ 32 ∷ 56 ∷ 32 ∷ 57 ∷ 10 ∷ 45 ∷ 50 ∷ 32 ∷ 48 ∷ 10 ∷ 120 ∷ 45 ∷ 52 ∷ 32 ∷ 49 ∷ 32 ∷ 50 ∷ 32 ∷ 48 ∷ 10 ∷ 53 ∷ 32 ∷ 49 ∷ 32 ∷ 45 ∷ 50 ∷ 32 ∷ 48 ∷ 10 ∷ 45 ∷ 53 ∷ 32 ∷ 45 ∷ 49 ∷ 32 ∷ 48 ∷ 10 ∷ 45 ∷ 53 ∷ 32 ∷ 50 ∷ 32 ∷ 48 ∷ 10 ∷ 120 ∷ 45 ∷ 54 ∷ 32 ∷ 51 ∷ 32 ∷ 53 ∷ 32 ∷ 48 ∷ 10 ∷ 120 ∷ 45 ∷ 55 ∷ 32 ∷ 52 ∷ 32 ∷ 49 ∷ 32 ∷ 48 ∷ 10 ∷ 45 ∷ 56 ∷ 32 ∷ 48 ∷ 10 ∷ 55 ∷ 32 ∷ 56 ∷ 32 ∷ 48 ∷ 10 ∷ [];
+    }
+
+-- t0 against nothing, on one line, which is junk: the last OR has no literal
+abbrev pub all_junk : Row
+all_junk =
+    record {
+      input = 108 ∷ 105 ∷ 110 ∷ 101 ∷ 115 ∷ 9 ∷ 49 ∷ 10 ∷ 106 ∷ 117 ∷ 110 ∷ 107 ∷ 9 ∷ 48 ∷ 10 ∷ 103 ∷ 9 ∷ 48 ∷ 10 ∷ 101 ∷ 110 ∷ 100 ∷ 10 ∷ 108 ∷ 105 ∷ 110 ∷ 101 ∷ 115 ∷ 9 ∷ 49 ∷ 10 ∷ 106 ∷ 117 ∷ 110 ∷ 107 ∷ 9 ∷ 48 ∷ 10 ∷ 101 ∷ 110 ∷ 100 ∷ 10 ∷ [];
+      text = 112 ∷ 32 ∷ 99 ∷ 110 ∷ 102 ∷ 32 ∷ 50 ∷ 32 ∷ 50 ∷ 10 ∷ 120 ∷ 50 ∷ 32 ∷ 49 ∷ 32 ∷ 48 ∷ 10 ∷ 32 ∷ 48 ∷ 10 ∷ [];
+    }
+
+-- a constant that does not rise, in line 2 of the second file
+abbrev pub bad_mark_line : Row
+bad_mark_line =
+    record {
+      input = 108 ∷ 105 ∷ 110 ∷ 101 ∷ 115 ∷ 9 ∷ 50 ∷ 10 ∷ 99 ∷ 111 ∷ 110 ∷ 115 ∷ 116 ∷ 9 ∷ 49 ∷ 9 ∷ 49 ∷ 10 ∷ 101 ∷ 110 ∷ 100 ∷ 10 ∷ 108 ∷ 105 ∷ 110 ∷ 101 ∷ 115 ∷ 9 ∷ 50 ∷ 10 ∷ 99 ∷ 111 ∷ 110 ∷ 115 ∷ 116 ∷ 9 ∷ 49 ∷ 9 ∷ 49 ∷ 10 ∷ 99 ∷ 111 ∷ 110 ∷ 115 ∷ 116 ∷ 9 ∷ 49 ∷ 9 ∷ 48 ∷ 10 ∷ 101 ∷ 110 ∷ 100 ∷ 10 ∷ [];
+      text = 114 ∷ 101 ∷ 102 ∷ 117 ∷ 115 ∷ 101 ∷ 100 ∷ 9 ∷ 49 ∷ 52 ∷ 9 ∷ 50 ∷ 9 ∷ 50 ∷ 10 ∷ [];
+    }
+
+-- a byte after the second `end`, on other marks: line 4 of the second file
+abbrev pub after_marks : Row
+after_marks =
+    record {
+      input = 108 ∷ 105 ∷ 110 ∷ 101 ∷ 115 ∷ 9 ∷ 49 ∷ 10 ∷ 99 ∷ 111 ∷ 110 ∷ 115 ∷ 116 ∷ 9 ∷ 48 ∷ 9 ∷ 49 ∷ 10 ∷ 101 ∷ 110 ∷ 100 ∷ 10 ∷ 108 ∷ 105 ∷ 110 ∷ 101 ∷ 115 ∷ 9 ∷ 49 ∷ 10 ∷ 99 ∷ 111 ∷ 110 ∷ 115 ∷ 116 ∷ 9 ∷ 48 ∷ 9 ∷ 49 ∷ 10 ∷ 106 ∷ 117 ∷ 110 ∷ 107 ∷ 9 ∷ 48 ∷ 10 ∷ 101 ∷ 110 ∷ 100 ∷ 10 ∷ 120 ∷ [];
+      text = 114 ∷ 101 ∷ 102 ∷ 117 ∷ 115 ∷ 101 ∷ 100 ∷ 9 ∷ 49 ∷ 9 ∷ 50 ∷ 9 ∷ 52 ∷ 10 ∷ [];
+    }
+
+-- other marks: the constants have other values
+abbrev pub other_marks : Row
+other_marks =
+    record {
+      input = 108 ∷ 105 ∷ 110 ∷ 101 ∷ 115 ∷ 9 ∷ 49 ∷ 10 ∷ 99 ∷ 111 ∷ 110 ∷ 115 ∷ 116 ∷ 9 ∷ 48 ∷ 9 ∷ 48 ∷ 10 ∷ 101 ∷ 110 ∷ 100 ∷ 10 ∷ 108 ∷ 105 ∷ 110 ∷ 101 ∷ 115 ∷ 9 ∷ 49 ∷ 10 ∷ 99 ∷ 111 ∷ 110 ∷ 115 ∷ 116 ∷ 9 ∷ 48 ∷ 9 ∷ 49 ∷ 10 ∷ 101 ∷ 110 ∷ 100 ∷ 10 ∷ [];
+      text = 114 ∷ 101 ∷ 102 ∷ 117 ∷ 115 ∷ 101 ∷ 100 ∷ 9 ∷ 49 ∷ 53 ∷ 9 ∷ 48 ∷ 9 ∷ 48 ∷ 10 ∷ [];
+    }
+
+-- other line counts come before other marks
+abbrev pub lines_and_marks : Row
+lines_and_marks =
+    record {
+      input = 108 ∷ 105 ∷ 110 ∷ 101 ∷ 115 ∷ 9 ∷ 49 ∷ 10 ∷ 101 ∷ 110 ∷ 100 ∷ 10 ∷ 108 ∷ 105 ∷ 110 ∷ 101 ∷ 115 ∷ 9 ∷ 50 ∷ 10 ∷ 106 ∷ 117 ∷ 110 ∷ 107 ∷ 9 ∷ 49 ∷ 10 ∷ 101 ∷ 110 ∷ 100 ∷ 10 ∷ [];
+      text = 114 ∷ 101 ∷ 102 ∷ 117 ∷ 115 ∷ 101 ∷ 100 ∷ 9 ∷ 56 ∷ 9 ∷ 48 ∷ 9 ∷ 48 ∷ 10 ∷ [];
+    }
+
 abbrev pub text_rows : List Row
-text_rows = example ∷ two_cascades ∷ nothing ∷ only_one ∷ in_second ∷ after_end ∷ other_lines ∷ []
+text_rows =
+    example ∷ two_cascades ∷ nothing ∷ only_one ∷ in_second ∷ after_end ∷ other_lines ∷ marked_pair ∷ all_junk ∷ bad_mark_line ∷ after_marks ∷ other_marks ∷ lines_and_marks ∷ []
 
 abbrev pub RowsHold : List Row → Type 0
 RowsHold rs = All (λ (r : Row). tomiter_text r.input ≡ r.text) rs
@@ -169,8 +218,8 @@ each_alone =
     }
 
 -- t0 against nothing, on 17 lines that are all junk: the last OR has no literals
-abbrev pub all_junk : FilesRow
-all_junk =
+abbrev pub seventeen_junk : FilesRow
+seventeen_junk =
     record {
       first = 108 ∷ 105 ∷ 110 ∷ 101 ∷ 115 ∷ 9 ∷ 49 ∷ 55 ∷ 10 ∷ 106 ∷ 117 ∷ 110 ∷ 107 ∷ 9 ∷ 48 ∷ 10 ∷ 106 ∷ 117 ∷ 110 ∷ 107 ∷ 9 ∷ 49 ∷ 10 ∷ 106 ∷ 117 ∷ 110 ∷ 107 ∷ 9 ∷ 50 ∷ 10 ∷ 106 ∷ 117 ∷ 110 ∷ 107 ∷ 9 ∷ 51 ∷ 10 ∷ 106 ∷ 117 ∷ 110 ∷ 107 ∷ 9 ∷ 52 ∷ 10 ∷ 106 ∷ 117 ∷ 110 ∷ 107 ∷ 9 ∷ 53 ∷ 10 ∷ 106 ∷ 117 ∷ 110 ∷ 107 ∷ 9 ∷ 54 ∷ 10 ∷ 106 ∷ 117 ∷ 110 ∷ 107 ∷ 9 ∷ 55 ∷ 10 ∷ 106 ∷ 117 ∷ 110 ∷ 107 ∷ 9 ∷ 56 ∷ 10 ∷ 106 ∷ 117 ∷ 110 ∷ 107 ∷ 9 ∷ 57 ∷ 10 ∷ 106 ∷ 117 ∷ 110 ∷ 107 ∷ 9 ∷ 49 ∷ 48 ∷ 10 ∷ 106 ∷ 117 ∷ 110 ∷ 107 ∷ 9 ∷ 49 ∷ 49 ∷ 10 ∷ 106 ∷ 117 ∷ 110 ∷ 107 ∷ 9 ∷ 49 ∷ 50 ∷ 10 ∷ 106 ∷ 117 ∷ 110 ∷ 107 ∷ 9 ∷ 49 ∷ 51 ∷ 10 ∷ 106 ∷ 117 ∷ 110 ∷ 107 ∷ 9 ∷ 49 ∷ 52 ∷ 10 ∷ 106 ∷ 117 ∷ 110 ∷ 107 ∷ 9 ∷ 49 ∷ 53 ∷ 10 ∷ 106 ∷ 117 ∷ 110 ∷ 107 ∷ 9 ∷ 49 ∷ 54 ∷ 10 ∷ 103 ∷ 9 ∷ 48 ∷ 10 ∷ 101 ∷ 110 ∷ 100 ∷ 10 ∷ [];
       second = 108 ∷ 105 ∷ 110 ∷ 101 ∷ 115 ∷ 9 ∷ 49 ∷ 55 ∷ 10 ∷ 106 ∷ 117 ∷ 110 ∷ 107 ∷ 9 ∷ 48 ∷ 10 ∷ 106 ∷ 117 ∷ 110 ∷ 107 ∷ 9 ∷ 49 ∷ 10 ∷ 106 ∷ 117 ∷ 110 ∷ 107 ∷ 9 ∷ 50 ∷ 10 ∷ 106 ∷ 117 ∷ 110 ∷ 107 ∷ 9 ∷ 51 ∷ 10 ∷ 106 ∷ 117 ∷ 110 ∷ 107 ∷ 9 ∷ 52 ∷ 10 ∷ 106 ∷ 117 ∷ 110 ∷ 107 ∷ 9 ∷ 53 ∷ 10 ∷ 106 ∷ 117 ∷ 110 ∷ 107 ∷ 9 ∷ 54 ∷ 10 ∷ 106 ∷ 117 ∷ 110 ∷ 107 ∷ 9 ∷ 55 ∷ 10 ∷ 106 ∷ 117 ∷ 110 ∷ 107 ∷ 9 ∷ 56 ∷ 10 ∷ 106 ∷ 117 ∷ 110 ∷ 107 ∷ 9 ∷ 57 ∷ 10 ∷ 106 ∷ 117 ∷ 110 ∷ 107 ∷ 9 ∷ 49 ∷ 48 ∷ 10 ∷ 106 ∷ 117 ∷ 110 ∷ 107 ∷ 9 ∷ 49 ∷ 49 ∷ 10 ∷ 106 ∷ 117 ∷ 110 ∷ 107 ∷ 9 ∷ 49 ∷ 50 ∷ 10 ∷ 106 ∷ 117 ∷ 110 ∷ 107 ∷ 9 ∷ 49 ∷ 51 ∷ 10 ∷ 106 ∷ 117 ∷ 110 ∷ 107 ∷ 9 ∷ 49 ∷ 52 ∷ 10 ∷ 106 ∷ 117 ∷ 110 ∷ 107 ∷ 9 ∷ 49 ∷ 53 ∷ 10 ∷ 106 ∷ 117 ∷ 110 ∷ 107 ∷ 9 ∷ 49 ∷ 54 ∷ 10 ∷ 101 ∷ 110 ∷ 100 ∷ 10 ∷ [];
@@ -178,7 +227,7 @@ all_junk =
     }
 
 abbrev pub files_rows : List FilesRow
-files_rows = differ_on_ten ∷ cancels ∷ exchanges ∷ second_wrong ∷ first_longer ∷ seventeen_lines ∷ constant_one ∷ junk_ignored ∷ other_constant ∷ each_alone ∷ all_junk ∷ []
+files_rows = differ_on_ten ∷ cancels ∷ exchanges ∷ second_wrong ∷ first_longer ∷ seventeen_lines ∷ constant_one ∷ junk_ignored ∷ other_constant ∷ each_alone ∷ seventeen_junk ∷ []
 
 abbrev pub FilesHold : List FilesRow → Type 0
 FilesHold rs = All (λ (r : FilesRow). compare_text r.first r.second ≡ r.text) rs

@@ -11,7 +11,7 @@ use Rattle.circuit.proofs.lemmas.run.Laws.{run_append, tested_run, run_below, eq
 use Rattle.circuit.proofs.lemmas.run.Records.{records_words, records_served, served_records, records_refused, refused_records}
 use Rattle.circuit.proofs.lemmas.inverse.Laws.{run_inverse, inverse_run, inverse_append, inverse_twice, inverse_valid, refused_exactly, inverse_served, served_inverse, inverse_stands, inverse_untouched}
 use Rattle.circuit.proofs.lemmas.file.Laws.{reader, read_served, served_read, read_refused, write_served, served_write, write_refused, refuses_all}
-use Rattle.circuit.proofs.lemmas.file.Unmarked.{unmarked_files}
+use Rattle.circuit.proofs.lemmas.file.Unmarked.{unmarked_files, marks_unread}
 use Rattle.circuit.proofs.lemmas.file.RoundTrip.{round_trip, idle_reading, idle_writing}
 use Rattle.circuit.proofs.laws.Goals as goal
 
@@ -94,5 +94,6 @@ returns c =
             write_served = λ n ws room k. (write_served n ws room k, served_write n ws room k);
             write_refused = write_refused;
             refuses_all = refuses_all;
+            marks_unread = marks_unread;
           };
     }

@@ -27,7 +27,7 @@ use Rattle.circuit.proofs.lemmas.file.Headers.{groups_counted, Closed, from_grou
 use Rattle.circuit.proofs.lemmas.file.Offences.{HeaderFound, header_found, header_refused, offence_refused, offence_open, Walked, whole_text, stopped, walked}
 
 -- no gate
-no_gates : (n : ℕ) → all_valid n [] ≡ true
+pub no_gates : (n : ℕ) → all_valid n [] ≡ true
 unfolding all_valid
 no_gates n = refl
 

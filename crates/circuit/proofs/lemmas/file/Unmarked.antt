@@ -1,23 +1,27 @@
 -- Files without marks: their text and their reading are those of document 01. Assumes nothing.
-use Rattle.std.proofs.Common.{◌≡◌, ℕ, ◌≤◌, Bool, true, false, List, [], ◌++◌, drop, sym, refl, ap, ◌∙◌, ap₂, append_assoc, append-nil, arith}
+use Rattle.std.proofs.Common.{◌≡◌, leb, length, ℕ, ◌≤◌, Bool, true, false, List, [], ◌++◌, drop, sym, refl, ap, ◌∙◌, ap₂, append_assoc, append-nil, arith}
 use Rattle.std.specs.List.{flat_map}
 use Rattle.bits.specs.Digits.{bit}
 use Rattle.bits.proofs.Lowest.{lines_none}
 use Rattle.circuit.specs.declared.gate.Gate.{Gate}
 use Rattle.circuit.specs.declared.header.Header.{Header}
-use Rattle.circuit.specs.Gate.{max_lines}
+use Rattle.circuit.specs.Gate.{max_lines, max_gates}
 use Rattle.circuit.specs.Header.{unmarked}
-use Rattle.circuit.specs.Outcome.{Outcome, served, refused, and_then}
+use Rattle.circuit.specs.Outcome.{Outcome, served, refused, demand, and_then}
 use Rattle.circuit.specs.Text.{const_line, junk_line, const_lines, junk_lines, header_line, header_lines, gate_lines, end_line, text_of}
-use Rattle.circuit.specs.File.{Line, first_line, later_lines, lines_of, line_size, header_on, starts_mark, no_marks, read_from, Reading, reading}
-use Rattle.circuit.specs.FileLaws.{unmarked_text, unmarked_reading, line_1, UnmarkedFiles}
+use Rattle.circuit.specs.File.{Line, first_line, later_lines, lines_of, line_size, header_on, starts_mark, no_marks, read_from, Reading, reading, write_outcome}
+use Rattle.circuit.specs.FileLaws.{unmarked_text, unmarked_reading, unmarked_writing, line_1, UnmarkedFiles, FileCascade, ReaderLaws}
+use Rattle.circuit.specs.Words.{gates_of}
+use Rattle.circuit.specs.Refusal.{no_room}
+use Rattle.circuit.proofs.lemmas.header.Tests.{unmarked_outcome}
 use Rattle.circuit.proofs.lemmas.Outcome.{never, then_served, then_both}
 use Rattle.circuit.proofs.lemmas.file.Lines.{cut_first}
 use Rattle.circuit.proofs.lemmas.file.Texts.{header_line_lem}
 use Rattle.circuit.proofs.lemmas.file.Offences.{HeaderFound, header_found, Walked, whole_text, stopped, walked}
 use Rattle.circuit.proofs.lemmas.file.Groups.{group_stops}
 use Rattle.circuit.proofs.lemmas.file.Headers.{from_groups, no_mark_after}
-use Rattle.circuit.proofs.lemmas.file.Laws.{read_cascade}
+use Rattle.circuit.proofs.lemmas.file.Laws.{no_gates, read_cascade}
+use Rattle.circuit.proofs.lemmas.header.Marks.{facts_marks}
 
 -- ---- the text
 
@@ -29,6 +33,11 @@ unmarked_lines n = ap (λ (x : List ℕ). header_line n ++ x) (no_lines n) ∙ a
 
 pub same_text : (n : ℕ) (gs : List Gate) → text_of (unmarked n) gs ≡ unmarked_text n gs
 same_text n gs = ap (λ (x : List ℕ). x ++ (gate_lines gs ++ end_line)) (unmarked_lines n)
+
+pub same_writing : (n : ℕ) (ws : List ℕ) (room : ℕ) → write_outcome (unmarked n) ws room ≡ unmarked_writing n ws room
+unfolding write_outcome unmarked_writing
+same_writing n ws room =
+    ap₂ (λ (o : Outcome ℕ) (t : List ℕ). and_then o (λ k. demand (leb (length t) room) no_room 0 (served (length t)))) (unmarked_outcome n ws max_gates) (same_text n (gates_of ws))
 
 -- ---- the reading
 
@@ -100,4 +109,17 @@ served_now text c e plain =
     sym (same_answer text (no true) (no false)) ∙ e
 
 pub unmarked_files : UnmarkedFiles
-unmarked_files = record { text = same_text; answer = same_answer; served_before = served_before; served_now = served_now }
+unmarked_files = record { text = same_text; writing = same_writing; answer = same_answer; served_before = served_before; served_now = served_now }
+
+-- with a junk line the reading without marks does not have the laws
+junk_0 : Header
+junk_0 = record { lines = 1; constants = 0; values = 0; junk = 1 }
+
+pub marks_unread : ReaderLaws unmarked_reading → ⊥
+unfolding junk_0
+marks_unread r =
+    let good : FileCascade junk_0 [] =
+    record { lines_low = omega arith; lines_high = omega arith; marks = facts_marks junk_0 (omega arith) (omega arith) refl; few = omega arith; gates = no_gates 1 } in
+    let (s, t, e) = served_before (text_of junk_0 [] ++ []) _ (r.text_read junk_0 [] [] good) in
+    let z : ◌≡◌ {A = ℕ} 1 0 = ap (λ (h : Header). h.junk) e in
+    omega arith
