@@ -10,11 +10,13 @@ use Rattle.bits.proofs.Bools.{either}
 use Rattle.circuit.specs.declared.gate.Gate.{Gate}
 use Rattle.circuit.specs.declared.header.Header.{Header}
 use Rattle.circuit.specs.Outcome.{served}
+use Rattle.circuit.specs.Header.{unmarked}
 use Rattle.circuit.specs.Run.{run, EqualFor, DiffersFor}
 use Rattle.circuit.specs.Text.{text_of}
 use Rattle.circuit.proofs.Promises.{equal_differs_for}
 use Rattle.checking.specs.Compare.{max_sweep_lines, Difference, none, lowest}
 use Rattle.checking.specs.Compare as sweep
+use Rattle.checking.specs.FaultLaws.{without_constants, all_counted}
 use Rattle.text.specs.Dimacs.{Dimacs, header_text, dimacs_read}
 use Rattle.text.specs.FileOutcome.{FileOutcome, answered, refused_at, refusal_text, answer_text}
 use Rattle.text.specs.BytesTell.{TextTells}
@@ -28,7 +30,7 @@ use Rattle.text.proofs.Verdicts.{judged_is}
 use Rattle.text.proofs.Pairs.{listable}
 use Rattle.text.proofs.Reduced.{found}
 use Rattle.text.proofs.Compares.{by_none, by_sweep, by_clauses, list_fits, list_long}
-use Rattle.text.proofs.StandIns.{once, plain, none_good, once_good, once_differs, first, second, first_bytes, second_bytes}
+use Rattle.text.proofs.StandIns.{once, plain, none_good, once_good, once_differs, first, second, first_bytes, second_bytes, junk_line, junk_equal, junk_files, constant_line, controlled, constant_equal, controlled_acts, constant_files, two_files}
 
 -- ---- the files decide the cascades
 
@@ -181,6 +183,15 @@ module _ (program : List ℕ → List ℕ → List ℕ) (laws : Compares program
 
     no_notice : program (text_of h a) (text_of h b) ≡ program (text_of k a) (text_of k b) → ⊥
     no_notice e = told_apart _ e (laws (text_of k a) (text_of k b))
+
+pub junk_counted : (program : List ℕ → List ℕ → List ℕ)
+    → ((h : Header) (a b : List Gate) → program (text_of h a) (text_of h b) ≡ program (text_of (all_counted h) a) (text_of (all_counted h) b)) → Compares program → ⊥
+junk_counted program passes laws = no_notice program laws junk_line plain once [] junk_files files (junk_equal once []) once_differs (omega arith) (passes junk_line once [])
+
+pub constants_ignored : (program : List ℕ → List ℕ → List ℕ)
+    → ((h : Header) (a b : List Gate) → program (text_of h a) (text_of h b) ≡ program (text_of (without_constants h) a) (text_of (without_constants h) b)) → Compares program → ⊥
+constants_ignored program passes laws =
+    no_notice program laws constant_line (unmarked 2) controlled [] constant_files two_files constant_equal controlled_acts (omega arith) (passes constant_line controlled [])
 
 -- ---- the files decide the text
 

@@ -33,7 +33,7 @@ rows_hold = (refl, (refl, (refl, (refl, (refl, (refl, (refl, (refl, (refl, (refl
 
 pub files_hold : FilesHold files_rows
 unfolding bit fold valid fires inverted apply lines_of parted_by same number_of line_of control_of controls_from among rising_from mask_of closed_gate gate_fields header_fields starts_fields mark_number mark_value mark_fields group_from read_from reading whole_file second_file files_of control_lines targets_uncontrolled opposing may_pass control_removed control_inverted differing match_of scan_from search_from replaced step_gates reduce_by reduce_gates lowest_from permits alike ones controls_below moved gates_clauses used_after current_after targeted up_from difference_clauses clauses_of variables_of lines_in without_junk side_by_side pair_clauses pair_variables stored negations plain_clauses decimal_within decimal literals_text clauses_text header_text dimacs_of refusal_text left_formula list_as compared comparison differ_text compare_text
-files_hold = (refl, (refl, (refl, (refl, (refl, (refl, (refl, (refl, (refl, (refl, tt))))))))))
+files_hold = (refl, (refl, (refl, (refl, (refl, (refl, (refl, (refl, (refl, (refl, (refl, tt)))))))))))
 
 pub inputs_hold : InputsHold input_rows
 unfolding bit fold valid fires inverted apply lines_of parted_by same number_of line_of control_of controls_from among rising_from mask_of closed_gate gate_fields header_fields starts_fields mark_number mark_value mark_fields group_from read_from reading whole_file second_file files_of decimal_within decimal refusal_text permits alike state_text state_read checked outputs_text check_text

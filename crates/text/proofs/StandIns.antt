@@ -5,6 +5,7 @@ use mathlib.Core.List.{List, [], ◌∷◌, ◌++◌}
 use mathlib.Core.Option.{some}
 use Prim.Native.Nat.{ℕ, zero, suc, ◌≤◌, ◌<◌}
 use native.Mathlib.Omega.{arith}
+use lib.Dec.{leb}
 use lib.ListN.{length, drop}
 use borrow.Author.Tests.{leb-true}
 use Rattle.bits.specs.Digits.{bit, lines_in}
@@ -16,7 +17,7 @@ use Rattle.circuit.specs.Words.{all_valid}
 use Rattle.circuit.specs.Run.{run, EqualFor}
 use Rattle.circuit.specs.Text.{number_text, controls_text, gate_lines, text_of}
 use Rattle.circuit.specs.FileLaws.{FileCascade}
-use Rattle.circuit.specs.Header.{unmarked}
+use Rattle.circuit.specs.Header.{unmarked, marks_good}
 use Rattle.circuit.proofs.Promises.{run_none, unmarked_good, unmarked_equal}
 use Rattle.checking.specs.Clauses.{Clause, OR, up_from, moved, gates_clauses, used_after, current_after, targeted, difference_clauses, clauses_of, variables_of}
 use Rattle.checking.specs.Pair.{pair_clauses, pair_variables}
@@ -28,6 +29,7 @@ use Rattle.text.specs.Formula.{Formula}
 use Rattle.text.specs.Compare.{max_file}
 use Rattle.text.specs.FileOutcome.{refusal_text, answer_text}
 use Rattle.text.specs.Tomiter.{max_input, max_words}
+use Rattle.text.specs.TwoFiles.{TwoFiles}
 use Rattle.text.specs.BytesTell.{StartsProblem, TextTells}
 use Rattle.text.specs.TextLaws.{Fitting, ProgramLaws, contradiction, without_first}
 use Rattle.text.proofs.Reading.{text_back}
@@ -113,6 +115,33 @@ controlled_acts e =
     let f : run controlled 1 ≡ run [] 1 = (unmarked_equal 2 controlled [] refl refl).0 e 1 (omega arith) in
     let z : ◌≡◌ {A = ℕ} 3 1 = f in
     omega arith
+
+-- the files of two cascades
+files_of_two : (h : Header) (a b : List Gate) → FileCascade h a → FileCascade h b → leb (length (text_of h a)) max_file ≡ true → leb (length (text_of h b)) max_file ≡ true
+    → TwoFiles (text_of h a) (text_of h b) h a b
+files_of_two h a b x y l m =
+    record { first_good = x; second_good = y; first_text = refl; second_text = refl; first_bytes = leb-true _ _ l; second_bytes = leb-true _ _ m }
+
+pub junk_files : TwoFiles (text_of junk_line once) (text_of junk_line []) junk_line once []
+unfolding marks_good all_valid valid number_text controls_text gate_lines controls_below lines_in bit
+junk_files =
+    files_of_two junk_line once []
+    (record { lines_low = omega arith; lines_high = omega arith; marks = refl; few = omega arith; gates = refl })
+    (record { lines_low = omega arith; lines_high = omega arith; marks = refl; few = omega arith; gates = refl }) refl refl
+
+pub constant_files : TwoFiles (text_of constant_line controlled) (text_of constant_line []) constant_line controlled []
+unfolding marks_good all_valid valid number_text controls_text gate_lines controls_below lines_in bit
+constant_files =
+    files_of_two constant_line controlled []
+    (record { lines_low = omega arith; lines_high = omega arith; marks = refl; few = omega arith; gates = refl })
+    (record { lines_low = omega arith; lines_high = omega arith; marks = refl; few = omega arith; gates = refl }) refl refl
+
+pub two_files : TwoFiles (text_of (unmarked 2) controlled) (text_of (unmarked 2) []) (unmarked 2) controlled []
+unfolding marks_good all_valid valid number_text controls_text gate_lines controls_below lines_in bit
+two_files =
+    files_of_two (unmarked 2) controlled []
+    (record { lines_low = omega arith; lines_high = omega arith; marks = refl; few = omega arith; gates = refl })
+    (record { lines_low = omega arith; lines_high = omega arith; marks = refl; few = omega arith; gates = refl }) refl refl
 
 -- ---- stand-ins for tomiter
 

@@ -7,9 +7,10 @@ use Rattle.circuit.specs.Outcome.{served}
 use Rattle.circuit.specs.Header.{unmarked}
 use Rattle.circuit.specs.Refusal.{no_room}
 use Rattle.circuit.specs.Run.{run, EqualFor, DiffersFor}
-use Rattle.circuit.specs.Text.{line_feed}
+use Rattle.circuit.specs.Text.{line_feed, text_of}
 use Rattle.circuit.specs.File.{fields_of}
 use Rattle.checking.specs.Compare.{max_sweep_lines}
+use Rattle.checking.specs.FaultLaws.{without_constants, all_counted}
 use Rattle.checking.specs.Clauses.{Clause, OR, XOR}
 use Rattle.checking.specs.Satisfaction.{satisfies, ClausesWithin}
 use Rattle.checking.specs.Stored.{stored}
@@ -77,6 +78,11 @@ pub record CompareLaws : Type 0 where
       → Compares program → ⊥
   pub always_asks : (program : List ℕ → List ℕ → List ℕ) → ((first second : List ℕ) (h : Header) (a b : List Gate) → TwoFiles first second h a b → (d : Dimacs) × (dimacs_read (program first second) ≡ some d))
       → Compares program → ⊥
+  -- nor one that takes no notice of the junk lines, or of the constants
+  pub junk_counted : (program : List ℕ → List ℕ → List ℕ)
+      → ((h : Header) (a b : List Gate) → program (text_of h a) (text_of h b) ≡ program (text_of (all_counted h) a) (text_of (all_counted h) b)) → Compares program → ⊥
+  pub constants_ignored : (program : List ℕ → List ℕ → List ℕ)
+      → ((h : Header) (a b : List Gate) → program (text_of h a) (text_of h b) ≡ program (text_of (without_constants h) a) (text_of (without_constants h) b)) → Compares program → ⊥
   -- without marks the clauses for a solver are those of the gates that the reduction of the miter leaves, as by document 01
   pub unmarked_left : (n : ℕ) (a b : List Gate) → left_formula (unmarked n) a b ≡ formula_of n (gates_left a b)
   -- the call writes the text exactly where the rooms and the buffer are long enough

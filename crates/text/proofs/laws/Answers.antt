@@ -15,7 +15,7 @@ use Rattle.text.proofs.Compares.{compares}
 use Rattle.text.proofs.Rooms.{call as compare-call}
 use Rattle.text.proofs.Longest.{text_fits as compared-fits, room_enough as compared-room}
 use Rattle.text.proofs.Inputs.{state_size, state_line, state_back, state_was, checks, checks_only, call as input-call, text_fits as checked-fits, room_enough as checked-room}
-use Rattle.text.proofs.Others.{refused_told, equal_true, differ_true, always_equal, always_asks, compares_only}
+use Rattle.text.proofs.Others.{refused_told, equal_true, differ_true, always_equal, always_asks, junk_counted, constants_ignored, compares_only}
 use Rattle.text.proofs.Rows.{empty_or, rows_hold, files_hold, inputs_hold}
 use Rattle.text.proofs.laws.Goals as goal
 
@@ -59,6 +59,8 @@ returns c =
             differ_true = differ_true;
             always_equal = always_equal;
             always_asks = always_asks;
+            junk_counted = junk_counted;
+            constants_ignored = constants_ignored;
             unmarked_left = λ n a b. left_unmarked (unmarked n) a b refl;
             call = compare-call;
             text_fits = compared-fits;
