@@ -16,7 +16,7 @@ use Rattle.circuit.specs.File.{parted_by, is_digit, same}
 use Rattle.circuit.proofs.Promises.{parts_none, parts_some, parts_cut, parts_one, same_self, same_true, is_digit_lem}
 use Rattle.checking.specs.Clauses.{Clause, OR, XOR}
 use Rattle.checking.specs.Satisfaction.{variable_of, LiteralsWithin, ClausesWithin}
-use Rattle.text.specs.Dimacs.{blank, xor_sign, problem_word, cnf_word, decimal_within, decimal, literal_text, literals_text, body_text, clause_text, clauses_text, header_text, dimacs_of, both_read, then_read, digits_read, number_read, signed_read, literal_read, literals_read, body_read, clause_read, lines_read, header, header_read, headed, read_lines, dimacs_read}
+use Rattle.text.specs.Dimacs.{blank, xor_sign, problem_word, cnf_word, decimal_within, decimal, literal_text, literals_text, body_text, clause_text, clauses_text, header_text, dimacs_of, both_read, then_read, digits_read, number_read, signed_read, literal_read, literals_read, body_read, clause_read, lines_read, problem, header_read, over_problem, read_lines, dimacs_read}
 use Rattle.text.proofs.Decimal.{within_short, within_long}
 
 -- ---- digits
@@ -295,13 +295,13 @@ header_parts v m =
     ∙ ap (λ (fs : List (List ℕ)). problem_word ∷ cnf_word ∷ fs)
     (parts_cut blank (decimal v) (decimal m) (decimal_free blank v refl) ∙ ap (λ (fs : List (List ℕ)). decimal v ∷ fs) (parts_one blank (decimal m) (decimal_free blank m refl)))
 
-header_back : (v m : ℕ) → header_read (parted_by blank (header_line v m)) ≡ some (header v m)
+header_back : (v m : ℕ) → header_read (parted_by blank (header_line v m)) ≡ some (problem v m)
 unfolding header_read
 header_back v m =
     ap header_read (header_parts v m)
     ∙ cond-true (same problem_word problem_word) _ _ (same_self problem_word)
     ∙ cond-true (same cnf_word cnf_word) _ _ (same_self cnf_word)
-    ∙ ap₂ (both_read header) (number_back v) (number_back m)
+    ∙ ap₂ (both_read problem) (number_back v) (number_back m)
 
 -- ---- the whole text
 
@@ -310,4 +310,4 @@ unfolding dimacs_of dimacs_read read_lines
 text_back v cs w =
     ap (λ (t : List ℕ). read_lines (parted_by line_feed t)) (header_closed v (length cs) (clauses_text cs))
     ∙ ap read_lines (parts_cut line_feed (header_line v (length cs)) (clauses_text cs) (header_free v (length cs)))
-    ∙ ap₂ (both_read headed) (header_back v (length cs)) (clauses_back v cs w)
+    ∙ ap₂ (both_read over_problem) (header_back v (length cs)) (clauses_back v cs w)

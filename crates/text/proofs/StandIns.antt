@@ -20,7 +20,8 @@ use Rattle.circuit.specs.FileLaws.{FileCascade}
 use Rattle.circuit.specs.Header.{unmarked, marks_good}
 use Rattle.circuit.proofs.Promises.{run_none, unmarked_good, unmarked_equal}
 use Rattle.checking.specs.Clauses.{Clause, OR, up_from, moved, gates_clauses, used_after, current_after, targeted, difference_clauses, clauses_of, variables_of}
-use Rattle.checking.specs.Pair.{pair_clauses, pair_variables}
+use Rattle.checking.specs.FaultLaws.{without_constants, all_counted}
+use Rattle.checking.specs.Pair.{without_junk, side_by_side, pair_clauses, pair_variables}
 use Rattle.checking.specs.PairTold.{TellsFor}
 use Rattle.checking.specs.Satisfaction.{ClausesWithin, holds, satisfies, Satisfying}
 use Rattle.checking.specs.Stored.{stored}
@@ -219,3 +220,42 @@ pub refuses_all : (program : List ℕ → List ℕ) → ((input : List ℕ) → 
 refuses_all program all laws =
     let (number, file, place, e) = all differing in
     refusal_starts number file place (subst StartsProblem e (laws.problem differing plain once [] differing_fits))
+
+-- ---- and with marks that are passed over
+
+-- two good files and the words of their clause list, by their lengths
+fits_of_two : (h : Header) (a b : List Gate) → TwoFiles (text_of h a) (text_of h b) h a b → leb (length (text_of h a ++ text_of h b)) max_input ≡ true → leb (length (stored (pair_clauses h a b))) max_words ≡ true
+    → Fitting (text_of h a ++ text_of h b) h a b
+fits_of_two h a b t l m = record { first = t.first_good; second = t.second_good; files = refl; bytes = leb-true _ _ l; words = leb-true _ _ m }
+
+junk_fits : Fitting (text_of junk_line once ++ text_of junk_line []) junk_line once []
+unfolding number_text controls_text gate_lines stored pair_clauses side_by_side without_junk used_after current_after gates_clauses moved targeted difference_clauses up_from controls_below lines_in bit
+junk_fits = fits_of_two junk_line once [] junk_files refl refl
+
+constant_fits : Fitting (text_of constant_line controlled ++ text_of constant_line []) constant_line controlled []
+unfolding number_text controls_text gate_lines stored pair_clauses side_by_side without_junk used_after current_after gates_clauses moved targeted difference_clauses up_from controls_below lines_in bit
+constant_fits = fits_of_two constant_line controlled [] constant_files refl refl
+
+two_fit : Fitting (text_of (unmarked 2) controlled ++ text_of (unmarked 2) []) (unmarked 2) controlled []
+unfolding number_text controls_text gate_lines stored pair_clauses clauses_of used_after current_after gates_clauses moved targeted difference_clauses up_from controls_below lines_in bit
+two_fit = fits_of_two (unmarked 2) controlled [] two_files refl refl
+
+-- the same text does not tell of two headers where only one calls two cascades equal
+module _ (program : List ℕ → List ℕ) (laws : ProgramLaws program) (h k : Header) (a b : List Gate) where
+  same_equal : (text : List ℕ) → TextTells text h a b → TextTells text k a b → EqualFor h a b → EqualFor k a b
+  same_equal text t u e =
+      let f : some t.read ≡ some u.read = sym t.is_read ∙ u.is_read in
+      let g : t.read ≡ u.read = cc in
+      u.tells.equal.1 (subst (λ (d : Dimacs). (σ : List Bool) → Satisfying d.variables d.clauses σ → ⊥) g (t.tells.equal.0 e))
+
+  no_notice : Fitting (text_of h a ++ text_of h b) h a b → Fitting (text_of k a ++ text_of k b) k a b → EqualFor h a b → (EqualFor k a b → ⊥)
+      → program (text_of h a ++ text_of h b) ≡ program (text_of k a ++ text_of k b) → ⊥
+  no_notice f g equal apart e =
+      apart (same_equal (program (text_of k a ++ text_of k b)) (subst (λ (text : List ℕ). TextTells text h a b) e (laws.told _ h a b f)) (laws.told _ k a b g) equal)
+
+pub junk_counted : (program : List ℕ → List ℕ) → ((h : Header) (a b : List Gate) → program (text_of h a ++ text_of h b) ≡ program (text_of (all_counted h) a ++ text_of (all_counted h) b)) → ProgramLaws program → ⊥
+junk_counted program passes laws = no_notice program laws junk_line plain once [] junk_fits differing_fits (junk_equal once []) once_differs (passes junk_line once [])
+
+pub constants_ignored : (program : List ℕ → List ℕ)
+    → ((h : Header) (a b : List Gate) → program (text_of h a ++ text_of h b) ≡ program (text_of (without_constants h) a ++ text_of (without_constants h) b)) → ProgramLaws program → ⊥
+constants_ignored program passes laws = no_notice program laws constant_line (unmarked 2) controlled [] constant_fits two_fit constant_equal controlled_acts (passes constant_line controlled [])

@@ -13,7 +13,7 @@ use Rattle.circuit.specs.Text.{line_feed, minus_sign, digit}
 use Rattle.circuit.specs.File.{parted_by, is_digit, same}
 use Rattle.circuit.proofs.Promises.{whole, whole_one, whole_next, parts_back, same_true, digit_bounds}
 use Rattle.checking.specs.Clauses.{Clause, OR, XOR}
-use Rattle.text.specs.Dimacs.{blank, xor_sign, problem_word, cnf_word, decimal, literal_text, literals_text, clauses_text, header_text, both_read, then_read, digits_read, number_read, signed_read, literal_read, literals_read, body_read, clause_read, lines_read, Dimacs, Header, header, header_read, headed, read_lines, dimacs_read}
+use Rattle.text.specs.Dimacs.{blank, xor_sign, problem_word, cnf_word, decimal, literal_text, literals_text, clauses_text, header_text, both_read, then_read, digits_read, number_read, signed_read, literal_read, literals_read, body_read, clause_read, lines_read, Dimacs, Problem, problem, header_read, over_problem, read_lines, dimacs_read}
 use Rattle.text.proofs.Decimal.{decimal_short, decimal_long}
 use Rattle.text.proofs.Reading.{ended_text, ended_next, body_line, line_text, line_closed, header_line, header_closed}
 
@@ -168,7 +168,7 @@ lines_were (l ∷ k ∷ ls) cs e =
 
 -- ---- the header
 
-header_was : (fs : List (List ℕ)) (h : Header) → header_read fs ≡ some h → whole blank fs ≡ header_line h.variables h.count
+header_was : (fs : List (List ℕ)) (h : Problem) → header_read fs ≡ some h → whole blank fs ≡ header_line h.variables h.count
 unfolding header_read
 header_was [] h e = absurd (nothing e)
 header_was (p ∷ []) h e = absurd (nothing e)
@@ -177,9 +177,9 @@ header_was (p ∷ c ∷ v ∷ []) h e = absurd (nothing e)
 header_was (p ∷ c ∷ v ∷ m ∷ []) h e =
     let (s, d) = was_true (same p problem_word) _ h e in
     let (t, f) = was_true (same c cnf_word) _ h d in
-    let (x, y, a, b, is) = both_were header (number_read v) (number_read m) h f in
+    let (x, y, a, b, is) = both_were problem (number_read v) (number_read m) h f in
     next_was blank p c (v ∷ m ∷ []) (same_true p problem_word s) (next_was blank c v (m ∷ []) (same_true c cnf_word t) (next_was blank v m [] (number_was v x a) (whole_one blank m ∙ number_was m y b)))
-    ∙ ap (λ (k : Header). header_line k.variables k.count) is
+    ∙ ap (λ (k : Problem). header_line k.variables k.count) is
 header_was (p ∷ c ∷ v ∷ m ∷ f ∷ fs) h e = absurd (nothing e)
 
 -- ---- the whole text
@@ -187,9 +187,9 @@ header_was (p ∷ c ∷ v ∷ m ∷ f ∷ fs) h e = absurd (nothing e)
 read_were : (ls : List (List ℕ)) (d : Dimacs) → read_lines ls ≡ some d → whole line_feed ls ≡ header_text d.variables d.count ++ clauses_text d.clauses
 unfolding read_lines lines_read
 read_were [] d e = absurd (nothing e)
-read_were (l ∷ []) d e = let (h, cs, a, b, is) = both_were headed (header_read (parted_by blank l)) none d e in absurd (nothing b)
+read_were (l ∷ []) d e = let (h, cs, a, b, is) = both_were over_problem (header_read (parted_by blank l)) none d e in absurd (nothing b)
 read_were (l ∷ k ∷ ls) d e =
-    let (h, cs, a, b, is) = both_were headed (header_read (parted_by blank l)) (lines_read (k ∷ ls)) d e in
+    let (h, cs, a, b, is) = both_were over_problem (header_read (parted_by blank l)) (lines_read (k ∷ ls)) d e in
     next_was line_feed l k ls (sym (parts_back blank l) ∙ header_was (parted_by blank l) h a) (lines_were (k ∷ ls) cs b)
     ∙ sym (header_closed h.variables h.count (clauses_text cs))
     ∙ ap (λ (x : Dimacs). header_text x.variables x.count ++ clauses_text x.clauses) is

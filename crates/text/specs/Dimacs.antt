@@ -133,28 +133,28 @@ pub record Dimacs : Type 0 where
   pub clauses : List Clause
 
 -- the header's counts, by its fields
-pub record Header : Type 0 where
+pub record Problem : Type 0 where
   pub variables : ℕ
   pub count : ℕ
 
-abbrev pub header : ℕ → ℕ → Header
-header variables count = record { variables = variables; count = count }
+abbrev pub problem : ℕ → ℕ → Problem
+problem variables count = record { variables = variables; count = count }
 
-unfoldable pub header_read : List (List ℕ) → Option Header
+unfoldable pub header_read : List (List ℕ) → Option Problem
 header_read [] = none
 header_read (p ∷ []) = none
 header_read (p ∷ c ∷ []) = none
 header_read (p ∷ c ∷ v ∷ []) = none
-header_read (p ∷ c ∷ v ∷ m ∷ []) = cond (same p problem_word) (cond (same c cnf_word) (both_read header (number_read v) (number_read m)) none) none
+header_read (p ∷ c ∷ v ∷ m ∷ []) = cond (same p problem_word) (cond (same c cnf_word) (both_read problem (number_read v) (number_read m)) none) none
 header_read (p ∷ c ∷ v ∷ m ∷ f ∷ fs) = none
 
-abbrev pub headed : Header → List Clause → Dimacs
-headed h cs = record { variables = h.variables; count = h.count; clauses = cs }
+abbrev pub over_problem : Problem → List Clause → Dimacs
+over_problem p cs = record { variables = p.variables; count = p.count; clauses = cs }
 
 -- a header and clauses
 unfoldable pub read_lines : List (List ℕ) → Option Dimacs
 read_lines [] = none
-read_lines (l ∷ ls) = both_read headed (header_read (parted_by blank l)) (lines_read ls)
+read_lines (l ∷ ls) = both_read over_problem (header_read (parted_by blank l)) (lines_read ls)
 
 unfoldable pub dimacs_read : List ℕ → Option Dimacs
 dimacs_read text = read_lines (parted_by line_feed text)

@@ -12,6 +12,7 @@ use Rattle.circuit.specs.Header.{unmarked}
 use Rattle.checking.specs.Miter.{miter_gates}
 use Rattle.checking.specs.Clauses.{Clause, OR, clauses_of, variables_of}
 use Rattle.checking.specs.Pair.{pair_clauses, pair_variables}
+use Rattle.checking.specs.FaultLaws.{without_constants, all_counted}
 use Rattle.checking.specs.Stored.{stored}
 use Rattle.checking.specs.Satisfaction.{ClausesWithin}
 use Rattle.text.specs.Dimacs.{decimal, clauses_text, header_text, Dimacs, dimacs_of, number_read, dimacs_read}
@@ -100,6 +101,10 @@ pub record TextLaws : Type 0 where
   pub contradiction_fails : ProgramLaws contradiction → ⊥
   pub without_first_fails : ProgramLaws without_first → ⊥
   pub refuses_all : (program : List ℕ → List ℕ) → ((input : List ℕ) → (number : ℕ) × (file : ℕ) × (place : ℕ) × (program input ≡ refusal_text number file place)) → ProgramLaws program → ⊥
+  -- nor has one that takes no notice of the junk lines, or of the constants
+  pub junk_counted : (program : List ℕ → List ℕ) → ((h : Header) (a b : List Gate) → program (text_of h a ++ text_of h b) ≡ program (text_of (all_counted h) a ++ text_of (all_counted h) b)) → ProgramLaws program → ⊥
+  pub constants_ignored : (program : List ℕ → List ℕ)
+      → ((h : Header) (a b : List Gate) → program (text_of h a ++ text_of h b) ≡ program (text_of (without_constants h) a ++ text_of (without_constants h) b)) → ProgramLaws program → ⊥
   -- the call writes the text exactly where the buffer is long enough
   pub call : (input out : List ℕ) → WritesWhere (length (tomiter_text input) ≤ length out) (tomiter_outcome input (length out)) (tomiter_text input) out (tomiter_buffer input out)
   -- every text fits a buffer of 98,321 bytes

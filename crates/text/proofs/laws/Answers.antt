@@ -7,7 +7,7 @@ use Rattle.text.proofs.Strict.{text_was}
 use Rattle.text.proofs.Sizes.{text_fits, room_enough}
 use Rattle.text.proofs.Telling.{as_built, unmarked_text}
 use Rattle.text.proofs.ProgramLaws.{program_laws, program_only, call}
-use Rattle.text.proofs.StandIns.{contradiction_fails, without_first_fails, refuses_all}
+use Rattle.text.proofs.StandIns.{contradiction_fails, without_first_fails, refuses_all, junk_counted as program_junk, constants_ignored as program_constants}
 use Rattle.text.proofs.PlainClauses.{plain_satisfied, plain_within, plain_or, plain_each, plain_same}
 use Rattle.text.proofs.plain.Laws.{pair_parts, triple_parts}
 use Rattle.text.proofs.Reduced.{left_unmarked}
@@ -37,6 +37,8 @@ returns c =
             contradiction_fails = contradiction_fails;
             without_first_fails = without_first_fails;
             refuses_all = refuses_all;
+            junk_counted = program_junk;
+            constants_ignored = program_constants;
             call = call;
             text_fits = text_fits;
             room_enough = room_enough;
