@@ -132,12 +132,9 @@ fn put_differences(
     while lines != 0 {
         let line = circuit::gate::lowest(lines);
         used += 1;
-        at += put_difference(
-            used,
-            left[line as usize],
-            right[line as usize],
-            &mut out[at..],
-        );
+        let a = left[line as usize];
+        let b = right[line as usize];
+        at += put_difference(used, a, b, &mut out[at..]);
         lines &= lines - 1;
     }
     Front { at, used }
