@@ -125,14 +125,17 @@ fn put_differences(
     requires { LinesReady n junk left.now right.now used (length out.old) }
     ensures { LinesPut n junk left.now right.now used out.old out.new result.at result.used }
 {
+    let mut lines = crate::faults::lines_below(n) & !junk;
     let mut used = used;
     let mut at = 0;
-    for k in 0..n {
-        if circuit::gate::has(junk, k) {
-            continue;
-        }
+    // A while, as for controls (`put_controls`); a `for` that passes over the junk lines takes eight times as long.
+    while lines != 0 {
+        let line = circuit::gate::lowest(lines);
         used += 1;
-        at += put_difference(used, left[k as usize], right[k as usize], &mut out[at..]);
+        let a = left[line as usize];
+        let b = right[line as usize];
+        at += put_difference(used, a, b, &mut out[at..]);
+        lines &= lines - 1;
     }
     Front { at, used }
 }

@@ -19,7 +19,7 @@ use circuit::refusal::Refusal;
 const MASKS: usize = 2;
 
 // The lines below n.
-fn lines_below(n: u64) -> u64
+pub(crate) fn lines_below(n: u64) -> u64
     requires { n ≤ max_lines }
     ensures { result ≡ 2 ^ n - 1 }
 {
