@@ -88,6 +88,9 @@ pub record FaultLaws : Type 0 where
   pub from_one : Sweeping (λ h a b. lowest_from h a b 1 (2 ^ h.lines - 1)) → ⊥
   pub constants_ignored : Sweeping (λ h a b. lowest_from (without_constants h) a b 0 (2 ^ h.lines)) → ⊥
   pub junk_counted : Sweeping (λ h a b. lowest_from (all_counted h) a b 0 (2 ^ h.lines)) → ⊥
+  -- nor has any sweep that does not look at the constants, or at which lines are junk
+  pub constants_unread : (sweep : Header → List Gate → List Gate → Difference) → ((h : Header) (a b : List Gate) → marks_good h ≡ true → sweep h a b ≡ sweep (without_constants h) a b) → Sweeping sweep → ⊥
+  pub junk_unread : (sweep : Header → List Gate → List Gate → Difference) → ((h : Header) (a b : List Gate) → marks_good h ≡ true → sweep h a b ≡ sweep (all_counted h) a b) → Sweeping sweep → ⊥
   -- a gate has two masks, and these are those of the candidates; a call that strikes nothing, or everything, is none
   pub two_masks : gate_masks ≡ 2
   pub masks : Masking fault_masks

@@ -3,7 +3,7 @@ use Rattle.std.specs.Prelude.{◌≡◌, ℕ, suc, ◌+◌, ◌≤◌, Bool, tru
 use Rattle.circuit.specs.declared.gate.Gate.{Gate}
 use Rattle.circuit.specs.declared.header.Header.{Header}
 use Rattle.circuit.specs.Gate.{max_lines, max_gates}
-use Rattle.circuit.specs.Header.{unmarked, marks_good, marked}
+use Rattle.circuit.specs.Header.{unmarked, marks_good, marked, LineCounts}
 use Rattle.circuit.specs.Outcome.{Outcome, served, demand, written}
 use Rattle.circuit.specs.Refusal.{no_room}
 use Rattle.circuit.specs.Words.{gates_of, all_valid, Headed}
@@ -76,6 +76,8 @@ pub record PairLaws : Type 0 where
   -- our list tells of any two cascades with the same header
   pub list_tells : (h : Header) (a b : List Gate) → marks_good h ≡ true → h.lines ≤ max_lines → all_valid h.lines a ≡ true → all_valid h.lines b ≡ true
       → TellsFor h (pair_variables h a b) (pair_clauses h a b) a b
+  -- where every line is junk there is no d, so that the last OR has no literals, and nothing satisfies the list
+  pub all_junk : (h : Header) (a b : List Gate) → 1 ≤ h.lines → ((k : ℕ) → LineCounts h k → ⊥) → (counted_lines h ≡ []) × ((σ : List Bool) → satisfies σ (pair_clauses h a b) ≡ false)
   -- without marks it is the list of the miter, and any clauses tell what they tell by document 01
   pub unmarked_list : (n : ℕ) (a b : List Gate) → (pair_clauses (unmarked n) a b ≡ clauses_of n (miter_gates a b)) × (pair_variables (unmarked n) a b ≡ variables_of n (miter_gates a b))
   pub unmarked_tells : (n variables : ℕ) (cs : List Clause) (a b : List Gate) → all_valid n a ≡ true → all_valid n b ≡ true
@@ -107,3 +109,9 @@ pub record PairLaws : Type 0 where
   -- one fixed contradiction, over any variables
   pub contradiction_refuted : (variables : Header → List Gate → List Gate → ℕ) (cs : List Clause) → ((σ : List Bool) → satisfies σ cs ≡ false)
       → PairEqualityOfList variables (one_for_all cs) → ⊥
+  -- any list that no assignment satisfies, whatever marked pair it is of
+  pub unsatisfied_refuted : (variables : Header → List Gate → List Gate → ℕ) (clauses : Header → List Gate → List Gate → List Clause)
+      → ((h : Header) (a b : List Gate) → marked h ≡ true → (σ : List Bool) → satisfies σ (clauses h a b) ≡ false) → PairEqualityOfList variables clauses → ⊥
+  -- any list that tells of A and of A followed by B
+  pub composed_refuted : (variables : Header → List Gate → List Gate → ℕ) (clauses : Header → List Gate → List Gate → List Clause)
+      → ((h : Header) (a b : List Gate) → marks_good h ≡ true → marked h ≡ true → TellsFor h (variables h a b) (clauses h a b) a (a ++ b)) → PairEqualityOfList variables clauses → ⊥

@@ -124,6 +124,8 @@ pub record HeaderLaws : Type 0 where
   pub unmarked_only : (h : Header) → marks_good h ≡ true → marked h ≡ false → h ≡ unmarked h.lines
   pub unmarked_outcome : (n : ℕ) (ws : List ℕ) (limit : ℕ) → headed_outcome (unmarked n) ws limit ≡ check_outcome n ws limit
   pub unmarked_pair : (na : ℕ) (a : List ℕ) (nb : ℕ) (b : List ℕ) → headed_pair_outcome (unmarked na) a (unmarked nb) b ≡ pair_outcome na a nb b
+  pub unmarked_permitted : (n x : ℕ) → Permitted (unmarked n) x ↔ (x < 2 ^ n)
+  pub unmarked_counts : (n k : ℕ) → LineCounts (unmarked n) k ↔ (k < n)
   pub unmarked_equal : (n : ℕ) (a b : List Gate) → all_valid n a ≡ true → all_valid n b ≡ true → EqualFor (unmarked n) a b ↔ Equal n a b
   pub unmarked_differs : (n : ℕ) (a b : List Gate) → all_valid n a ≡ true → all_valid n b ≡ true → (x : ℕ) → DiffersFor (unmarked n) a b x ↔ Differs n a b x
 

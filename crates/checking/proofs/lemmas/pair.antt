@@ -6,3 +6,4 @@ pub mod Alone
 pub mod Equality
 pub mod StandIns
 pub mod Laws
+pub mod Junk

@@ -4,7 +4,7 @@ use Rattle.circuit.proofs.lemmas.gate.Effect.{fires_lines, lines_fires, apply_bi
 use Rattle.circuit.proofs.lemmas.gate.Controls.{controls_count, controls_fire}
 use Rattle.circuit.proofs.lemmas.words.Gates.{gates_words, words_gates}
 use Rattle.circuit.proofs.lemmas.words.Tests.{check_served, served_check, check_refused, refused_check, pair_served, served_pair, pair_refused}
-use Rattle.circuit.proofs.lemmas.header.Marks.{marks_lines, lines_marks, permits_exactly, alike_lines, lines_alike, unmarked_good, unmarked_header}
+use Rattle.circuit.proofs.lemmas.header.Marks.{marks_lines, lines_marks, permits_exactly, alike_lines, lines_alike, unmarked_good, unmarked_header, unmarked_state, unmarked_line}
 use Rattle.circuit.proofs.lemmas.header.Tests.{headed_served, served_headed, headed_exactly, unmarked_outcome, headed_pair_served, served_headed_pair, headed_pair_refused, unmarked_pair}
 use Rattle.circuit.proofs.lemmas.header.Runs.{equal_differs_for, unmarked_equal, unmarked_differs}
 use Rattle.circuit.proofs.lemmas.run.Laws.{run_append, tested_run, run_below, equal_differs, run_refused, run_served, served_run}
@@ -58,6 +58,8 @@ returns c =
             unmarked_only = unmarked_header;
             unmarked_outcome = unmarked_outcome;
             unmarked_pair = unmarked_pair;
+            unmarked_permitted = λ n x. ((λ p. p.state), unmarked_state n x);
+            unmarked_counts = λ n k. ((λ c. c.below), unmarked_line n k);
             unmarked_equal = unmarked_equal;
             unmarked_differs = unmarked_differs;
           };

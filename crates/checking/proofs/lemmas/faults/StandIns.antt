@@ -1,5 +1,5 @@
 -- The stand-ins that the laws of the sweep and of the masks shut out, and the record of these laws. Assumes nothing.
-use Rattle.std.proofs.Common.{◌≡◌, ℕ, zero, suc, ◌-◌, ◌^◌, ◌<◌, true, false, List, [], ◌∷◌, refl, true≢false, arith}
+use Rattle.std.proofs.Common.{◌≡◌, ℕ, zero, suc, ◌-◌, ◌^◌, ◌<◌, true, false, List, [], ◌∷◌, refl, subst, true≢false, arith}
 use mathlib.Core.Bool.{false≢true}
 use Rattle.bits.specs.Digits.{bit}
 use Rattle.bits.specs.Lists.{fold}
@@ -10,7 +10,8 @@ use Rattle.circuit.specs.Words.{gate_in, all_valid}
 use Rattle.circuit.specs.Gate.{not_gate, valid, fires, inverted, apply}
 use Rattle.circuit.specs.Run.{run, DiffersFor}
 use Rattle.circuit.proofs.Promises.{unmarked_good, unmarked_state, unmarked_line}
-use Rattle.checking.specs.Compare.{none, lowest_from}
+use Rattle.checking.specs.Compare.{Difference, none, lowest, lowest_from, Says}
+use Rattle.circuit.specs.Outcome.{served}
 use Rattle.checking.specs.Faults.{mask_where}
 use Rattle.checking.specs.FaultLaws.{Sweeping, without_constants, all_counted, Candidate, Masking, strikes_nothing, strikes_all, state_at, FaultLaws}
 use Rattle.checking.proofs.lemmas.compare.Laws.{sweep_says}
@@ -60,6 +61,33 @@ junk_counted_fails s = no_line (s (one_line 0 0 1) one [] refl one_gates no_gate
     no_line : DiffersFor (one_line 0 0 1) one [] 0 → ⊥
     no_line d = counted d.line d.counts.below d.counts.kept
 
+-- what says a difference on which the two headers disagree
+no_both : (d : Difference) → Says (one_line 0 0 0) one [] (served d) → Says (one_line 1 1 0) one [] (served d) → ⊥
+unfolding bit
+no_both none s t = never_agree (s 0 (unmarked_state 1 0 (omega arith)) 0 (unmarked_line 1 0 (omega arith)))
+no_both (lowest zero) s t = false≢true (t.0.permitted.constants 0 refl)
+no_both (lowest (suc x)) s t = never_agree (s.1 0 (omega arith) (unmarked_state 1 0 (omega arith)) 0 (unmarked_line 1 0 (omega arith)))
+
+pub constants_unread_fails : (sweep : Header → List Gate → List Gate → Difference) → ((h : Header) (a b : List Gate) → marks_good h ≡ true → sweep h a b ≡ sweep (without_constants h) a b) → Sweeping sweep → ⊥
+unfolding marks_good
+constants_unread_fails sweep same s =
+    no_both (sweep (one_line 0 0 0) one []) (s (one_line 0 0 0) one [] refl one_gates no_gates)
+    (subst (λ (d : Difference). Says (one_line 1 1 0) one [] (served d)) (same (one_line 1 1 0) one [] refl) (s (one_line 1 1 0) one [] refl one_gates no_gates))
+
+no_junk : (d : Difference) → Says (one_line 0 0 0) one [] (served d) → Says (one_line 0 0 1) one [] (served d) → ⊥
+no_junk none s t = never_agree (s 0 (unmarked_state 1 0 (omega arith)) 0 (unmarked_line 1 0 (omega arith)))
+no_junk (lowest x) s t = counted t.0.line t.0.counts.below t.0.counts.kept
+  where
+    counted : (k : ℕ) → k < 1 → bit 1 k ≡ false → ⊥
+    counted zero l e = unfold bit in true≢false e
+    counted (suc k) l e = omega arith
+
+pub junk_unread_fails : (sweep : Header → List Gate → List Gate → Difference) → ((h : Header) (a b : List Gate) → marks_good h ≡ true → sweep h a b ≡ sweep (all_counted h) a b) → Sweeping sweep → ⊥
+unfolding marks_good
+junk_unread_fails sweep same s =
+    no_junk (sweep (one_line 0 0 0) one []) (s (one_line 0 0 0) one [] refl one_gates no_gates)
+    (subst (λ (d : Difference). Says (one_line 0 0 1) one [] (served d)) (same (one_line 0 0 1) one [] refl) (s (one_line 0 0 1) one [] refl one_gates no_gates))
+
 pub nothing_struck_fails : Masking strikes_nothing → ⊥
 unfolding mask_where bit fold apply valid fires inverted
 nothing_struck_fails m =
@@ -99,6 +127,8 @@ fault_laws =
       from_one = from_one_fails;
       constants_ignored = constants_ignored_fails;
       junk_counted = junk_counted_fails;
+      constants_unread = constants_unread_fails;
+      junk_unread = junk_unread_fails;
       two_masks = refl;
       masks = masks_masking;
       nothing_struck = nothing_struck_fails;

@@ -9,8 +9,9 @@ use Rattle.checking.specs.Pair.{constant_clauses, counted_lines, side_by_side, p
 use Rattle.checking.specs.PairLaws.{side_with, PairLaws}
 use Rattle.checking.proofs.lemmas.pair.Meaning.{tells_unmarked, unmarked_tells, pair_tells}
 use Rattle.checking.proofs.lemmas.pair.Alone.{steps_alone}
+use Rattle.checking.proofs.lemmas.pair.Junk.{all_junk}
 use Rattle.checking.proofs.lemmas.pair.Equality.{pair_equality, our_pair_list, pair_served_tells, pair_after, pair_list_told}
-use Rattle.checking.proofs.lemmas.pair.StandIns.{constants_left_out_refuted, junk_counted_refuted, started_from_outputs_refuted, contradiction_refuted, values_unread_refuted, junk_unread_refuted}
+use Rattle.checking.proofs.lemmas.pair.StandIns.{constants_left_out_refuted, junk_counted_refuted, started_from_outputs_refuted, contradiction_refuted, unsatisfied_refuted, composed_refuted, values_unread_refuted, junk_unread_refuted}
 
 pub unmarked_list : (n : ℕ) (a b : List Gate)
     → (pair_clauses (unmarked n) a b ≡ clauses_of n (miter_gates a b)) × (pair_variables (unmarked n) a b ≡ variables_of n (miter_gates a b))
@@ -25,6 +26,7 @@ pub pair_laws : PairLaws
 pair_laws =
     record {
       list_tells = pair_tells;
+      all_junk = all_junk;
       unmarked_list = unmarked_list;
       unmarked_tells = λ n v cs a b va vb. (unmarked_tells n v cs a b va vb, tells_unmarked n v cs a b va vb);
       ours = pair_equality;
@@ -40,4 +42,6 @@ pair_laws =
       values_unread_refuted = values_unread_refuted;
       junk_unread_refuted = junk_unread_refuted;
       contradiction_refuted = contradiction_refuted;
+      unsatisfied_refuted = unsatisfied_refuted;
+      composed_refuted = composed_refuted;
     }

@@ -1,5 +1,5 @@
 -- Small marked pairs on which the stand-ins for the pair's clause list go wrong. Assumes nothing.
-use Rattle.std.proofs.Common.{◌≡◌, ℕ, zero, suc, ◌<◌, ◌≤◌, Bool, true, false, List, [], ◌∷◌, length, sym, refl, ap, ◌∙◌, subst, subst₂, arith}
+use Rattle.std.proofs.Common.{◌≡◌, ℕ, zero, suc, ◌<◌, ◌≤◌, Bool, true, false, List, [], ◌∷◌, ◌++◌, length, sym, refl, ap, ◌∙◌, subst, subst₂, arith}
 use mathlib.Core.Bool.{false≢true, true≢false}
 use Rattle.bits.specs.Digits.{bit, lines_in}
 use Rattle.bits.specs.Lists.{fold}
@@ -8,7 +8,7 @@ use Rattle.bits.proofs.Bools.{refuted}
 use Rattle.circuit.specs.declared.gate.Gate.{Gate}
 use Rattle.circuit.specs.declared.header.Header.{Header}
 use Rattle.circuit.specs.Gate.{valid, fires, inverted, apply, controls_below}
-use Rattle.circuit.specs.Header.{marks_good}
+use Rattle.circuit.specs.Header.{marks_good, marked}
 use Rattle.circuit.specs.Words.{all_valid}
 use Rattle.circuit.specs.Run.{run, EqualFor}
 use Rattle.circuit.proofs.Promises.{run_none, run_one, valid_none, valid_both}
@@ -102,6 +102,23 @@ pub contradiction_refuted : (variables : Header → List Gate → List Gate → 
 contradiction_refuted variables cs never h =
     let t = pair_gates_told variables (one_for_all cs) h input_off (free ∷ []) [] input_off_good (omega arith) (omega arith) (omega arith) (omega arith) one_not (valid_none 1) in
     not_inverts (t.equal.1 (λ σ sat. false≢true (sym (never σ) ∙ sat.satisfied)) 0 (record { state = omega arith; constants = λ k e. refl }) 0 (record { below = omega arith; kept = bit_none 0 }))
+
+pub unsatisfied_refuted : (variables : Header → List Gate → List Gate → ℕ) (clauses : Header → List Gate → List Gate → List Clause)
+    → ((h : Header) (a b : List Gate) → marked h ≡ true → (σ : List Bool) → satisfies σ (clauses h a b) ≡ false) → PairEqualityOfList variables clauses → ⊥
+unsatisfied_refuted variables clauses never h =
+    let t = pair_gates_told variables clauses h input_off (free ∷ []) [] input_off_good (omega arith) (omega arith) (omega arith) (omega arith) one_not (valid_none 1) in
+    not_inverts (t.equal.1 (λ σ sat. false≢true (sym (never input_off (free ∷ []) [] refl σ) ∙ sat.satisfied)) 0 (record { state = omega arith; constants = λ k e. refl }) 0 (record { below = omega arith; kept = bit_none 0 }))
+
+-- NOT against NOT are equal, and NOT against NOT twice are not
+twice_differs : EqualFor input_off (free ∷ []) (free ∷ free ∷ []) → ⊥
+unfolding fold apply valid inverted fires bit
+twice_differs e = true≢false (e 0 (record { state = omega arith; constants = λ k c. refl }) 0 (record { below = omega arith; kept = refl }))
+
+pub composed_refuted : (variables : Header → List Gate → List Gate → ℕ) (clauses : Header → List Gate → List Gate → List Clause)
+    → ((h : Header) (a b : List Gate) → marks_good h ≡ true → marked h ≡ true → TellsFor h (variables h a b) (clauses h a b) a (a ++ b)) → PairEqualityOfList variables clauses → ⊥
+composed_refuted variables clauses composed h =
+    let t = pair_gates_told variables clauses h input_off (free ∷ []) (free ∷ []) input_off_good (omega arith) (omega arith) (omega arith) (omega arith) one_not one_not in
+    twice_differs ((composed input_off (free ∷ []) (free ∷ []) input_off_good refl).equal.1 (t.equal.0 (λ x p k c. refl)))
 
 -- ---- lists that do not look at the marks
 
