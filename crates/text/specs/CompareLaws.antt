@@ -28,7 +28,7 @@ use Rattle.text.specs.TwoFiles.{TwoFiles, FilesRefused}
 pub data MayWrite (first second text : List ℕ) : Type 0 where
   -- a refusal: what is wrong with the files first
   refuses : (number file place : ℕ) → text ≡ refusal_text number file place → FilesRefused first second number file place → MayWrite first second text
-  -- and of two good ones, 10 for more than 16 lines, gates that the reduction leaves, and a clause list of these of more than 262,144 words
+  -- and of two good ones, 10 for more than 16 lines, gates that the reduction of the miter leaves, and a clause list for a solver of more than 262,144 words
   overflows : (h : Header) (a b : List Gate) → TwoFiles first second h a b → text ≡ refusal_text no_room 0 0 → (gates_left a b ≡ [] → ⊥) → max_sweep_lines < h.lines
       → max_list < length (stored (left_formula h a b).clauses) → MayWrite first second text
   -- equal cascades, of whose miter the full reduction leaves no gate
@@ -39,7 +39,7 @@ pub data MayWrite (first second text : List ℕ) : Type 0 where
   -- a state on which the cascades differ, the lowest, and their outputs on it
   differs : (h : Header) (a b : List Gate) → TwoFiles first second h a b → (x : ℕ) → text ≡ differ_text x (run a x) (run b x) → (gates_left a b ≡ [] → ⊥) → h.lines ≤ max_sweep_lines
       → DiffersFor h a b x → ((y : ℕ) → y < x → DiffersFor h a b y → ⊥) → MayWrite first second text
-  -- the clauses of what the reduction leaves, each XOR in its place as ORs, which tell on which states the given cascades differ: no assignment satisfies them exactly where the cascades are equal, and each differing state is spelled by exactly one
+  -- the clauses for a solver, each XOR in its place as ORs, which tell on which states the given cascades differ: no assignment satisfies them exactly where the cascades are equal, and each differing state is spelled by exactly one
   asks : (h : Header) (a b : List Gate) → TwoFiles first second h a b → text ≡ dimacs_of (left_formula h a b).variables (plain_clauses (left_formula h a b).clauses)
       → (tells : TextTells text h a b) → AllOr tells.read.clauses → (gates_left a b ≡ [] → ⊥)
       → max_sweep_lines < h.lines → length (stored (left_formula h a b).clauses) ≤ max_list → MayWrite first second text
