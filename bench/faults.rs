@@ -1,12 +1,22 @@
 //! Times the sweep of equal cascades on 16 lines, and the fault masks of 1,024 gates over 1,000 states.
 
-use crate::capi::{self, CountAnswer, StateAnswer};
+use crate::capi::{self, CountAnswer, Header, StateAnswer};
 use crate::random::Random;
 use crate::{compare, inputs, plain, time};
 use std::hint::black_box;
 
+fn unmarked(lines: u64) -> Header {
+    Header {
+        lines,
+        constants: 0,
+        values: 0,
+        junk: 0,
+    }
+}
+
 fn library_first_difference(na: u64, a: &[u64], nb: u64, b: &[u64]) -> StateAnswer {
-    unsafe { capi::cascade_first_difference(na, a.as_ptr(), a.len(), nb, b.as_ptr(), b.len()) }
+    let (ha, hb) = (unmarked(na), unmarked(nb));
+    unsafe { capi::cascade_first_difference(ha, a.as_ptr(), a.len(), hb, b.as_ptr(), b.len()) }
 }
 
 fn library_fault_masks(
@@ -20,10 +30,10 @@ fn library_fault_masks(
     let (start, room) = (out.as_mut_ptr(), out.len());
     unsafe {
         capi::cascade_fault_masks(
-            na,
+            unmarked(na),
             a.as_ptr(),
             a.len(),
-            nb,
+            unmarked(nb),
             b.as_ptr(),
             b.len(),
             states.as_ptr(),

@@ -105,7 +105,8 @@ static int tell_miter(const struct cascade *a, const struct cascade *b)
 static int tell_difference(const struct cascade *a, const struct cascade *b)
 {
     static uint64_t masks[CASCADE_MAX_GATES * CASCADE_GATE_MASKS];
-    struct cascade_state_answer first = cascade_first_difference(a->lines, a->words, 3 * a->gates, b->lines, b->words, 3 * b->gates);
+    const struct cascade_header of_a = {a->lines, 0, 0, 0}, of_b = {b->lines, 0, 0, 0};
+    struct cascade_state_answer first = cascade_first_difference(of_a, a->words, 3 * a->gates, of_b, b->words, 3 * b->gates);
     if (refused("first difference", first.number, first.place))
         return 1;
     if (!first.found) {
@@ -113,7 +114,7 @@ static int tell_difference(const struct cascade *a, const struct cascade *b)
         return 0;
     }
     printf("first difference: state %" PRIu64 "\n", first.state);
-    struct cascade_count_answer faults = cascade_fault_masks(a->lines, a->words, 3 * a->gates, b->lines, b->words, 3 * b->gates, &first.state, 1, masks, sizeof masks / sizeof *masks);
+    struct cascade_count_answer faults = cascade_fault_masks(of_a, a->words, 3 * a->gates, of_b, b->words, 3 * b->gates, &first.state, 1, masks, sizeof masks / sizeof *masks);
     if (refused("fault masks", faults.number, faults.place))
         return 1;
     for (uint64_t i = 0; i < faults.gates; i++) {

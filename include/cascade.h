@@ -6,6 +6,11 @@
  * its negative controls, the number of its target line. Bit k of a mask or of a state is line k. No
  * line is in both masks, the target is in neither, and all lines are below the line count.
  *
+ * MARKS. Calls that take a header (struct cascade_header) know constant lines, whose input is fixed, and
+ * junk lines, whose output is ignored; a line may be both. A state is permitted where each constant line
+ * has its value. Two cascades differ on a permitted state where some line that is not junk comes out
+ * differently, and are equal where they differ on none. A cascade without marks has three masks of 0.
+ *
  * FILES. A cascade file is text. Lines end in LF, fields are parted by one tab (written -> here):
  *
  *     lines->3             first: the number of lines, 1 to 64
@@ -87,11 +92,13 @@ enum cascade_number {
     CASCADE_TOO_MANY_GATES = 6,     /* more gates than the limit; of a file: at the first gate line too many */
     CASCADE_NO_GATE = 7,            /* words that form no gate on these lines; at the gate's index */
     CASCADE_LINE_COUNTS_DIFFER = 8, /* two cascades on different line counts */
-    CASCADE_BAD_STATE = 9,          /* a state with a bit above the lines; at its index in a list of states */
+    CASCADE_BAD_STATE = 9,          /* a state with a bit above the lines, or that breaks a constant; at its index in a list of states */
     CASCADE_NO_ROOM = 10,           /* the buffer is shorter than the answer */
     CASCADE_BAD_WORD_COUNT = 11,    /* the number of words is no multiple of three */
     CASCADE_AGREEING_STATE = 12,    /* a state on which suspect and reference agree; at its index */
-    CASCADE_TOO_WIDE = 13           /* a sweep over more than 16 lines */
+    CASCADE_TOO_WIDE = 13,          /* a sweep over more than 16 lines */
+    CASCADE_BAD_MARK = 14,          /* a mark on no line of the cascade, or value 1 on a line that is no constant */
+    CASCADE_MARKS_DIFFER = 15       /* two cascades with different marks */
 };
 /* File lines count from 0, the header being 0; a missing line has the next index. Gates and states
  * count from 0. Of two cascades, the place of 7 is the index within the one that it was found in. */
@@ -109,6 +116,12 @@ enum cascade_clause { CASCADE_OR = 0, CASCADE_XOR = 1 };
 /* One gate, as its three words. */
 struct cascade_gate {
     uint64_t positive, negative, target;
+};
+
+/* The line count of a cascade, the mask of its constant lines, the mask of those whose constant is 1,
+ * and the mask of its junk lines. */
+struct cascade_header {
+    uint64_t lines, constants, values, junk;
 };
 
 struct cascade_run_answer {
@@ -194,20 +207,21 @@ struct cascade_sizes_answer cascade_sizes(uint64_t lines, const uint64_t *words,
  * 11, 6, 7, 10. */
 struct cascade_sizes_answer cascade_emit(uint64_t lines, const uint64_t *words, size_t words_len, int16_t *out, size_t out_len);
 
-/* The lowest input on which two cascades differ, found by trying all. Refused with 2, 11, 6, 7 of the
- * first, the same of the second, 8, 13. */
-struct cascade_state_answer cascade_first_difference(uint64_t na, const uint64_t *a, size_t a_len, uint64_t nb, const uint64_t *b, size_t b_len);
+/* The lowest permitted input on which two cascades differ, found by trying all. Refused with 2, 14, 11,
+ * 6, 7 of the first, the same of the second, 8, 15, 13. */
+struct cascade_state_answer cascade_first_difference(struct cascade_header a_header, const uint64_t *a, size_t a_len, struct cascade_header b_header, const uint64_t *b, size_t b_len);
 
-/* Whether two cascades differ on a state. Refused with 2, 11, 6, 7 of each, 8, 9. */
-struct cascade_differs_answer cascade_differs(uint64_t na, const uint64_t *a, size_t a_len, uint64_t nb, const uint64_t *b, size_t b_len, uint64_t state);
+/* Whether two cascades differ on a state. Refused with 2, 14, 11, 6, 7 of each, 8, 15, 9. */
+struct cascade_differs_answer cascade_differs(struct cascade_header a_header, const uint64_t *a, size_t a_len, struct cascade_header b_header, const uint64_t *b, size_t b_len, uint64_t state);
 
 /* The one of two cascades with fewer gates, the first on a tie. Refused with 2, 11, 6, 7 of each, 8. */
 struct cascade_fewer_answer cascade_fewer_gates(uint64_t na, const uint64_t *a, size_t a_len, uint64_t nb, const uint64_t *b, size_t b_len);
 
 /* Two masks a gate of the suspect: the lines that may be a missing positive control of it, and a
- * missing negative one, for all given states, on each of which suspect and reference differ. The
- * answer counts the suspect's gates. Refused with 2, 11, 6, 7 of each, 8, 9, 12, 10. */
-struct cascade_count_answer cascade_fault_masks(uint64_t na, const uint64_t *suspect, size_t suspect_len, uint64_t nb, const uint64_t *reference, size_t reference_len, const uint64_t *states, size_t states_len, uint64_t *out, size_t out_len);
+ * missing negative one, for all given states, on each of which suspect and reference differ. It may be
+ * a constant or a junk line. The answer counts the suspect's gates. Refused with 2, 14, 11, 6, 7 of
+ * each, 8, 15, 9, 12, 10. */
+struct cascade_count_answer cascade_fault_masks(struct cascade_header a_header, const uint64_t *suspect, size_t suspect_len, struct cascade_header b_header, const uint64_t *reference, size_t reference_len, const uint64_t *states, size_t states_len, uint64_t *out, size_t out_len);
 
 #ifdef __cplusplus
 }

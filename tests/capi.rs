@@ -10,6 +10,15 @@ pub struct Gate {
 
 #[repr(C)]
 #[derive(Clone, Copy, Debug, PartialEq)]
+pub struct Header {
+    pub lines: u64,
+    pub constants: u64,
+    pub values: u64,
+    pub junk: u64,
+}
+
+#[repr(C)]
+#[derive(Clone, Copy, Debug, PartialEq)]
 pub struct RunAnswer {
     pub number: u64,
     pub place: u64,
@@ -88,6 +97,9 @@ pub struct ReadAnswer {
     pub number: u64,
     pub place: u64,
     pub lines: u64,
+    pub constants: u64,
+    pub values: u64,
+    pub junk: u64,
     pub gates: u64,
     pub taken: u64,
 }
@@ -108,7 +120,7 @@ extern "C" {
         out_len: usize,
     ) -> ReadAnswer;
     pub fn cascade_write(
-        lines: u64,
+        header: Header,
         words: *const u64,
         words_len: usize,
         out: *mut u8,
@@ -136,6 +148,24 @@ extern "C" {
         out: *mut i16,
         out_len: usize,
     ) -> SizesAnswer;
+    pub fn cascade_pair_sizes(
+        a_header: Header,
+        a: *const u64,
+        a_len: usize,
+        b_header: Header,
+        b: *const u64,
+        b_len: usize,
+    ) -> SizesAnswer;
+    pub fn cascade_pair_emit(
+        a_header: Header,
+        a: *const u64,
+        a_len: usize,
+        b_header: Header,
+        b: *const u64,
+        b_len: usize,
+        out: *mut i16,
+        out_len: usize,
+    ) -> SizesAnswer;
     pub fn cascade_miter(
         a_lines: u64,
         a: *const u64,
@@ -149,18 +179,18 @@ extern "C" {
     pub fn cascade_step(lines: u64, words: *mut u64, words_len: usize) -> StepAnswer;
     pub fn cascade_reduce(lines: u64, words: *mut u64, words_len: usize) -> ReduceAnswer;
     pub fn cascade_first_difference(
-        a_lines: u64,
+        a_header: Header,
         a: *const u64,
         a_len: usize,
-        b_lines: u64,
+        b_header: Header,
         b: *const u64,
         b_len: usize,
     ) -> StateAnswer;
     pub fn cascade_differs(
-        a_lines: u64,
+        a_header: Header,
         a: *const u64,
         a_len: usize,
-        b_lines: u64,
+        b_header: Header,
         b: *const u64,
         b_len: usize,
         state: u64,
@@ -174,10 +204,10 @@ extern "C" {
         b_len: usize,
     ) -> FewerAnswer;
     pub fn cascade_fault_masks(
-        a_lines: u64,
+        a_header: Header,
         a: *const u64,
         a_len: usize,
-        b_lines: u64,
+        b_header: Header,
         b: *const u64,
         b_len: usize,
         states: *const u64,

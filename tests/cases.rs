@@ -132,6 +132,7 @@ pub fn each_with_out<T: Written>(
     random: &mut Random,
     limit: usize,
     times: u64,
+    draw: impl Fn(&mut Random) -> Cascade,
     needed: impl Fn(&Cascade) -> usize,
     dangling: impl Fn(&mut Random) -> bool,
     check: &mut impl FnMut(Single<T>),
@@ -141,7 +142,7 @@ pub fn each_with_out<T: Written>(
         each_length(&mut contents, &cascade, needed(&cascade), &dangling, check);
     });
     for _ in 0..times {
-        let cascade = inputs::cascade(random, limit);
+        let cascade = draw(random);
         let length = inputs::buffer_length(random, needed(&cascade));
         let out = drawn(random, length);
         let given = Single::new(cascade, random.one_in(2));
@@ -180,24 +181,56 @@ pub fn check_other_lines<A: Copy + Debug + PartialEq>(
 /// no contents where the call has no such buffers. With `dangling`, an empty slice has a dangling
 /// pointer.
 #[derive(Debug)]
-pub struct Pair {
+pub struct Pair<T = u64> {
     pub a: Cascade,
     pub b: Cascade,
     pub states: Vec<u64>,
-    pub out: Vec<u64>,
+    pub out: Vec<T>,
     pub dangling: bool,
 }
 
 /// The buffers that are lent to a call on two cascades.
-pub struct Lent {
+pub struct Lent<T = u64> {
     pub a: Buffer<u64>,
     pub b: Buffer<u64>,
     pub states: Buffer<u64>,
-    pub out: Buffer<u64>,
+    pub out: Buffer<T>,
 }
 
-impl Pair {
-    pub fn new(a: Cascade, b: Cascade, dangling: bool) -> Pair {
+/// Hands over two cascades with each length of the buffer around what the answer needs.
+pub fn each_pair_length<T: Written>(
+    random: &mut Random,
+    a: &Cascade,
+    b: &Cascade,
+    needed: usize,
+    check: &mut impl FnMut(Pair<T>),
+) {
+    for length in inputs::edge_lengths(needed) {
+        let out = drawn(random, length);
+        let given = Pair::new(a.clone(), b.clone(), random.one_in(2));
+        check(Pair { out, ..given });
+    }
+}
+
+/// Hands over so many drawn pairs, mostly with a buffer that is long enough.
+pub fn each_drawn_pair<T: Written>(
+    random: &mut Random,
+    times: u64,
+    draw: impl Fn(&mut Random) -> (Cascade, Cascade),
+    needed: impl Fn(&Cascade, &Cascade) -> usize,
+    check: &mut impl FnMut(Pair<T>),
+) {
+    for _ in 0..times {
+        let (a, b) = draw(random);
+        let length = inputs::buffer_length(random, needed(&a, &b));
+        let out = drawn(random, length);
+        let given = Pair::new(a, b, random.one_in(2));
+        check(Pair { out, ..given });
+    }
+}
+
+impl<T: Element> Pair<T> {
+    pub fn new(a: Cascade, b: Cascade, dangling: bool) -> Pair<T> {
         let (states, out) = (vec![], vec![]);
         Pair {
             a,
@@ -213,16 +246,16 @@ impl Pair {
     pub fn check<A: Debug + PartialEq>(
         &self,
         call: &str,
-        library: impl FnOnce(&mut Lent) -> A,
+        library: impl FnOnce(&mut Lent<T>) -> A,
         reference: A,
-        wanted: &[u64],
-    ) -> Buffer<u64> {
+        wanted: &[T],
+    ) -> Buffer<T> {
         let placed = |words: &[u64]| Buffer::placed(words, self.dangling);
         let mut lent = Lent {
             a: placed(&self.a.words),
             b: placed(&self.b.words),
             states: placed(&self.states),
-            out: placed(&self.out),
+            out: Buffer::placed(&self.out, self.dangling),
         };
         let library = library(&mut lent);
         compare(self, &format!("{call}: answer"), library, reference);

@@ -1,9 +1,26 @@
 //! Classes of cases that must occur for every call that is given a cascade, or two.
 
 use crate::cases::{Pair, Single};
-use crate::harness::Counts;
-use crate::inputs::Cascade;
-use crate::reference::{self, has, Gate, CASCADE_GATES, MITER_GATES};
+use crate::harness::{Counts, Element};
+use crate::inputs::{self, Cascade};
+use crate::reference::{self, has, Gate, Header, CASCADE_GATES, MITER_GATES};
+
+/// What a call is given with the words of a cascade.
+#[derive(Clone, Copy, PartialEq)]
+pub enum Given {
+    Lines,
+    Header,
+}
+
+impl Given {
+    /// The tests of a cascade, in their order.
+    fn tests(self) -> &'static [u64] {
+        match self {
+            Given::Lines => &[2, 11, 6, 7],
+            Given::Header => &[2, 14, 11, 6, 7],
+        }
+    }
+}
 
 /// The classes that `count_cascade` counts.
 const CASCADE: &[&str] = &[
@@ -57,35 +74,89 @@ pub const TARGETS: &[&str] = &[
     "served: as many gates as the limit, 63 controls each",
 ];
 
-/// The tests of a cascade, in their order.
-const TESTS: [u64; 4] = [2, 11, 6, 7];
+/// The classes that `count_marks` counts.
+const MARKS: &[&str] = &[
+    "14: only a constant at n",
+    "14: only constants above n",
+    "14: only a junk line at n",
+    "14: only junk lines above n",
+    "14: only value 1 on a line that is no constant",
+    "14: n = 64",
+    "served: no marks",
+    "served: constants alone",
+    "served: junk lines alone",
+    "served: constants and junk lines",
+    "served: a constant of value 0",
+    "served: a constant of value 1",
+    "served: all lines constant",
+    "served: all lines junk",
+    "served: a line both constant and junk",
+    "served: line n - 1 constant",
+    "served: line n - 1 junk",
+    "served: a constant on a target",
+    "served: a junk line on a target",
+];
+
+/// Those that it counts besides of calls that serve 64 lines.
+const WIDE_MARKS: &[&str] = &["served: line 63 constant", "served: line 63 junk"];
+
+/// The classes that `count_different_marks` counts.
+const DIFFERENT_MARKS: &[&str] = &[
+    "15: only constants differ",
+    "15: only values differ",
+    "15: only junk lines differ",
+    "15: only the first is marked",
+    "15: only the second is marked",
+];
 
 /// The table of a call on one cascade: its further tests in their order, its buffers, and the classes
 /// of its own.
 pub fn single_counts(
     call: &'static str,
+    given: Given,
     further: &[u64],
     buffers: &[&str],
     own: &[&str],
 ) -> Counts {
     let mut counts = Counts::new(call);
-    counts.require_refusals(&[&TESTS, further].concat());
+    counts.require_refusals(&[given.tests(), further].concat());
     counts.require(CASCADE);
+    if given == Given::Header {
+        counts.require(MARKS);
+        counts.require(WIDE_MARKS);
+    }
     require_buffers(&mut counts, buffers);
     counts.require(own);
     counts
 }
 
 /// The same for a call on two cascades. The tests by name are those of the first, those of the second,
-/// 8, and the further ones.
-pub fn pair_counts(call: &'static str, further: &[u64], buffers: &[&str], own: &[&str]) -> Counts {
+/// 8, with headers 15, and the further ones.
+pub fn pair_counts(
+    call: &'static str,
+    given: Given,
+    further: &[u64],
+    buffers: &[&str],
+    own: &[&str],
+) -> Counts {
     let mut names = Vec::new();
     for which in ["first", "second"] {
-        names.extend(TESTS.map(|number| of(number, which)));
+        names.extend(given.tests().iter().map(|number| of(*number, which)));
     }
-    names.extend([&[8], further].concat().iter().map(u64::to_string));
+    let both: &[u64] = match given {
+        Given::Lines => &[8],
+        Given::Header => &[8, 15],
+    };
+    names.extend([both, further].concat().iter().map(u64::to_string));
     let mut counts = Counts::new(call);
     counts.require_tests(&names);
+    if given == Given::Header {
+        counts.require(MARKS);
+        counts.require(DIFFERENT_MARKS);
+        if !further.contains(&13) {
+            counts.require(WIDE_MARKS);
+        }
+    }
     require_buffers(&mut counts, buffers);
     counts.require(own);
     counts
@@ -111,46 +182,71 @@ pub fn require_buffers(counts: &mut Counts, buffers: &[&str]) {
 pub fn count_single<T>(
     counts: &mut Counts,
     case: &Single<T>,
+    given: Given,
     limit: usize,
     further: &[(u64, bool)],
     number: u64,
 ) {
-    let Cascade { lines, words, .. } = &case.cascade;
-    let mut offences = cascade_offences(*lines, words, limit);
+    let cascade = &case.cascade;
+    let mut offences = cascade_offences(cascade, given, limit);
     offences.extend(holding(further));
     counts.add_case(&offences);
-    count_cascade(counts, *lines, words, limit, number);
-    count_pointer(counts, "words", words, case.dangling);
+    count_cascade(counts, cascade.lines, &cascade.words, limit, number);
+    if given == Given::Header {
+        count_marks(counts, cascade.header(), &[&cascade.words], number);
+    }
+    count_pointer(counts, "words", &cascade.words, case.dangling);
 }
 
 /// The same for a call on two cascades.
-pub fn count_pair(counts: &mut Counts, case: &Pair, further: &[(u64, bool)]) {
-    let mut offences = Vec::new();
-    for (cascade, which) in [(&case.a, "first"), (&case.b, "second")] {
-        let numbers = cascade_offences(cascade.lines, &cascade.words, CASCADE_GATES);
-        offences.extend(numbers.into_iter().map(|number| of(number, which)));
+pub fn count_pair<T: Element>(
+    counts: &mut Counts,
+    case: &Pair<T>,
+    given: Given,
+    further: &[(u64, bool)],
+) {
+    let Pair { a, b, .. } = case;
+    let of_first = cascade_offences(a, given, CASCADE_GATES);
+    let of_second = cascade_offences(b, given, CASCADE_GATES);
+    let mut both = vec![(8, a.lines != b.lines)];
+    if given == Given::Header {
+        both.push((15, reference::different_marks(a.header(), b.header())));
     }
-    let lines_differ = (8, case.a.lines != case.b.lines);
-    let later = holding(&[&[lines_differ], further].concat());
+    let later = holding(&[&both, further].concat());
+    let mut offences: Vec<String> = of_first.iter().map(|number| of(*number, "first")).collect();
+    offences.extend(of_second.iter().map(|number| of(*number, "second")));
     offences.extend(later.iter().map(u64::to_string));
     counts.add_tested_case(&offences);
-    count_pointer(counts, "a", &case.a.words, case.dangling);
-    count_pointer(counts, "b", &case.b.words, case.dangling);
+    if given == Given::Header {
+        let numbers = [&of_first[..], &of_second, &later].concat();
+        let number = numbers.first().copied().unwrap_or(0);
+        let refused = if of_first.is_empty() { b } else { a };
+        count_marks(counts, refused.header(), &[&a.words, &b.words], number);
+        if number == 15 {
+            count_different_marks(counts, a.header(), b.header());
+        }
+    }
+    count_pointer(counts, "a", &a.words, case.dangling);
+    count_pointer(counts, "b", &b.words, case.dangling);
 }
 
-/// The numbers of the tests 2, 11, 6, 7 that hold of a cascade, each judged by itself.
-fn cascade_offences(lines: u64, words: &[u64], limit: usize) -> Vec<u64> {
+/// The numbers of the tests of a cascade that hold of it, each judged by itself.
+fn cascade_offences(cascade: &Cascade, given: Given, limit: usize) -> Vec<u64> {
+    let Cascade { lines, words, .. } = cascade;
+    let marks = given == Given::Header && reference::bad_marks(cascade.header());
     holding(&[
-        (2, reference::bad_line_count(lines)),
+        (2, reference::bad_line_count(*lines)),
+        (14, marks),
         (11, reference::bad_word_count(words)),
         (6, reference::too_many_gates(words, limit)),
-        (7, reference::first_bad_gate(lines, words).is_some()),
+        (7, reference::first_bad_gate(*lines, words).is_some()),
     ])
 }
 
-fn holding(tests: &[(u64, bool)]) -> Vec<u64> {
+/// Those of the tests that hold.
+fn holding<T: Copy>(tests: &[(T, bool)]) -> Vec<T> {
     let held = tests.iter().filter(|(_, holds)| *holds);
-    held.map(|(number, _)| *number).collect()
+    held.map(|(test, _)| *test).collect()
 }
 
 /// Counts the kind of pointer of a buffer that is empty.
@@ -197,6 +293,92 @@ fn count_cascade(counts: &mut Counts, lines: u64, words: &[u64], limit: usize, n
             counts.add_if(gates == 2 * limit, "6: twice the limit");
         }
         7 => count_bad_gates(counts, lines, words),
+        _ => {}
+    }
+}
+
+/// Counts the marks of a header in a call that answered the number: of 14 the header that has them, else
+/// that of all the cascades with these words.
+fn count_marks(counts: &mut Counts, header: Header, words: &[&[u64]], number: u64) {
+    match number {
+        0 => count_served_marks(counts, header, words),
+        14 => {
+            counts.add_if(header.lines == 64, "14: n = 64");
+            if let [defect] = mark_defects(header)[..] {
+                counts.add(&format!("14: only {defect}"));
+            }
+        }
+        _ => {}
+    }
+}
+
+fn count_served_marks(counts: &mut Counts, header: Header, words: &[&[u64]]) {
+    let Header {
+        lines,
+        constants,
+        values,
+        junk,
+    } = header;
+    counts.add(match (constants != 0, junk != 0) {
+        (false, false) => "served: no marks",
+        (true, false) => "served: constants alone",
+        (false, true) => "served: junk lines alone",
+        (true, true) => "served: constants and junk lines",
+    });
+    let all = inputs::all_lines(lines);
+    counts.add_if(constants & !values != 0, "served: a constant of value 0");
+    counts.add_if(constants & values != 0, "served: a constant of value 1");
+    counts.add_if(constants == all, "served: all lines constant");
+    counts.add_if(junk == all, "served: all lines junk");
+    let both = constants & junk != 0;
+    counts.add_if(both, "served: a line both constant and junk");
+    let last = lines - 1;
+    counts.add_if(has(constants, last), "served: line n - 1 constant");
+    counts.add_if(has(junk, last), "served: line n - 1 junk");
+    counts.add_if(has(constants, 63), "served: line 63 constant");
+    counts.add_if(has(junk, 63), "served: line 63 junk");
+    let gates: Vec<Gate> = words
+        .iter()
+        .flat_map(|words| reference::gates_of(words))
+        .collect();
+    let targeted = |mask| gates.iter().any(|gate| has(mask, gate.target));
+    counts.add_if(targeted(constants), "served: a constant on a target");
+    counts.add_if(targeted(junk), "served: a junk line on a target");
+}
+
+/// What is wrong with the marks of a header.
+fn mark_defects(header: Header) -> Vec<&'static str> {
+    let Header {
+        lines,
+        constants,
+        values,
+        junk,
+    } = header;
+    let above = |mask: u64| mask & !inputs::all_lines(lines);
+    let at = |mask: u64| lines < 64 && above(mask) == 1 << lines;
+    let off_constants = values & !constants != 0;
+    holding(&[
+        ("a constant at n", at(constants)),
+        ("constants above n", above(constants) != 0 && !at(constants)),
+        ("a junk line at n", at(junk)),
+        ("junk lines above n", above(junk) != 0 && !at(junk)),
+        ("value 1 on a line that is no constant", off_constants),
+    ])
+}
+
+fn count_different_marks(counts: &mut Counts, first: Header, second: Header) {
+    let constants = first.constants != second.constants;
+    let values = first.values != second.values;
+    let junk = first.junk != second.junk;
+    match (constants, values, junk) {
+        (true, false, false) => counts.add("15: only constants differ"),
+        (false, true, false) => counts.add("15: only values differ"),
+        (false, false, true) => counts.add("15: only junk lines differ"),
+        _ => {}
+    }
+    match (first.marked(), second.marked()) {
+        (true, false) => counts.add("15: only the first is marked"),
+        (false, true) => counts.add("15: only the second is marked"),
         _ => {}
     }
 }
@@ -249,6 +431,90 @@ pub fn count_targets(counts: &mut Counts, n: u64, gates: &[Gate]) -> Vec<u64> {
         "served: as many gates as the limit, 63 controls each",
     );
     targets
+}
+
+/// The classes that `count_pair_list` counts, the numbers of controls aside.
+const PAIR_LIST: &[&str] = &[
+    "served: unmarked, the second has other gates reversed",
+    "served: marked, no line that counts is targeted",
+    "served: marked, a line that counts targeted by the first alone",
+    "served: marked, a line that counts targeted by the second alone",
+    "served: marked, a line that counts targeted by both",
+    "served: marked, a line that counts after a junk line",
+    "served: marked, the second reads a line that the first targets",
+    "served: marked, 1,024 gates each, 63 controls each, all constant, none junk",
+];
+
+/// The classes of a call that is asked for the clauses of two cascades.
+pub fn require_pair_list(counts: &mut Counts) {
+    counts.require(PAIR_LIST);
+    for controls in 0..64 {
+        for which in ["first", "second"] {
+            counts.require(&[&marked_with_controls(controls, which)]);
+        }
+    }
+}
+
+fn marked_with_controls(controls: u32, which: &str) -> String {
+    format!("served: marked, a gate of the {which} with {controls} controls")
+}
+
+/// Counts two cascades whose clauses are asked for, in a call that is served.
+pub fn count_pair_list(counts: &mut Counts, a: &Cascade, b: &Cascade) {
+    let (first, second) = (reference::gates_of(&a.words), reference::gates_of(&b.words));
+    let header = a.header();
+    if !header.marked() {
+        let reversed: Vec<Gate> = second.iter().rev().copied().collect();
+        let other = reversed != second;
+        counts.add_if(
+            other,
+            "served: unmarked, the second has other gates reversed",
+        );
+        return;
+    }
+    for (gates, which) in [(&first, "first"), (&second, "second")] {
+        for gate in gates {
+            let controls = (gate.positive | gate.negative).count_ones();
+            counts.add(&marked_with_controls(controls, which));
+        }
+    }
+    let targets = |gates: &[Gate]| {
+        gates
+            .iter()
+            .fold(0, |mask, gate| mask | 1u64 << gate.target)
+    };
+    let (by_first, by_second) = (targets(&first), targets(&second));
+    let counted = inputs::all_lines(header.lines) & !header.junk;
+    let targeted = |mask: u64| mask & counted != 0;
+    let none = counted != 0 && !targeted(by_first | by_second);
+    counts.add_if(none, "served: marked, no line that counts is targeted");
+    let alone = "served: marked, a line that counts targeted by the first alone";
+    counts.add_if(targeted(by_first & !by_second), alone);
+    let alone = "served: marked, a line that counts targeted by the second alone";
+    counts.add_if(targeted(by_second & !by_first), alone);
+    let both = "served: marked, a line that counts targeted by both";
+    counts.add_if(targeted(by_first & by_second), both);
+    let after = header.junk != 0 && counted >> header.junk.trailing_zeros() != 0;
+    counts.add_if(
+        after,
+        "served: marked, a line that counts after a junk line",
+    );
+    let lines = |gate: &Gate| gate.positive | gate.negative | 1 << gate.target;
+    let reads = second.iter().any(|gate| lines(gate) & by_first != 0);
+    counts.add_if(
+        reads,
+        "served: marked, the second reads a line that the first targets",
+    );
+    let most = |gates: &[Gate]| {
+        gates.len() == CASCADE_GATES
+            && gates
+                .iter()
+                .all(|gate| (gate.positive | gate.negative).count_ones() == 63)
+    };
+    counts.add_if(
+        most(&first) && most(&second) && header.constants == u64::MAX && header.junk == 0,
+        "served: marked, 1,024 gates each, 63 controls each, all constant, none junk",
+    );
 }
 
 /// Where the first bad gate stands, and what is wrong with it where that is one thing.

@@ -14,6 +14,8 @@ mod calls {
     pub mod first_difference;
     pub mod inverse;
     pub mod miter;
+    pub mod pair_emit;
+    pub mod pair_sizes;
     pub mod read;
     pub mod reduce;
     pub mod run;
@@ -48,6 +50,8 @@ const SECTIONS: &[fn(&mut Random) -> Counts] = &[
     calls::step::section,
     calls::reduce::section,
     calls::emit::section,
+    calls::pair_sizes::section,
+    calls::pair_emit::section,
     calls::first_difference::section,
     calls::differs::section,
     calls::fewer::section,

@@ -1,9 +1,25 @@
 //! The reference's answers in the numbers of the C interface: number 0 for a served call, and 0 for
 //! each value that a case does not have.
 
-use crate::capi::{CountAnswer, DiffersAnswer, FewerAnswer, ReadAnswer, ReduceAnswer};
+use crate::capi::{CountAnswer, DiffersAnswer, FewerAnswer, Header, ReadAnswer, ReduceAnswer};
 use crate::capi::{RunAnswer, SizesAnswer, StateAnswer, StepAnswer, WriteAnswer};
-use crate::reference::{FileCascade, Found, Match, Picked, Reduced, Refusal, Sizes};
+use crate::reference::{self, FileCascade, Found, Match, Picked, Reduced, Refusal, Sizes};
+
+/// A header as the calls are given it.
+pub fn header(header: reference::Header) -> Header {
+    let reference::Header {
+        lines,
+        constants,
+        values,
+        junk,
+    } = header;
+    Header {
+        lines,
+        constants,
+        values,
+        junk,
+    }
+}
 
 /// The number, the place, and the values.
 fn parts<V: Default>(answer: Result<V, Refusal>) -> (u64, u64, V) {
@@ -113,15 +129,24 @@ pub fn fewer_answer(answer: Result<Picked, Refusal>) -> FewerAnswer {
 }
 
 pub fn read_answer(answer: &Result<FileCascade, Refusal>) -> ReadAnswer {
-    let values = |cascade: &FileCascade| (cascade.lines, cascade.gates.len(), cascade.taken);
-    let answer = answer.as_ref().map(values).map_err(|refusal| *refusal);
-    let (number, place, (lines, gates, taken)) = parts(answer);
+    let nothing = FileCascade {
+        header: reference::Header::unmarked(0),
+        gates: vec![],
+        taken: 0,
+    };
+    let (number, place, cascade) = match answer {
+        Ok(cascade) => (0, 0, cascade),
+        Err(Refusal { number, place }) => (*number, *place, &nothing),
+    };
     ReadAnswer {
         number,
         place,
-        lines,
-        gates: gates as u64,
-        taken: taken as u64,
+        lines: cascade.header.lines,
+        constants: cascade.header.constants,
+        values: cascade.header.values,
+        junk: cascade.header.junk,
+        gates: cascade.gates.len() as u64,
+        taken: cascade.taken as u64,
     }
 }
 

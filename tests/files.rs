@@ -1,36 +1,54 @@
-//! Texts of cascade files: rows worked by hand from document 01, good texts, and damaged ones.
+//! Texts of cascade files: rows worked by hand from document 01 and from T-03, good texts, and damaged ones.
 
 use crate::inputs;
 use crate::random::Random;
-use crate::reference;
+use crate::reference::Header;
 
-/// What a row must answer: served with lines, gates and bytes, or refused with number and place.
+/// What a row must answer: served with header, gates and bytes, or refused with number and place.
 #[derive(Clone, Copy, Debug)]
 pub enum Wanted {
-    Served(u64, u64, u64),
+    Served(Header, u64, u64),
     Refused(u64, u64),
 }
 
 use Wanted::{Refused, Served};
 
+/// The header of a file without marks.
+const fn lines(lines: u64) -> Header {
+    marked(lines, 0, 0, 0)
+}
+
+const fn marked(lines: u64, constants: u64, values: u64, junk: u64) -> Header {
+    Header {
+        lines,
+        constants,
+        values,
+        junk,
+    }
+}
+
 /// Rows by hand. Each name is a class that must occur.
 pub const ROWS: &[(&str, &[u8], Wanted)] = &[
-    ("row: no gates", b"lines\t2\nend\n", Served(2, 0, 12)),
-    ("row: lines 1", b"lines\t1\ng\t0\nend\n", Served(1, 1, 16)),
+    ("row: no gates", b"lines\t2\nend\n", Served(lines(2), 0, 12)),
+    (
+        "row: lines 1",
+        b"lines\t1\ng\t0\nend\n",
+        Served(lines(1), 1, 16),
+    ),
     (
         "row: lines 64",
         b"lines\t64\ng\t63\t+0\t-9\t+10\t-62\nend\n",
-        Served(64, 1, 32),
+        Served(lines(64), 1, 32),
     ),
     (
         "row: bytes after end",
         b"lines\t2\nend\nlines\t2\nend\n",
-        Served(2, 0, 12),
+        Served(lines(2), 0, 12),
     ),
     (
         "row: no LF after the next word",
         b"lines\t2\nend\ng",
-        Served(2, 0, 12),
+        Served(lines(2), 0, 12),
     ),
     ("row: empty text", b"", Refused(1, 0)),
     ("row: only LF", b"\n", Refused(1, 0)),
@@ -172,13 +190,236 @@ pub const ROWS: &[(&str, &[u8], Wanted)] = &[
         b"lines\t9\ng\t0\ng\t1\t+2\t+1\nend\n",
         Refused(4, 2),
     ),
+    (
+        "row: a constant",
+        b"lines\t2\nconst\t1\t1\nend\n",
+        Served(marked(2, 2, 2, 0), 0, 22),
+    ),
+    (
+        "row: a junk line, every line junk",
+        b"lines\t1\njunk\t0\nend\n",
+        Served(marked(1, 0, 0, 1), 0, 19),
+    ),
+    (
+        "row: constants, junk lines and a gate, a line both",
+        b"lines\t64\nconst\t0\t0\nconst\t9\t1\nconst\t63\t1\njunk\t0\njunk\t62\ng\t63\t+0\nend\n",
+        Served(
+            marked(64, 1 | 1 << 9 | 1 << 63, 1 << 9 | 1 << 63, 1 | 1 << 62),
+            1,
+            67,
+        ),
+    ),
+    (
+        "row: const n",
+        b"lines\t4\nconst\t4\t0\nend\n",
+        Refused(14, 1),
+    ),
+    ("row: junk n", b"lines\t4\njunk\t4\nend\n", Refused(14, 1)),
+    (
+        "row: const 99 without a value",
+        b"lines\t4\nconst\t99\nend\n",
+        Refused(14, 1),
+    ),
+    (
+        "row: const 3 without a value",
+        b"lines\t4\nconst\t3\nend\n",
+        Refused(1, 1),
+    ),
+    (
+        "row: const n with value 2",
+        b"lines\t4\nconst\t4\t2\nend\n",
+        Refused(14, 1),
+    ),
+    (
+        "row: const 3 with value 2",
+        b"lines\t4\nconst\t3\t2\nend\n",
+        Refused(1, 1),
+    ),
+    (
+        "row: value 00",
+        b"lines\t4\nconst\t3\t00\nend\n",
+        Refused(1, 1),
+    ),
+    (
+        "row: value 01",
+        b"lines\t4\nconst\t3\t01\nend\n",
+        Refused(1, 1),
+    ),
+    (
+        "row: value 10",
+        b"lines\t4\nconst\t3\t10\nend\n",
+        Refused(1, 1),
+    ),
+    (
+        "row: value +1",
+        b"lines\t4\nconst\t3\t+1\nend\n",
+        Refused(1, 1),
+    ),
+    (
+        "row: empty value",
+        b"lines\t4\nconst\t3\t\nend\n",
+        Refused(1, 1),
+    ),
+    (
+        "row: const and a field",
+        b"lines\t4\nconst\t3\t0\t0\nend\n",
+        Refused(1, 1),
+    ),
+    (
+        "row: const and an empty field",
+        b"lines\t4\nconst\t3\t0\t\nend\n",
+        Refused(1, 1),
+    ),
+    (
+        "row: junk and a field",
+        b"lines\t4\njunk\t3\t0\nend\n",
+        Refused(1, 1),
+    ),
+    (
+        "row: junk n and a field",
+        b"lines\t4\njunk\t4\t0\nend\n",
+        Refused(14, 1),
+    ),
+    (
+        "row: const without tab",
+        b"lines\t4\nconst\nend\n",
+        Refused(1, 1),
+    ),
+    (
+        "row: junk without tab",
+        b"lines\t4\njunk\nend\n",
+        Refused(1, 1),
+    ),
+    (
+        "row: const without number",
+        b"lines\t4\nconst\t\t0\nend\n",
+        Refused(1, 1),
+    ),
+    (
+        "row: junk without number",
+        b"lines\t4\njunk\t\nend\n",
+        Refused(1, 1),
+    ),
+    (
+        "row: const with blank",
+        b"lines\t4\nconst 3\t0\nend\n",
+        Refused(1, 1),
+    ),
+    (
+        "row: constant for const",
+        b"lines\t4\nconstant\t3\t0\nend\n",
+        Refused(1, 1),
+    ),
+    (
+        "row: const 03",
+        b"lines\t4\nconst\t03\t0\nend\n",
+        Refused(1, 1),
+    ),
+    (
+        "row: const 100",
+        b"lines\t4\nconst\t100\t0\nend\n",
+        Refused(1, 1),
+    ),
+    ("row: junk 09", b"lines\t4\njunk\t09\nend\n", Refused(1, 1)),
+    (
+        "row: const without LF",
+        b"lines\t4\nconst\t3\t0",
+        Refused(1, 1),
+    ),
+    (
+        "row: const n without LF",
+        b"lines\t4\nconst\t4\t0",
+        Refused(14, 1),
+    ),
+    ("row: junk without LF", b"lines\t4\njunk\t3", Refused(1, 1)),
+    (
+        "row: const twice",
+        b"lines\t4\nconst\t2\t1\nconst\t2\t1\nend\n",
+        Refused(14, 2),
+    ),
+    (
+        "row: const twice with both values",
+        b"lines\t4\nconst\t2\t1\nconst\t2\t0\nend\n",
+        Refused(14, 2),
+    ),
+    (
+        "row: const falling",
+        b"lines\t4\nconst\t2\t0\nconst\t3\t0\nconst\t0\t1\nend\n",
+        Refused(14, 3),
+    ),
+    (
+        "row: const falling with value 2",
+        b"lines\t4\nconst\t2\t0\nconst\t0\t2\nend\n",
+        Refused(14, 2),
+    ),
+    (
+        "row: junk twice",
+        b"lines\t4\njunk\t0\njunk\t0\nend\n",
+        Refused(14, 2),
+    ),
+    (
+        "row: junk falling",
+        b"lines\t4\njunk\t3\njunk\t2\nend\n",
+        Refused(14, 2),
+    ),
+    (
+        "row: junk below a constant",
+        b"lines\t4\nconst\t3\t0\njunk\t0\nend\n",
+        Served(marked(4, 8, 0, 1), 0, 29),
+    ),
+    (
+        "row: const after junk",
+        b"lines\t4\nconst\t0\t0\njunk\t1\nconst\t2\t0\nend\n",
+        Refused(1, 3),
+    ),
+    (
+        "row: const n after junk",
+        b"lines\t4\njunk\t1\nconst\t4\t0\nend\n",
+        Refused(1, 2),
+    ),
+    (
+        "row: const after a gate",
+        b"lines\t4\ng\t0\nconst\t2\t0\nend\n",
+        Refused(1, 2),
+    ),
+    (
+        "row: junk after a gate",
+        b"lines\t4\njunk\t0\ng\t0\njunk\t1\nend\n",
+        Refused(1, 3),
+    ),
+    (
+        "row: junk n after a gate",
+        b"lines\t4\ng\t0\njunk\t4\nend\n",
+        Refused(1, 2),
+    ),
+    (
+        "row: const before lines",
+        b"const\t0\t0\nlines\t4\nend\n",
+        Refused(1, 0),
+    ),
+    (
+        "row: target n after marks",
+        b"lines\t4\nconst\t0\t0\njunk\t1\ng\t4\nend\n",
+        Refused(3, 3),
+    ),
+    (
+        "row: second gate after marks, target its control",
+        b"lines\t4\nconst\t0\t0\njunk\t1\ng\t0\ng\t1\t+1\nend\n",
+        Refused(4, 4),
+    ),
+    (
+        "row: no line after marks",
+        b"lines\t4\njunk\t1\n",
+        Refused(1, 2),
+    ),
     ("row: NUL", b"lines\t2\0\nend\n", Refused(1, 0)),
     ("row: 0xff", b"lines\t2\n\xff\n", Refused(1, 1)),
 ];
 
-/// Texts of `gates` gate lines, then `last`.
-pub fn long_text(gates: usize, last: &[u8]) -> Vec<u8> {
+/// Texts of `marks` after `lines`, of `gates` gate lines, then of `last`.
+fn long_text(marks: &[u8], gates: usize, last: &[u8]) -> Vec<u8> {
     let mut text = b"lines\t64\n".to_vec();
+    text.extend(marks);
     for i in 0..gates {
         text.extend(format!("g\t{}\t-{}\n", i % 63, 63).bytes());
     }
@@ -186,61 +427,99 @@ pub fn long_text(gates: usize, last: &[u8]) -> Vec<u8> {
     text
 }
 
+/// 128 lines: each of 64 lines constant, the odd ones with value 1, and each junk.
+fn all_marks() -> Vec<u8> {
+    let constants = (0..64).map(|line| format!("const\t{line}\t{}\n", line % 2));
+    let junk = (0..64).map(|line| format!("junk\t{line}\n"));
+    constants.chain(junk).collect::<String>().into_bytes()
+}
+
 /// Rows around the limit of gate lines, and one with more control fields than lines.
 pub fn long_rows() -> Vec<(&'static str, Vec<u8>, Wanted)> {
-    let full = long_text(1024, b"end\n");
+    let full = long_text(b"", 1024, b"end\n");
     let bytes = full.len() as u64;
+    let all = all_marks();
+    let full_marked = long_text(&all, 1024, b"end\n");
+    let marked_bytes = full_marked.len() as u64;
+    let all_header = marked(64, u64::MAX, 0xaaaa_aaaa_aaaa_aaaa, u64::MAX);
     let mut many = b"lines\t64\ng\t63".to_vec();
     for i in 0..200 {
         many.extend(format!("\t+{}", i % 63).bytes());
     }
     many.extend(b"\nend\n");
     vec![
-        ("row: 1,024 gates", full, Served(64, 1024, bytes)),
+        ("row: 1,024 gates", full, Served(lines(64), 1024, bytes)),
         (
             "row: 1,025th gate line",
-            long_text(1025, b"end\n"),
+            long_text(b"", 1025, b"end\n"),
             Refused(6, 1025),
         ),
         (
             "row: 1,025th gate line of the wrong form",
-            long_text(1024, b"g\t?\nend\n"),
+            long_text(b"", 1024, b"g\t?\nend\n"),
             Refused(6, 1025),
         ),
         (
             "row: 1,025th `g` tab without LF",
-            long_text(1024, b"g\t"),
+            long_text(b"", 1024, b"g\t"),
             Refused(6, 1025),
         ),
         (
             "row: 1,025th `g` without tab",
-            long_text(1024, b"g"),
+            long_text(b"", 1024, b"g"),
             Refused(1, 1025),
         ),
         (
             "row: 1,024 gates without end",
-            long_text(1024, b""),
+            long_text(b"", 1024, b""),
             Refused(1, 1025),
         ),
         (
             "row: a wrong line before the 1,025th",
-            long_text(1023, b"g\t?\ng\t0\ng\t0\n"),
+            long_text(b"", 1023, b"g\t?\ng\t0\ng\t0\n"),
             Refused(1, 1024),
         ),
         ("row: 200 control fields", many, Refused(5, 1)),
+        (
+            "row: all lines constant and junk, 1,024 gates",
+            full_marked,
+            Served(all_header, 1024, marked_bytes),
+        ),
+        (
+            "row: 128 marks, 1,025th gate line",
+            long_text(&all, 1025, b"end\n"),
+            Refused(6, 1153),
+        ),
+        (
+            "row: 128 marks, 1,024 gates without end",
+            long_text(&all, 1024, b""),
+            Refused(1, 1153),
+        ),
+        (
+            "row: 129 marks",
+            long_text(&all, 0, b"junk\t63\nend\n"),
+            Refused(14, 129),
+        ),
+        (
+            "row: a mark after 1,024 gates",
+            long_text(b"", 1024, b"junk\t0\nend\n"),
+            Refused(1, 1025),
+        ),
     ]
 }
 
-/// The text of a random cascade.
+/// The text of a random cascade, mostly with marks.
 pub fn good_text(random: &mut Random) -> Vec<u8> {
     let lines = random.pick(&[1, 2, 3, 9, 10, 11, 63, 64]);
     let gates = random.index(5);
-    let cascade = inputs::good_cascade(random, lines, gates);
-    reference::text_of(lines, &reference::gates_of(&cascade.words))
+    let marks = inputs::good_marks(random, lines);
+    inputs::good_cascade(random, lines, gates)
+        .with_marks(marks)
+        .text()
 }
 
 /// What a damaged byte becomes.
-pub const DAMAGE: &[u8] = b"\t\n0159+-gel \0\xff";
+pub const DAMAGE: &[u8] = b"\t\n0159+-gelcj \0\xff";
 
 /// Each text that differs from the given one at a byte (dropped, doubled or changed), and each that is cut.
 pub fn each_damaged(text: &[u8], check: &mut impl FnMut(Vec<u8>)) {
@@ -263,6 +542,12 @@ const WORDS: &[&[u8]] = &[
     b"g\t0",
     b"g\t1\t+0",
     b"end\n",
+    b"const\t",
+    b"const\t1\t0\n",
+    b"const\t2\t1\n",
+    b"junk\t",
+    b"junk\t1\n",
+    b"junk\t3\n",
     b"\n",
     b"\t",
     b"\t+",

@@ -1,5 +1,5 @@
 /* include/cascade.h against the library: the fields of each struct by their places, the names of
- * numbers and limits, null pointers, stack, and rows of document 01. */
+ * numbers and limits, null pointers, stack, marks, and rows of document 01. */
 #define _DEFAULT_SOURCE
 #include "cascade.h"
 #include <stdio.h>
@@ -19,6 +19,12 @@ FIELD(gate, positive, 0);
 FIELD(gate, negative, 1);
 FIELD(gate, target, 2);
 WORDS(gate, 3);
+
+FIELD(header, lines, 0);
+FIELD(header, constants, 1);
+FIELD(header, values, 2);
+FIELD(header, junk, 3);
+WORDS(header, 4);
 
 ANSWER(run, 3);
 FIELD(run_answer, state, 2);
@@ -72,6 +78,11 @@ static void expect(const char *row, uint64_t got, uint64_t right)
     }
 }
 
+static struct cascade_header unmarked(uint64_t lines)
+{
+    return (struct cascade_header){lines, 0, 0, 0};
+}
+
 /* A call that is refused, made twice. */
 #define REFUSED(call, n, p) (expect(#call " number", (call).number, n), expect(#call " place", (call).place, p))
 
@@ -105,10 +116,10 @@ static void fields(void)
     expect("a pair, a drop and a turn: gates", reduce.gates, 3);
     expect("a pair, a drop and a turn: pairs", reduce.pairs, 1);
     expect("a pair, a drop and a turn: merges", reduce.merges, 2);
-    struct cascade_state_answer first = cascade_first_difference(3, toffoli, 3, 3, toffoli, 0);
+    struct cascade_state_answer first = cascade_first_difference(unmarked(3), toffoli, 3, unmarked(3), toffoli, 0);
     expect("first difference to no gate found", first.found, 1);
     expect("first difference to no gate", first.state, 3);
-    struct cascade_differs_answer differs = cascade_differs(3, toffoli, 3, 3, one_control, 3, 1);
+    struct cascade_differs_answer differs = cascade_differs(unmarked(3), toffoli, 3, unmarked(3), one_control, 3, 1);
     expect("differs number", differs.number, 0);
     expect("differs on 1", differs.differs, 1);
     struct cascade_fewer_answer fewer = cascade_fewer_gates(2, three, 9, 2, two, 6);
@@ -139,15 +150,40 @@ static void refusals(void)
     REFUSED(cascade_reduce(2, bad, 6), 7, 1);
     REFUSED(cascade_sizes(2, bad, 6), 7, 1);
     REFUSED(cascade_emit(2, bad, 6, clauses, 64), 7, 1);
-    REFUSED(cascade_first_difference(2, good, 6, 2, bad, 6), 7, 1);
-    REFUSED(cascade_first_difference(2, good, 6, 3, good, 6), 8, 0);
-    REFUSED(cascade_differs(2, good, 6, 2, bad, 6, 0), 7, 1);
-    REFUSED(cascade_differs(2, good, 6, 3, good, 6, 0), 8, 0);
+    REFUSED(cascade_first_difference(unmarked(2), good, 6, unmarked(2), bad, 6), 7, 1);
+    REFUSED(cascade_first_difference(unmarked(2), good, 6, unmarked(3), good, 6), 8, 0);
+    REFUSED(cascade_differs(unmarked(2), good, 6, unmarked(2), bad, 6, 0), 7, 1);
+    REFUSED(cascade_differs(unmarked(2), good, 6, unmarked(3), good, 6, 0), 8, 0);
     REFUSED(cascade_fewer_gates(2, good, 6, 2, bad, 6), 7, 1);
     REFUSED(cascade_fewer_gates(2, good, 6, 3, good, 6), 8, 0);
-    REFUSED(cascade_fault_masks(3, one_control, 3, 4, toffoli, 3, agreeing, 1, out, 12), 8, 0);
-    REFUSED(cascade_fault_masks(3, one_control, 3, 3, toffoli, 3, outside, 2, out, 12), 9, 1);
-    REFUSED(cascade_fault_masks(3, one_control, 3, 3, toffoli, 3, agreeing, 2, out, 12), 12, 1);
+    REFUSED(cascade_fault_masks(unmarked(3), one_control, 3, unmarked(4), toffoli, 3, agreeing, 1, out, 12), 8, 0);
+    REFUSED(cascade_fault_masks(unmarked(3), one_control, 3, unmarked(3), toffoli, 3, outside, 2, out, 12), 9, 1);
+    REFUSED(cascade_fault_masks(unmarked(3), one_control, 3, unmarked(3), toffoli, 3, agreeing, 2, out, 12), 12, 1);
+}
+
+/* t2+0+1 and t2+0 on three lines, of which one is a constant or junk: without marks they differ on 1 and 5, on line 2. */
+static void marks(void)
+{
+    const uint64_t toffoli[3] = {3, 0, 2};
+    const uint64_t one_control[3] = {1, 0, 2};
+    const uint64_t states[2] = {5, 1};
+    uint64_t out[2];
+    const struct cascade_header constant = {3, 4, 4, 0}, junk = {3, 0, 0, 4}, both = {3, 4, 4, 4}, outside = {3, 0, 0, 8}, no_constant = {3, 1, 2, 0};
+    expect("constant: first difference", cascade_first_difference(constant, toffoli, 3, constant, one_control, 3).state, 5);
+    expect("junk: first difference", cascade_first_difference(junk, toffoli, 3, junk, one_control, 3).found, 0);
+    expect("both: first difference", cascade_first_difference(both, toffoli, 3, both, one_control, 3).found, 0);
+    expect("constant: differs", cascade_differs(constant, toffoli, 3, constant, one_control, 3, 5).differs, 1);
+    expect("junk: differs", cascade_differs(junk, toffoli, 3, junk, one_control, 3, 5).differs, 0);
+    expect("constant: faults", cascade_fault_masks(constant, one_control, 3, constant, toffoli, 3, states, 1, out, 2).gates, 1);
+    expect("constant: a missing positive control", out[0], 2);
+    expect("constant: a missing negative control", out[1], 0);
+    REFUSED(cascade_differs(constant, toffoli, 3, constant, one_control, 3, 1), CASCADE_BAD_STATE, 0);
+    REFUSED(cascade_fault_masks(constant, one_control, 3, constant, toffoli, 3, states, 2, out, 2), CASCADE_BAD_STATE, 1);
+    REFUSED(cascade_fault_masks(junk, one_control, 3, junk, toffoli, 3, states, 2, out, 2), CASCADE_AGREEING_STATE, 0);
+    REFUSED(cascade_first_difference(outside, toffoli, 2, junk, toffoli, 3), CASCADE_BAD_MARK, 0);
+    REFUSED(cascade_first_difference(junk, toffoli, 3, no_constant, toffoli, 3), CASCADE_BAD_MARK, 0);
+    REFUSED(cascade_differs(constant, toffoli, 3, junk, toffoli, 3, 8), CASCADE_MARKS_DIFFER, 0);
+    REFUSED(cascade_differs(constant, toffoli, 3, unmarked(4), toffoli, 3, 0), CASCADE_LINE_COUNTS_DIFFER, 0);
 }
 
 /* The longest file: 1,024 gates with 63 controls on 64 lines, targets in turn; twice as many, the
@@ -185,7 +221,7 @@ static void limits(void)
     REFUSED(cascade_sizes(64, longest, many + 3), CASCADE_TOO_MANY_GATES, 0);
     REFUSED(cascade_sizes(CASCADE_MAX_LINES + 1, longest, few), CASCADE_BAD_LINE_COUNT, 0);
     REFUSED(cascade_sizes(64, longest, 4), CASCADE_BAD_WORD_COUNT, 0);
-    REFUSED(cascade_first_difference(CASCADE_MAX_SWEEP_LINES + 1, longest, 0, CASCADE_MAX_SWEEP_LINES + 1, longest, 0), CASCADE_TOO_WIDE, 0);
+    REFUSED(cascade_first_difference(unmarked(CASCADE_MAX_SWEEP_LINES + 1), longest, 0, unmarked(CASCADE_MAX_SWEEP_LINES + 1), longest, 0), CASCADE_TOO_WIDE, 0);
 }
 
 /* A file with one line that is wrong, by the number's name. */
@@ -267,10 +303,10 @@ static void nulls(void)
     expect("null: sizes", cascade_sizes(1, NULL, 0).words, 6);
     expect("null: emission", cascade_emit(1, NULL, 0, clauses, 16).words, 6);
     REFUSED(cascade_emit(1, NULL, 0, NULL, 0), CASCADE_NO_ROOM, 0);
-    expect("null: first difference", cascade_first_difference(3, NULL, 0, 3, a, 3).state, 3);
-    expect("null: differs", cascade_differs(3, NULL, 0, 3, a, 3, 3).differs, 1);
+    expect("null: first difference", cascade_first_difference(unmarked(3), NULL, 0, unmarked(3), a, 3).state, 3);
+    expect("null: differs", cascade_differs(unmarked(3), NULL, 0, unmarked(3), a, 3, 3).differs, 1);
     expect("null: fewer gates", cascade_fewer_gates(3, a, 3, 3, NULL, 0).second, 1);
-    REFUSED(cascade_fault_masks(3, NULL, 0, 3, a, 3, NULL, 0, NULL, 0), CASCADE_SERVED, 0);
+    REFUSED(cascade_fault_masks(unmarked(3), NULL, 0, unmarked(3), a, 3, NULL, 0, NULL, 0), CASCADE_SERVED, 0);
 }
 
 /* Two inputs in the same words. */
@@ -279,7 +315,7 @@ static void overlaps(void)
     const uint64_t a[9] = {3, 0, 2, 2, 0, 0, 1, 0, 2};
     uint64_t out[18];
     expect("a cascade against its own start: gates", cascade_miter(3, a, 9, 3, a, 3, out, 18).gates, 4);
-    expect("a cascade against itself: differs", cascade_first_difference(3, a, 9, 3, a, 9).found, 0);
+    expect("a cascade against itself: differs", cascade_first_difference(unmarked(3), a, 9, unmarked(3), a, 9).found, 0);
     expect("a cascade and its own start: second", cascade_fewer_gates(3, a, 9, 3, a, 6).second, 1);
 }
 
@@ -304,10 +340,10 @@ static void do_reduce(void) { told |= cascade_reduce(64, pair, 6144).number; }
 static void do_sizes(void) { told |= cascade_sizes(64, longest, 6144).number; }
 static void do_emit(void) { told |= cascade_emit(64, longest, 6144, list, CASCADE_MAX_CLAUSE_WORDS).number; }
 static const uint64_t small[3] = {3, 0, 2};
-static void do_sweep(void) { told |= cascade_first_difference(3, small, 3, 3, small, 0).number; }
-static void do_differs(void) { told |= cascade_differs(64, longest, 3072, 64, longest, 3069, 0).number; }
+static void do_sweep(void) { told |= cascade_first_difference(unmarked(3), small, 3, unmarked(3), small, 0).number; }
+static void do_differs(void) { told |= cascade_differs(unmarked(64), longest, 3072, unmarked(64), longest, 3069, 0).number; }
 static void do_fewer(void) { told |= cascade_fewer_gates(64, longest, 3072, 64, longest, 3069).number; }
-static void do_faults(void) { told |= cascade_fault_masks(64, longest, 3072, 64, longest, 0, states, 64, large, 2048).number; }
+static void do_faults(void) { told |= cascade_fault_masks(unmarked(64), longest, 3072, unmarked(64), longest, 0, states, 64, large, 2048).number; }
 
 /* The bytes of a stack that a function touches. */
 static size_t touched(void (*function)(void))
@@ -346,6 +382,7 @@ int main(void)
 {
     fields();
     refusals();
+    marks();
     limits();
     file_numbers();
     counts();
@@ -419,20 +456,20 @@ int main(void)
         expect("write byte", written[i], text[i]);
     }
     const uint64_t one_control[3] = {1, 0, 2};
-    struct cascade_state_answer first = cascade_first_difference(3, toffoli, 3, 3, one_control, 3);
+    struct cascade_state_answer first = cascade_first_difference(unmarked(3), toffoli, 3, unmarked(3), one_control, 3);
     expect("first difference found", first.found, 1);
     expect("first difference", first.state, 1);
-    first = cascade_first_difference(17, toffoli, 3, 17, toffoli, 3);
+    first = cascade_first_difference(unmarked(17), toffoli, 3, unmarked(17), toffoli, 3);
     expect("first difference too wide", first.number, 13);
-    struct cascade_differs_answer differs = cascade_differs(3, toffoli, 3, 3, one_control, 3, 3);
+    struct cascade_differs_answer differs = cascade_differs(unmarked(3), toffoli, 3, unmarked(3), one_control, 3, 3);
     expect("differs", differs.differs, 0);
     struct cascade_fewer_answer fewer = cascade_fewer_gates(2, two, 6, 2, two, 3);
     expect("fewer second", fewer.second, 1);
     expect("fewer gates", fewer.gates, 1);
     const uint64_t failing[1] = {1};
     uint64_t masks[CASCADE_GATE_MASKS] = {9, 9};
-    REFUSED(cascade_fault_masks(3, one_control, 3, 3, toffoli, 3, failing, 1, masks, CASCADE_GATE_MASKS - 1), 10, 0);
-    struct cascade_count_answer faults = cascade_fault_masks(3, one_control, 3, 3, toffoli, 3, failing, 1, masks, CASCADE_GATE_MASKS);
+    REFUSED(cascade_fault_masks(unmarked(3), one_control, 3, unmarked(3), toffoli, 3, failing, 1, masks, CASCADE_GATE_MASKS - 1), 10, 0);
+    struct cascade_count_answer faults = cascade_fault_masks(unmarked(3), one_control, 3, unmarked(3), toffoli, 3, failing, 1, masks, CASCADE_GATE_MASKS);
     expect("fault gates", faults.gates, 1);
     expect("fault positive", masks[0], 2);
     expect("fault negative", masks[1], 0);

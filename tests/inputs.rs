@@ -1,24 +1,67 @@
-//! Inputs of the calls: line counts, gates, cascades good and damaged, states, buffer lengths.
+//! Inputs of the calls: line counts, gates, cascades good and damaged, marks, states, buffer lengths.
 
 use crate::random::Random;
-use crate::reference::{self, Gate, CASCADE_GATES, MITER_GATES};
+use crate::reference::{self, Gate, Header, CASCADE_GATES, MITER_GATES};
 
-/// A line count and words as a call gets them, good or bad, and a state to start from.
+/// A line count, marks and words as a call gets them, good or bad, and a state to start from.
 #[derive(Clone, Debug)]
 pub struct Cascade {
     pub lines: u64,
+    pub marks: Marks,
     pub words: Vec<u64>,
     pub state: u64,
 }
 
-/// The words with state 0.
-pub fn from_zero(lines: u64, words: Vec<u64>) -> Cascade {
-    let state = 0;
-    Cascade {
-        lines,
-        words,
-        state,
+/// What a header has besides the line count.
+#[derive(Clone, Copy, Debug, Default, PartialEq)]
+pub struct Marks {
+    pub constants: u64,
+    pub values: u64,
+    pub junk: u64,
+}
+
+impl Cascade {
+    pub fn new(lines: u64, words: Vec<u64>, state: u64) -> Cascade {
+        Cascade {
+            lines,
+            marks: Marks::default(),
+            words,
+            state,
+        }
     }
+
+    pub fn header(&self) -> Header {
+        let Marks {
+            constants,
+            values,
+            junk,
+        } = self.marks;
+        Header {
+            lines: self.lines,
+            constants,
+            values,
+            junk,
+        }
+    }
+
+    /// As a file, where it is good.
+    pub fn text(&self) -> Vec<u8> {
+        reference::text_of(self.header(), &reference::gates_of(&self.words))
+    }
+
+    /// With other marks; the state honours the constants.
+    pub fn with_marks(self, marks: Marks) -> Cascade {
+        Cascade {
+            marks,
+            state: self.state & !marks.constants | marks.values,
+            ..self
+        }
+    }
+}
+
+/// The words without marks and with state 0.
+pub fn from_zero(lines: u64, words: Vec<u64>) -> Cascade {
+    Cascade::new(lines, words, 0)
 }
 
 // ---- lines and states
@@ -86,6 +129,7 @@ pub fn state(random: &mut Random, cascade: &Cascade) -> u64 {
         1 => last.wrapping_add(1),
         2 => last & random.word(),
         3 => random.word(),
+        4 => cascade.state ^ (1 << random.below(64)) & last,
         _ => cascade.state,
     }
 }
@@ -199,11 +243,7 @@ pub fn good_cascade(random: &mut Random, lines: u64, gates: usize) -> Cascade {
         }
         words.extend([positive, negative, target]);
     }
-    Cascade {
-        lines,
-        words,
-        state: start,
-    }
+    Cascade::new(lines, words, start)
 }
 
 /// Small numbers as words; many of them are gates.
@@ -211,11 +251,7 @@ fn small_words(random: &mut Random) -> Cascade {
     let lines = random.below(6);
     let len = random.index(13);
     let words = (0..len).map(|_| random.below(8)).collect();
-    Cascade {
-        lines,
-        words,
-        state: random.below(16),
-    }
+    Cascade::new(lines, words, random.below(16))
 }
 
 fn gate_count(random: &mut Random, limit: usize) -> usize {
@@ -248,6 +284,111 @@ fn damage_word_count(random: &mut Random, words: &mut Vec<u64>) {
     }
 }
 
+// ---- marks
+
+/// A cascade as `cascade` draws it, with marks.
+pub fn marked_cascade(random: &mut Random) -> Cascade {
+    let cascade = cascade(random, CASCADE_GATES);
+    let marks = any_marks(random, cascade.lines);
+    cascade.with_marks(marks)
+}
+
+/// Mostly good marks on n lines.
+fn any_marks(random: &mut Random, n: u64) -> Marks {
+    let mut marks = good_marks(random, n);
+    if random.one_in(12) {
+        damage_marks(random, n, &mut marks);
+    }
+    marks
+}
+
+/// Good marks on n lines: none, or constants and junk lines, each often on no line or on all.
+pub fn good_marks(random: &mut Random, n: u64) -> Marks {
+    if random.one_in(4) {
+        return Marks::default();
+    }
+    let constants = marked_lines(random, n);
+    Marks {
+        constants,
+        values: constants & random.word(),
+        junk: marked_lines(random, n),
+    }
+}
+
+/// No line, one, few, half, or all, of n.
+fn marked_lines(random: &mut Random, n: u64) -> u64 {
+    let any = random.word();
+    let lines = match random.below(8) {
+        0 | 1 => 0,
+        2 => 1u64.wrapping_shl(any as u32),
+        3 => u64::MAX,
+        4 => any,
+        _ => any & random.word(),
+    };
+    lines & all_lines(n)
+}
+
+/// Changes marks on n lines in one of the ways that T-03 forbids.
+pub fn damage_marks(random: &mut Random, n: u64, marks: &mut Marks) {
+    let above = if n < 64 { line_from(random, n) } else { 0 };
+    match random.below(4) {
+        0 if above != 0 => marks.constants |= above,
+        1 if above != 0 => marks.junk |= above,
+        2 if above != 0 => {
+            marks.constants |= above;
+            marks.values |= above;
+        }
+        _ => {
+            let line = 1 << random.below(64);
+            marks.constants &= !line;
+            marks.values |= line;
+        }
+    }
+}
+
+/// Other marks that are good on n lines, where there are such: a constant more or less, with value 0, the
+/// value of a constant, a junk line more or less, or any.
+fn change_marks(random: &mut Random, n: u64, marks: &mut Marks) {
+    let line = 1u64.wrapping_shl(random.word() as u32) & all_lines(n);
+    match random.below(4) {
+        0 => marks.constants ^= line & !marks.values,
+        1 => marks.values ^= line & marks.constants,
+        2 => marks.junk ^= line,
+        _ => *marks = good_marks(random, n),
+    }
+}
+
+/// Constants that all the states honour, where there are states, and junk lines, of n.
+pub fn honoured_marks(random: &mut Random, n: u64, states: &[u64]) -> Marks {
+    let first = states.first().copied().unwrap_or(random.word());
+    let alike = states
+        .iter()
+        .fold(u64::MAX, |alike, state| alike & !(first ^ state));
+    let constants = marked_lines(random, n) & alike;
+    Marks {
+        constants,
+        values: constants & first,
+        junk: marked_lines(random, n),
+    }
+}
+
+/// Hands over each kind of mark at each line of a word, for each n.
+pub fn each_mark(check: &mut impl FnMut(Cascade)) {
+    for lines in 1..=64 {
+        for line in 0..64 {
+            for kinds in 1..8 {
+                let [constants, values, junk] = [0, 1, 2].map(|kind| (kinds >> kind & 1) << line);
+                let marks = Marks {
+                    constants,
+                    values,
+                    junk,
+                };
+                check(from_zero(lines, vec![]).with_marks(marks));
+            }
+        }
+    }
+}
+
 // ---- cascades for steps
 
 /// A cascade of up to 2,048 gates: mostly one with matches, else any.
@@ -277,11 +418,7 @@ fn matching_cascade(random: &mut Random, limit: usize) -> Cascade {
         1 => {}
         _ => repeat_gates(random, lines, &mut words),
     }
-    Cascade {
-        lines,
-        words,
-        state: random.word() & all_lines(lines),
-    }
+    Cascade::new(lines, words, random.word() & all_lines(lines))
 }
 
 /// Makes the second half the first one reversed, and changes a few gates.
@@ -367,6 +504,34 @@ pub fn each_faulty_pair(
     }
 }
 
+/// The same with each choice of bad marks besides, and with the same marks and any.
+pub fn each_faulty_marked_pair(
+    random: &mut Random,
+    check: &mut impl FnMut(&mut Random, Cascade, Cascade),
+) {
+    each_faulty_pair(random, &mut |random, a, b| {
+        for (bad, same) in [
+            ([false, false], true),
+            ([false, false], false),
+            ([true, false], true),
+            ([false, true], true),
+            ([true, true], false),
+        ] {
+            let mut marks = [good_marks(random, a.lines), good_marks(random, b.lines)];
+            if same {
+                marks[1] = marks[0];
+            }
+            for (which, lines) in [a.lines, b.lines].into_iter().enumerate() {
+                if bad[which] {
+                    damage_marks(random, lines, &mut marks[which]);
+                }
+            }
+            let (a, b) = (a.clone(), b.clone());
+            check(random, a.with_marks(marks[0]), b.with_marks(marks[1]));
+        }
+    });
+}
+
 /// Two cascades, mostly on the same lines, the second often the first or nearly so.
 pub fn pair(random: &mut Random) -> (Cascade, Cascade) {
     let a = cascade(random, CASCADE_GATES);
@@ -381,6 +546,20 @@ pub fn pair(random: &mut Random) -> (Cascade, Cascade) {
         b.lines = a.lines;
     }
     (a, b)
+}
+
+/// The same with marks, mostly the same ones.
+pub fn marked_pair(random: &mut Random) -> (Cascade, Cascade) {
+    let (a, b) = pair(random);
+    let mut marks = any_marks(random, a.lines);
+    let a = a.with_marks(marks);
+    if random.one_in(6) {
+        change_marks(random, b.lines, &mut marks);
+    }
+    if random.one_in(12) {
+        damage_marks(random, b.lines, &mut marks);
+    }
+    (a, b.with_marks(marks))
 }
 
 /// A control that a gate of the suspect lacks.
@@ -457,6 +636,45 @@ pub fn longest(random: &mut Random) -> Vec<u64> {
     (0..MITER_GATES)
         .flat_map(|_| with_controls(random, 63, 0x0123_4567_89ab_cdef))
         .collect()
+}
+
+/// Hands over pairs whose clauses are asked for: with each choice of faults and of bad marks, with each
+/// kind of mark, with each number of controls, and with as many gates as two cascades may have.
+pub fn each_pair_for_clauses(
+    random: &mut Random,
+    check: &mut impl FnMut(&mut Random, Cascade, Cascade),
+) {
+    each_faulty_marked_pair(random, check);
+    each_mark(&mut |a| check(random, a.clone(), a));
+    each_control_count(&mut |controls, positive| {
+        let marks = some_marks(random);
+        let mut side = || {
+            // a first gate makes a line's current variable another than its input
+            let before = [0, 0, random.below(64)];
+            let gate = with_controls(random, controls, positive);
+            from_zero(64, [before, gate].concat()).with_marks(marks)
+        };
+        let (a, b) = (side(), side());
+        check(random, a, b);
+    });
+    let words = longest(random);
+    let (first, second) = words.split_at(3 * CASCADE_GATES);
+    let all = Marks {
+        constants: u64::MAX,
+        values: random.word(),
+        junk: 0,
+    };
+    for marks in [Marks::default(), all, some_marks(random)] {
+        let side = |words: &[u64]| from_zero(64, words.to_vec()).with_marks(marks);
+        check(random, side(first), side(second));
+    }
+}
+
+/// Good marks on 64 lines, with a junk line or more.
+fn some_marks(random: &mut Random) -> Marks {
+    let mut marks = good_marks(random, 64);
+    marks.junk |= 1 << random.below(64);
+    marks
 }
 
 // ---- every edge of the rules

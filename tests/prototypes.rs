@@ -87,6 +87,7 @@ fn argument(words: &[String]) -> Vec<String> {
         "u8" => "uint8_t".to_string(),
         "i16" => "int16_t".to_string(),
         "Gate" => "struct cascade_gate".to_string(),
+        "Header" => "struct cascade_header".to_string(),
         _ => panic!("{words:?}"),
     };
     match kind[..] {
@@ -129,9 +130,11 @@ fn main() {
         let path = entry.expect("an entry").path();
         source(path.to_str().expect("a name"), &mut our_calls, &mut our_structs);
     }
-    source("crates/circuit/src/gate.rt", &mut Calls::new(), &mut our_structs);
-    let gate = our_structs.remove("gate").expect("the gate record");
-    our_structs.insert("cascade_gate".to_string(), gate);
+    for record in ["gate", "header"] {
+        source(&format!("crates/circuit/src/{record}.rt"), &mut Calls::new(), &mut our_structs);
+        let fields = our_structs.remove(record).expect("a record of circuit");
+        our_structs.insert(format!("cascade_{record}"), fields);
+    }
     assert_eq!(calls, our_calls, "the calls of the header, and of the crate");
     assert_eq!(structs, our_structs, "the structs of the header, and of the crate");
     assert!(!calls.is_empty() && !structs.is_empty());

@@ -1,4 +1,4 @@
-//! The rules of document 01, a second time, with the requests of document 02 that have landed (T-01).
+//! The rules of document 01, a second time, with the requests of document 02 that have landed (T-01, T-03).
 //! Every rule is spelled line by line and in the document's order, so that it can be held against the
 //! text. No code is shared with the crates, and speed is no aim. A call of 01 is a function here: it
 //! answers its values, or the refusal.
@@ -133,11 +133,70 @@ pub fn gates_of(words: &[u64]) -> Vec<Gate> {
     gates
 }
 
+// ---- header
+
+/// What a cascade has besides its gates: the line count, and the marks of T-03. The input of a line of
+/// `constants` is tied to that line's bit of `values`; the output of a line of `junk` is ignored.
+#[derive(Clone, Copy, Debug, PartialEq)]
+pub struct Header {
+    pub lines: u64,
+    pub constants: u64,
+    pub values: u64,
+    pub junk: u64,
+}
+
+impl Header {
+    pub fn unmarked(lines: u64) -> Header {
+        Header {
+            lines,
+            constants: 0,
+            values: 0,
+            junk: 0,
+        }
+    }
+
+    /// Constants or junk are not 0.
+    pub fn marked(self) -> bool {
+        self.constants != 0 || self.junk != 0
+    }
+
+    /// The state is below 2^n and honours the constants.
+    pub fn permits(self, state: u64) -> bool {
+        let honours = |k| !has(self.constants, k) || has(state, k) == has(self.values, k);
+        !bad_state(self.lines, state) && (0..64).all(honours)
+    }
+
+    /// Two outputs are alike on all lines but the junk ones.
+    pub fn alike(self, one: u64, other: u64) -> bool {
+        (0..64).all(|k| k >= self.lines || has(self.junk, k) || has(one, k) == has(other, k))
+    }
+}
+
 // ---- what is wrong with a call, each test by itself
 
 /// 2: n outside 1 to 64.
 pub fn bad_line_count(n: u64) -> bool {
     n == 0 || n > 64
+}
+
+/// 14: a mark at n or above, or value 1 on a line that is no constant.
+pub fn bad_marks(header: Header) -> bool {
+    for line in 0..64 {
+        let constant = has(header.constants, line);
+        if (constant || has(header.junk, line)) && line >= header.lines {
+            return true;
+        }
+        if has(header.values, line) && !constant {
+            return true;
+        }
+    }
+    false
+}
+
+/// 15: different marks.
+pub fn different_marks(first: Header, second: Header) -> bool {
+    let marks = |header: Header| (header.constants, header.values, header.junk);
+    marks(first) != marks(second)
 }
 
 /// 11: word count not a multiple of three.
@@ -194,6 +253,17 @@ pub fn test_cascade(n: u64, words: &[u64], limit: usize) -> Result<Vec<Gate>, Re
     Ok(gates_of(words))
 }
 
+/// 2, 14, 11, 6, 7 for one cascade with a header; its gates where none holds.
+pub fn test_headed(header: Header, words: &[u64]) -> Result<Vec<Gate>, Refusal> {
+    if bad_line_count(header.lines) {
+        return refuse(2, 0);
+    }
+    if bad_marks(header) {
+        return refuse(14, 0);
+    }
+    test_cascade(header.lines, words, CASCADE_GATES)
+}
+
 /// The tests of the first cascade, those of the second, then 8.
 pub fn test_pair(
     na: u64,
@@ -205,6 +275,24 @@ pub fn test_pair(
     let second = test_cascade(nb, b, CASCADE_GATES)?;
     if na != nb {
         return refuse(8, 0);
+    }
+    Ok((first, second))
+}
+
+/// The same for two cascades with headers, then 15.
+pub fn test_headed_pair(
+    a_header: Header,
+    a: &[u64],
+    b_header: Header,
+    b: &[u64],
+) -> Result<(Vec<Gate>, Vec<Gate>), Refusal> {
+    let first = test_headed(a_header, a)?;
+    let second = test_headed(b_header, b)?;
+    if a_header.lines != b_header.lines {
+        return refuse(8, 0);
+    }
+    if different_marks(a_header, b_header) {
+        return refuse(15, 0);
     }
     Ok((first, second))
 }
@@ -258,13 +346,18 @@ pub fn inverse(n: u64, words: &[u64], out: &mut [u64]) -> Result<u64, Refusal> {
 
 /// The gate count; A's gates and then B's reversed are at the buffer's start.
 pub fn miter(na: u64, a: &[u64], nb: u64, b: &[u64], out: &mut [u64]) -> Result<u64, Refusal> {
-    let (mut gates, second) = test_pair(na, a, nb, b)?;
-    gates.extend(second.iter().rev());
+    let (first, second) = test_pair(na, a, nb, b)?;
+    let gates = miter_gates(&first, &second);
     if short_buffer(out, 3 * gates.len()) {
         return refuse(10, 0);
     }
     put(&gates, out);
     Ok(gates.len() as u64)
+}
+
+/// A's gates, then B's reversed.
+pub fn miter_gates(first: &[Gate], second: &[Gate]) -> Vec<Gate> {
+    first.iter().chain(second.iter().rev()).copied().collect()
 }
 
 /// Writes the gates' words at the buffer's start.
@@ -496,7 +589,6 @@ fn gate_clauses(gate: Gate, variables: &mut i64, current: &mut [i64], clauses: &
 
 /// The clause list of gates on n lines.
 pub fn clause_list(n: u64, gates: &[Gate]) -> ClauseList {
-    let lines = n as usize;
     let inputs: Vec<i64> = (1..=n as i64).collect();
     let mut current = inputs.clone();
     let mut variables = n as i64;
@@ -505,15 +597,67 @@ pub fn clause_list(n: u64, gates: &[Gate]) -> ClauseList {
         gate_clauses(*gate, &mut variables, &mut current, &mut clauses);
     }
     let mut all_d = Vec::new();
-    for line in 0..lines {
-        variables += 1;
-        let d = variables;
-        all_d.push(d);
-        if gates.iter().any(|gate| gate.target == line as u64) {
-            clauses.push(Clause::Xor(vec![-d, inputs[line], current[line]]));
-        } else {
-            clauses.push(Clause::Or(vec![-d]));
+    for line in 0..n {
+        let targeted = gates.iter().any(|gate| gate.target == line);
+        let compared = [inputs[line as usize], current[line as usize]];
+        all_d.push(d_clause(targeted, compared, &mut variables, &mut clauses));
+    }
+    clauses.push(Clause::Or(all_d));
+    ClauseList { variables, clauses }
+}
+
+/// The clause of a line's d, a new variable: OR (-d) if no gate targets the line, else XOR (-d, the two
+/// that are compared).
+fn d_clause(
+    targeted: bool,
+    [one, other]: [i64; 2],
+    variables: &mut i64,
+    clauses: &mut Vec<Clause>,
+) -> i64 {
+    *variables += 1;
+    let d = *variables;
+    if targeted {
+        clauses.push(Clause::Xor(vec![-d, one, other]));
+    } else {
+        clauses.push(Clause::Or(vec![-d]));
+    }
+    d
+}
+
+/// T-03: the clause list of two cascades with the same header. With marks: the inputs, a one-literal OR
+/// per constant (negative for 0), A's gates, B's gates from the same inputs, a d for each line that
+/// counts, the OR of these. Without marks it is that of their miter.
+pub fn pair_list(header: Header, first: &[Gate], second: &[Gate]) -> ClauseList {
+    let n = header.lines;
+    if !header.marked() {
+        return clause_list(n, &miter_gates(first, second));
+    }
+    let inputs: Vec<i64> = (1..=n as i64).collect();
+    let mut variables = n as i64;
+    let mut clauses = Vec::new();
+    for line in 0..n {
+        let input = inputs[line as usize];
+        if has(header.constants, line) {
+            let one = has(header.values, line);
+            clauses.push(Clause::Or(vec![if one { input } else { -input }]));
         }
+    }
+    let mut of_a = inputs.clone();
+    for gate in first {
+        gate_clauses(*gate, &mut variables, &mut of_a, &mut clauses);
+    }
+    let mut of_b = inputs;
+    for gate in second {
+        gate_clauses(*gate, &mut variables, &mut of_b, &mut clauses);
+    }
+    let mut all_d = Vec::new();
+    for line in 0..n {
+        if has(header.junk, line) {
+            continue;
+        }
+        let targeted = first.iter().chain(second).any(|gate| gate.target == line);
+        let compared = [of_a[line as usize], of_b[line as usize]];
+        all_d.push(d_clause(targeted, compared, &mut variables, &mut clauses));
     }
     clauses.push(Clause::Or(all_d));
     ClauseList { variables, clauses }
@@ -526,20 +670,34 @@ pub struct Sizes {
     pub words: u64,
 }
 
-/// The sizes of the clause list, counted on the list itself.
-pub fn sizes(n: u64, words: &[u64]) -> Result<Sizes, Refusal> {
-    let gates = test_cascade(n, words, MITER_GATES)?;
-    let list = clause_list(n, &gates);
-    let mut total = 0;
-    for clause in &list.clauses {
-        let (Clause::Or(literals) | Clause::Xor(literals)) = clause;
-        total += 2 + literals.len() as u64;
-    }
-    Ok(Sizes {
+/// The sizes of a list, counted on the list itself.
+pub fn sizes_of(list: &ClauseList) -> Sizes {
+    let words = list
+        .clauses
+        .iter()
+        .map(|clause| stored(clause).len() as u64);
+    Sizes {
         variables: list.variables as u64,
         clauses: list.clauses.len() as u64,
-        words: total,
-    })
+        words: words.sum(),
+    }
+}
+
+/// The sizes of the clause list.
+pub fn sizes(n: u64, words: &[u64]) -> Result<Sizes, Refusal> {
+    let gates = test_cascade(n, words, MITER_GATES)?;
+    Ok(sizes_of(&clause_list(n, &gates)))
+}
+
+/// The same of two cascades with headers.
+pub fn pair_sizes(
+    a_header: Header,
+    a: &[u64],
+    b_header: Header,
+    b: &[u64],
+) -> Result<Sizes, Refusal> {
+    let (first, second) = test_headed_pair(a_header, a, b_header, b)?;
+    Ok(sizes_of(&pair_list(a_header, &first, &second)))
 }
 
 /// The clause as it is stored: 0 for OR or 1 for XOR, the literal count, the literals.
@@ -553,10 +711,8 @@ fn stored(clause: &Clause) -> Vec<i64> {
     words
 }
 
-/// The sizes; the stored clauses are at the buffer's start.
-pub fn emit(n: u64, words: &[u64], out: &mut [i16]) -> Result<Sizes, Refusal> {
-    let sizes = sizes(n, words)?;
-    let list = clause_list(n, &gates_of(words));
+/// 10, or the stored clauses at the buffer's start.
+fn put_list(list: &ClauseList, out: &mut [i16]) -> Result<Sizes, Refusal> {
     let answer: Vec<i64> = list.clauses.iter().flat_map(stored).collect();
     if short_buffer(out, answer.len()) {
         return refuse(10, 0);
@@ -564,7 +720,25 @@ pub fn emit(n: u64, words: &[u64], out: &mut [i16]) -> Result<Sizes, Refusal> {
     for (word, value) in out.iter_mut().zip(answer) {
         *word = i16::try_from(value).expect("every word of a list fits 16 bits");
     }
-    Ok(sizes)
+    Ok(sizes_of(list))
+}
+
+/// The sizes; the stored clauses are at the buffer's start.
+pub fn emit(n: u64, words: &[u64], out: &mut [i16]) -> Result<Sizes, Refusal> {
+    let gates = test_cascade(n, words, MITER_GATES)?;
+    put_list(&clause_list(n, &gates), out)
+}
+
+/// The same of two cascades with headers.
+pub fn pair_emit(
+    a_header: Header,
+    a: &[u64],
+    b_header: Header,
+    b: &[u64],
+    out: &mut [i16],
+) -> Result<Sizes, Refusal> {
+    let (first, second) = test_headed_pair(a_header, a, b_header, b)?;
+    put_list(&pair_list(a_header, &first, &second), out)
 }
 
 // ---- sweep
@@ -582,14 +756,20 @@ fn output(gates: &[Gate], state: u64) -> u64 {
     gates.iter().fold(state, |state, gate| gate.apply(state))
 }
 
-/// The lowest state on which the two differ, or none.
-pub fn first_difference(na: u64, a: &[u64], nb: u64, b: &[u64]) -> Result<Option<u64>, Refusal> {
-    let (first, second) = test_pair(na, a, nb, b)?;
-    if too_wide(na) {
+/// The lowest permitted state on which the two differ, or none.
+pub fn first_difference(
+    a_header: Header,
+    a: &[u64],
+    b_header: Header,
+    b: &[u64],
+) -> Result<Option<u64>, Refusal> {
+    let (first, second) = test_headed_pair(a_header, a, b_header, b)?;
+    if too_wide(a_header.lines) {
         return refuse(13, 0);
     }
-    for state in 0..1 << na {
-        if output(&first, state) != output(&second, state) {
+    for state in 0..1 << a_header.lines {
+        let alike = a_header.alike(output(&first, state), output(&second, state));
+        if a_header.permits(state) && !alike {
             return Ok(Some(state));
         }
     }
@@ -599,12 +779,18 @@ pub fn first_difference(na: u64, a: &[u64], nb: u64, b: &[u64]) -> Result<Option
 // ---- input check
 
 /// Whether the two differ on the state.
-pub fn differs(na: u64, a: &[u64], nb: u64, b: &[u64], state: u64) -> Result<bool, Refusal> {
-    let (first, second) = test_pair(na, a, nb, b)?;
-    if bad_state(na, state) {
+pub fn differs(
+    a_header: Header,
+    a: &[u64],
+    b_header: Header,
+    b: &[u64],
+    state: u64,
+) -> Result<bool, Refusal> {
+    let (first, second) = test_headed_pair(a_header, a, b_header, b)?;
+    if !a_header.permits(state) {
         return refuse(9, 0);
     }
-    Ok(output(&first, state) != output(&second, state))
+    Ok(!a_header.alike(output(&first, state), output(&second, state)))
 }
 
 // ---- pick
@@ -633,15 +819,20 @@ pub fn pick(na: u64, a: &[u64], nb: u64, b: &[u64]) -> Result<Picked, Refusal> {
 
 // ---- faults
 
-/// 9: the index of the first state of the list that is 2^n or more.
-pub fn first_bad_state(n: u64, states: &[u64]) -> Option<u64> {
-    let index = states.iter().position(|state| bad_state(n, *state))?;
+/// 9: the index of the first state of the list that is 2^n or more or breaks a constant.
+pub fn first_bad_state(header: Header, states: &[u64]) -> Option<u64> {
+    let index = states.iter().position(|state| !header.permits(*state))?;
     Some(index as u64)
 }
 
 /// 12: the index of the first state of the list on which the two agree.
-pub fn first_agreeing_state(suspect: &[Gate], reference: &[Gate], states: &[u64]) -> Option<u64> {
-    let agree = |state: &u64| output(suspect, *state) == output(reference, *state);
+pub fn first_agreeing_state(
+    header: Header,
+    suspect: &[Gate],
+    reference: &[Gate],
+    states: &[u64],
+) -> Option<u64> {
+    let agree = |state: &u64| header.alike(output(suspect, *state), output(reference, *state));
     Some(states.iter().position(agree)? as u64)
 }
 
@@ -666,18 +857,18 @@ fn gate_masks(n: u64, gate: Gate, runs: &[u64]) -> [u64; GATE_MASKS] {
 
 /// The suspect's gate count; two masks a gate of it are at the buffer's start.
 pub fn fault_masks(
-    na: u64,
+    a_header: Header,
     suspect: &[u64],
-    nb: u64,
+    b_header: Header,
     reference: &[u64],
     states: &[u64],
     out: &mut [u64],
 ) -> Result<u64, Refusal> {
-    let (gates, right) = test_pair(na, suspect, nb, reference)?;
-    if let Some(index) = first_bad_state(na, states) {
+    let (gates, right) = test_headed_pair(a_header, suspect, b_header, reference)?;
+    if let Some(index) = first_bad_state(a_header, states) {
         return refuse(9, index);
     }
-    if let Some(index) = first_agreeing_state(&gates, &right, states) {
+    if let Some(index) = first_agreeing_state(a_header, &gates, &right, states) {
         return refuse(12, index);
     }
     if short_buffer(out, GATE_MASKS * gates.len()) {
@@ -685,7 +876,7 @@ pub fn fault_masks(
     }
     let mut runs = states.to_vec();
     for (gate, masks) in gates.iter().zip(out.chunks_mut(GATE_MASKS)) {
-        masks.copy_from_slice(&gate_masks(na, *gate, &runs));
+        masks.copy_from_slice(&gate_masks(a_header.lines, *gate, &runs));
         for state in &mut runs {
             *state = gate.apply(*state);
         }
@@ -702,10 +893,10 @@ pub fn with_added_control(gates: &[Gate], index: usize, line: u64, positive: boo
 
 // ---- cascade file
 
-/// What a file holds: its line count and gates, and how many bytes they took.
+/// What a file holds: its header and gates, and how many bytes they took.
 #[derive(Clone, Debug, PartialEq)]
 pub struct FileCascade {
-    pub lines: u64,
+    pub header: Header,
     pub gates: Vec<Gate>,
     pub taken: usize,
 }
@@ -732,8 +923,19 @@ fn file_line(field: &[u8], n: u64, place: u64) -> Result<u64, Refusal> {
     }
 }
 
+/// The line of a mark in a field: 1 for its form, 14 where it is n or more or not above the one before in
+/// its group. `group` has the lines of those before.
+fn file_mark(field: &[u8], n: u64, group: u64, place: u64) -> Result<u64, Refusal> {
+    match file_number(field) {
+        None => refuse(1, place),
+        Some(line) if line >= n => refuse(14, place),
+        Some(line) if (line..64).any(|k| has(group, k)) => refuse(14, place),
+        Some(line) => Ok(line),
+    }
+}
+
 /// Line 0: `lines`, n, and the LF.
-fn file_header(fields: &[&[u8]], ended: bool) -> Result<u64, Refusal> {
+fn file_lines(fields: &[&[u8]], ended: bool) -> Result<u64, Refusal> {
     if fields[0] != b"lines" || fields.len() < 2 {
         return refuse(1, 0);
     }
@@ -747,6 +949,43 @@ fn file_header(fields: &[&[u8]], ended: bool) -> Result<u64, Refusal> {
         return refuse(1, 0);
     }
     Ok(n)
+}
+
+/// A line that starts `const` tab: 1 and 14 of the line, 1 of the value, 1 for what follows it or a
+/// missing LF.
+fn file_constant(
+    fields: &[&[u8]],
+    ended: bool,
+    header: &mut Header,
+    place: u64,
+) -> Result<(), Refusal> {
+    let line = file_mark(fields[1], header.lines, header.constants, place)?;
+    let value = match fields.get(2) {
+        Some(&b"0") => 0,
+        Some(&b"1") => 1,
+        _ => return refuse(1, place),
+    };
+    if fields.len() > 3 || !ended {
+        return refuse(1, place);
+    }
+    header.constants += 1 << line;
+    header.values += value << line;
+    Ok(())
+}
+
+/// A line that starts `junk` tab: the same without a value.
+fn file_junk(
+    fields: &[&[u8]],
+    ended: bool,
+    header: &mut Header,
+    place: u64,
+) -> Result<(), Refusal> {
+    let line = file_mark(fields[1], header.lines, header.junk, place)?;
+    if fields.len() > 2 || !ended {
+        return refuse(1, place);
+    }
+    header.junk += 1 << line;
+    Ok(())
 }
 
 /// A line that starts `g` tab: 1 and 3 by field, 1 for a missing LF, 4, 5.
@@ -781,9 +1020,10 @@ fn file_gate(fields: &[&[u8]], ended: bool, n: u64, place: u64) -> Result<Gate, 
     })
 }
 
-/// The cascade at the start of a text; else 1 to 6 with the file line.
+/// The cascade at the start of a text; else 1 to 6 or 14 with the file line. A `const` line after a
+/// `junk` line, and either after a gate, is of the wrong form.
 pub fn read_text(text: &[u8]) -> Result<FileCascade, Refusal> {
-    let mut lines = 0;
+    let mut header = Header::unmarked(0);
     let mut gates = Vec::new();
     let mut at = 0;
     for place in 0.. {
@@ -794,12 +1034,17 @@ pub fn read_text(text: &[u8]) -> Result<FileCascade, Refusal> {
         let fields: Vec<&[u8]> = line.split(|byte| *byte == b'\t').collect();
         at += line.len() + 1;
         if place == 0 {
-            lines = file_header(&fields, ended)?;
+            header.lines = file_lines(&fields, ended)?;
+        } else if fields[0] == b"const" && fields.len() > 1 && header.junk == 0 && gates.is_empty()
+        {
+            file_constant(&fields, ended, &mut header, place)?;
+        } else if fields[0] == b"junk" && fields.len() > 1 && gates.is_empty() {
+            file_junk(&fields, ended, &mut header, place)?;
         } else if fields[0] == b"g" && fields.len() > 1 {
             if gates.len() == CASCADE_GATES {
                 return refuse(6, place);
             }
-            gates.push(file_gate(&fields, ended, lines, place)?);
+            gates.push(file_gate(&fields, ended, header.lines, place)?);
         } else if line == b"end" && ended {
             break;
         } else {
@@ -807,7 +1052,7 @@ pub fn read_text(text: &[u8]) -> Result<FileCascade, Refusal> {
         }
     }
     Ok(FileCascade {
-        lines,
+        header,
         gates,
         taken: at,
     })
@@ -819,17 +1064,23 @@ pub fn read(text: &[u8], out: &mut [u64]) -> Result<FileCascade, Refusal> {
     if short_buffer(out, 3 * cascade.gates.len()) {
         return refuse(10, 0);
     }
-    for (i, gate) in cascade.gates.iter().enumerate() {
-        out[3 * i] = gate.positive;
-        out[3 * i + 1] = gate.negative;
-        out[3 * i + 2] = gate.target;
-    }
+    put(&cascade.gates, out);
     Ok(cascade)
 }
 
 /// The text of a cascade.
-pub fn text_of(n: u64, gates: &[Gate]) -> Vec<u8> {
-    let mut text = format!("lines\t{n}\n");
+pub fn text_of(header: Header, gates: &[Gate]) -> Vec<u8> {
+    let mut text = format!("lines\t{}\n", header.lines);
+    for line in 0..64 {
+        if has(header.constants, line) {
+            text += &format!("const\t{line}\t{}\n", u64::from(has(header.values, line)));
+        }
+    }
+    for line in 0..64 {
+        if has(header.junk, line) {
+            text += &format!("junk\t{line}\n");
+        }
+    }
     for gate in gates {
         text += &format!("g\t{}", gate.target);
         for line in 0..64 {
@@ -847,9 +1098,9 @@ pub fn text_of(n: u64, gates: &[Gate]) -> Vec<u8> {
 }
 
 /// The number of bytes; the text is at the buffer's start.
-pub fn write(n: u64, words: &[u64], out: &mut [u8]) -> Result<u64, Refusal> {
-    let gates = test_cascade(n, words, CASCADE_GATES)?;
-    let text = text_of(n, &gates);
+pub fn write(header: Header, words: &[u64], out: &mut [u8]) -> Result<u64, Refusal> {
+    let gates = test_headed(header, words)?;
+    let text = text_of(header, &gates);
     if short_buffer(out, text.len()) {
         return refuse(10, 0);
     }

@@ -2,7 +2,7 @@
 //! 02, and small cases worked by hand.
 
 use crate::inputs;
-use crate::reference::{self, Clause, ClauseList, Found, Gate};
+use crate::reference::{self, Clause, ClauseList, Found, Gate, Header};
 use crate::reference::{Match, Picked, Reduced, Refusal, Sizes};
 
 pub fn check() {
@@ -11,7 +11,9 @@ pub fn check() {
     apply_of_no_gate();
     inverse();
     pairs();
+    headed();
     clauses();
+    pair_clauses();
     sizes();
     emission();
     miter();
@@ -19,8 +21,11 @@ pub fn check() {
     passing_steps();
     reductions();
     comparisons();
+    marked_comparisons();
     faults();
+    marked_faults();
     models();
+    marked_models();
 }
 
 fn refusal<T>(number: u64, place: u64) -> Result<T, Refusal> {
@@ -104,11 +109,69 @@ fn pairs() {
     assert!(test(2, &not, 2, &not).is_ok());
 }
 
+/// A header of three lines with constants, values and junk lines.
+fn three_lines(constants: u64, values: u64, junk: u64) -> Header {
+    Header {
+        lines: 3,
+        constants,
+        values,
+        junk,
+    }
+}
+
+/// 2, 14, 11, 6, 7 of the first cascade, of the second, 8, 15.
+fn headed() {
+    let no_gate = [0, 0, 9];
+    let unmarked = Header::unmarked;
+    let test = reference::test_headed_pair;
+    let marked = three_lines(6, 2, 5);
+    assert!(test(marked, &[], marked, &[]).is_ok());
+    let all = Header {
+        lines: 64,
+        constants: u64::MAX,
+        values: 1 << 63,
+        junk: u64::MAX,
+    };
+    assert!(test(all, &[], all, &[]).is_ok());
+    for bad in [
+        three_lines(8, 0, 0),
+        three_lines(8, 8, 0),
+        three_lines(0, 8, 0),
+        three_lines(0, 0, 8),
+        three_lines(1, 2, 0),
+        three_lines(0, 1, 1),
+    ] {
+        assert_eq!(test(bad, &no_gate[..2], marked, &[]), refusal(14, 0));
+        assert_eq!(test(marked, &[], bad, &no_gate), refusal(14, 0));
+        assert_eq!(test(marked, &no_gate[..2], bad, &[]), refusal(11, 0));
+        assert_eq!(test(bad, &[], unmarked(0), &[]), refusal(14, 0));
+        let none = Header { lines: 0, ..bad };
+        assert_eq!(test(none, &[], bad, &[]), refusal(2, 0));
+    }
+    let wider = Header { lines: 4, ..marked };
+    assert_eq!(test(marked, &[], wider, &no_gate), refusal(7, 0));
+    assert_eq!(test(unmarked(3), &[], wider, &[]), refusal(8, 0));
+    for other in [
+        unmarked(3),
+        three_lines(2, 2, 5),
+        three_lines(6, 4, 5),
+        three_lines(6, 2, 1),
+    ] {
+        assert_eq!(test(marked, &[], other, &[]), refusal(15, 0));
+    }
+}
+
+fn or(literals: &[i64]) -> Clause {
+    Clause::Or(literals.to_vec())
+}
+
+fn xor(literals: &[i64]) -> Clause {
+    Clause::Xor(literals.to_vec())
+}
+
 /// The printed example of 01, and gates with controls of both polarities.
 fn clauses() {
     let list = |n, words: &[u64]| reference::clause_list(n, &reference::gates_of(words));
-    let or = |literals: &[i64]| Clause::Or(literals.to_vec());
-    let xor = |literals: &[i64]| Clause::Xor(literals.to_vec());
     let printed = ClauseList {
         variables: 5,
         clauses: vec![xor(&[-3, 2, 1]), or(&[-4]), xor(&[-5, 2, 3]), or(&[4, 5])],
@@ -131,6 +194,55 @@ fn clauses() {
     assert_eq!(list(3, &[0, 0, 0, 1, 4, 1]), not_then_two);
 }
 
+/// T-03: t1+0 against t1+0-2 t0, with line 1 tied to 1, line 2 to 0 and line 0 junk; every line junk; and
+/// the list of the miter, with B's gates reversed.
+fn pair_clauses() {
+    let list = |header, a: &[u64], b: &[u64]| {
+        reference::pair_list(header, &reference::gates_of(a), &reference::gates_of(b))
+    };
+    let (t1_with_0, t1_with_0_not_2) = ([1, 0, 1], [1, 4, 1]);
+    let b = [t1_with_0_not_2, [0, 0, 0]].concat();
+    let marked = ClauseList {
+        variables: 9,
+        clauses: vec![
+            or(&[2]),
+            or(&[-3]),
+            xor(&[-4, 2, 1]),
+            or(&[5, -1, 3]),
+            or(&[-5, 1]),
+            or(&[-5, -3]),
+            xor(&[-6, 2, 5]),
+            xor(&[7, 1]),
+            xor(&[-8, 4, 6]),
+            or(&[-9]),
+            or(&[8, 9]),
+        ],
+    };
+    assert_eq!(list(three_lines(6, 2, 1), &t1_with_0, &b), marked);
+    let all_junk = Header {
+        junk: 1,
+        ..Header::unmarked(1)
+    };
+    let nothing_counts = ClauseList {
+        variables: 2,
+        clauses: vec![xor(&[2, 1]), or(&[])],
+    };
+    assert_eq!(list(all_junk, &[], &[0, 0, 0]), nothing_counts);
+    let miter = ClauseList {
+        variables: 7,
+        clauses: vec![
+            xor(&[-3, 2, 1]),
+            xor(&[4, 3]),
+            xor(&[5, 1]),
+            xor(&[-6, 1, 5]),
+            xor(&[-7, 2, 4]),
+            or(&[6, 7]),
+        ],
+    };
+    let b = [0, 0, 0, 0, 0, 1];
+    assert_eq!(list(Header::unmarked(2), &t1_with_0, &b), miter);
+}
+
 /// The starred rows on sizes: the miter of a cascade and an empty one is its own gates.
 fn sizes() {
     let sizes = |variables, clauses, words| {
@@ -142,6 +254,12 @@ fn sizes() {
     };
     assert_eq!(reference::sizes(1, &[]), sizes(2, 2, 6));
     assert_eq!(reference::sizes(3, &[3, 0, 2]), sizes(8, 8, 34));
+    let pair = |header, a: &[u64], b: &[u64]| reference::pair_sizes(header, a, header, b);
+    let unmarked = Header::unmarked(3);
+    assert_eq!(pair(unmarked, &[], &[3, 0, 2]), sizes(8, 8, 34));
+    let b = [1, 4, 1, 0, 0, 0];
+    assert_eq!(pair(three_lines(6, 2, 1), &[1, 0, 1], &b), sizes(9, 11, 45));
+    assert_eq!(pair(three_lines(0, 0, 7), &[], &[]), sizes(3, 1, 2));
 }
 
 /// 01's printed example in words, with the rest of the buffer; and a buffer one word short.
@@ -160,6 +278,14 @@ fn emission() {
     let answer = reference::emit(2, &[1, 0, 1], &mut short);
     assert_eq!(answer, refusal(10, 0));
     assert_eq!(short, [9; 16]);
+    let junk = three_lines(0, 0, 7);
+    let mut out = [9; 7];
+    let emit = reference::pair_emit;
+    let answer = emit(junk, &[0, 0, 1], junk, &[], &mut out[..5]);
+    assert_eq!((answer, out), (refusal(10, 0), [9; 7]));
+    let answer = emit(junk, &[0, 0, 1], junk, &[], &mut out);
+    assert_eq!(answer.map(|sizes| sizes.words), Ok(6));
+    assert_eq!(out, [1, 2, 4, 2, 0, 0, 9]);
 }
 
 /// A's gates, then B's reversed; the rest stays.
@@ -241,14 +367,18 @@ fn reductions() {
 fn comparisons() {
     let (t2_with_0, t2_with_0_and_1) = ([1, 0, 2], [3, 0, 2]);
     let two_nots = [0; 6];
-    let sweep = reference::first_difference;
+    let sweep = |na, a: &[u64], nb, b: &[u64]| {
+        reference::first_difference(Header::unmarked(na), a, Header::unmarked(nb), b)
+    };
     assert_eq!(sweep(3, &t2_with_0, 3, &t2_with_0_and_1), Ok(Some(1)));
     assert_eq!(sweep(3, &t2_with_0_and_1, 3, &[]), Ok(Some(3)));
     assert_eq!(sweep(3, &two_nots, 3, &[]), Ok(None));
     assert_eq!(sweep(17, &[], 17, &[]), refusal(13, 0));
     assert_eq!(sweep(17, &[], 16, &[]), refusal(8, 0));
     assert_eq!(sweep(17, &[], 17, &[0, 0, 17]), refusal(7, 0));
-    let differs = reference::differs;
+    let differs = |na, a: &[u64], nb, b: &[u64], state| {
+        reference::differs(Header::unmarked(na), a, Header::unmarked(nb), b, state)
+    };
     assert_eq!(differs(3, &t2_with_0, 3, &t2_with_0_and_1, 1), Ok(true));
     assert_eq!(differs(3, &t2_with_0, 3, &t2_with_0_and_1, 3), Ok(false));
     assert_eq!(differs(3, &[], 3, &[], 8), refusal(9, 0));
@@ -260,11 +390,42 @@ fn comparisons() {
     assert_eq!(reference::pick(3, &[], 4, &[]), refusal(8, 0));
 }
 
+/// t2+0 and t2+0+1 differ on 1 and 5: with line 1, 0 or 2 tied, and with line 2 or another junk. Tests that
+/// compete.
+fn marked_comparisons() {
+    let (t2_with_0, t2_with_0_and_1) = ([1, 0, 2], [3, 0, 2]);
+    let sweep = |header| reference::first_difference(header, &t2_with_0, header, &t2_with_0_and_1);
+    assert_eq!(sweep(three_lines(2, 0, 0)), Ok(Some(1)));
+    assert_eq!(sweep(three_lines(2, 2, 0)), Ok(None));
+    assert_eq!(sweep(three_lines(1, 0, 0)), Ok(None));
+    assert_eq!(sweep(three_lines(4, 4, 0)), Ok(Some(5)));
+    assert_eq!(sweep(three_lines(7, 5, 3)), Ok(Some(5)));
+    assert_eq!(sweep(three_lines(0, 0, 4)), Ok(None));
+    assert_eq!(sweep(three_lines(0, 0, 3)), Ok(Some(1)));
+    let differs =
+        |header, state| reference::differs(header, &t2_with_0, header, &t2_with_0_and_1, state);
+    assert_eq!(differs(three_lines(4, 4, 0), 1), refusal(9, 0));
+    assert_eq!(differs(three_lines(4, 4, 0), 5), Ok(true));
+    assert_eq!(differs(three_lines(4, 4, 0), 12), refusal(9, 0));
+    assert_eq!(differs(three_lines(0, 0, 4), 1), Ok(false));
+    let (plain, tied) = (three_lines(0, 0, 0), three_lines(1, 0, 0));
+    assert_eq!(reference::differs(plain, &[], tied, &[], 1), refusal(15, 0));
+    let wide = |header: Header| Header {
+        lines: 17,
+        ..header
+    };
+    let answer = reference::first_difference(wide(plain), &[], wide(tied), &[]);
+    assert_eq!(answer, refusal(15, 0));
+    let answer = reference::first_difference(wide(tied), &[], wide(tied), &[]);
+    assert_eq!(answer, refusal(13, 0));
+}
+
 /// The starred row on faults; no states; the network 3_17 of document 002; tests that compete.
 fn faults() {
     let (t2_with_0, t2_with_0_and_1) = ([1, 0, 2], [3, 0, 2]);
     let masks = |suspect: &[u64], right: &[u64], states: &[u64], out: &mut [u64]| {
-        reference::fault_masks(3, suspect, 3, right, states, out)
+        let header = Header::unmarked(3);
+        reference::fault_masks(header, suspect, header, right, states, out)
     };
     let mut out = [9; 3];
     assert_eq!(masks(&t2_with_0, &t2_with_0_and_1, &[1], &mut out), Ok(1));
@@ -283,13 +444,36 @@ fn faults() {
     let rest = [[0, 0, 2], [4, 0, 1], [1, 0, 2], [6, 0, 0]].concat();
     let right = [&first[..], &[6, 0, 0], &rest].concat();
     let suspect = [&first[..], &[4, 0, 0], &rest].concat();
-    assert_eq!(
-        reference::first_difference(3, &suspect, 3, &right),
-        Ok(Some(4))
-    );
+    let header = Header::unmarked(3);
+    let first = reference::first_difference(header, &suspect, header, &right);
+    assert_eq!(first, Ok(Some(4)));
     let mut out = [9; 12];
     assert_eq!(masks(&suspect, &right, &[4, 7], &mut out), Ok(6));
     assert_eq!(out[..4], [0, 0, 2, 0], "only line 1 of the second gate");
+}
+
+/// The starred row with marks: a line stands, though it is tied or junk; a state that breaks a constant; and
+/// one on which only a junk line differs.
+fn marked_faults() {
+    let (t2_with_0, t2_with_0_and_1) = ([1, 0, 2], [3, 0, 2]);
+    let masks = |header, states: &[u64]| {
+        let mut out = [9; 2];
+        reference::fault_masks(
+            header,
+            &t2_with_0,
+            header,
+            &t2_with_0_and_1,
+            states,
+            &mut out,
+        )
+        .map(|_| out)
+    };
+    assert_eq!(masks(three_lines(3, 1, 2), &[1, 5]), Ok([2, 0]));
+    assert_eq!(masks(three_lines(3, 1, 2), &[1, 0]), refusal(9, 1));
+    assert_eq!(masks(three_lines(4, 0, 0), &[3, 5]), refusal(9, 1));
+    assert_eq!(masks(three_lines(4, 0, 0), &[1, 3]), refusal(12, 1));
+    assert_eq!(masks(three_lines(0, 0, 4), &[1]), refusal(12, 0));
+    assert_eq!(masks(three_lines(0, 0, 4), &[]), Ok([2, 2]));
 }
 
 /// Every assignment of small lists: an input that the gates change is spelled by exactly one that
@@ -305,7 +489,20 @@ fn models() {
 }
 
 fn check_models(n: u64, gates: &[Gate]) {
-    let list = reference::clause_list(n, gates);
+    let models = models_of(n, &reference::clause_list(n, gates));
+    for (input, models) in models.iter().enumerate() {
+        let output = output(gates, input as u64);
+        let changed = output != input as u64;
+        assert_eq!(*models, u64::from(changed), "{gates:?} on {input}");
+    }
+}
+
+fn output(gates: &[Gate], input: u64) -> u64 {
+    gates.iter().fold(input, |state, gate| gate.apply(state))
+}
+
+/// How many assignments that satisfy the list spell each input.
+fn models_of(n: u64, list: &ClauseList) -> Vec<u64> {
     let mut models = vec![0; 1 << n];
     for assignment in 0..1u64 << list.variables {
         let literal = |l: &&i64| reference::has(assignment, l.unsigned_abs() - 1) == (**l > 0);
@@ -317,9 +514,68 @@ fn check_models(n: u64, gates: &[Gate]) {
             models[(assignment % (1 << n)) as usize] += 1;
         }
     }
+    models
+}
+
+/// The same of two cascades with headers: an input is spelled by exactly one where it honours the
+/// constants and a line that is not junk comes out differently, and no other by any. Cascades of up to two
+/// gates on one line and on two, with every header; every two gates on three lines, with all constants and
+/// one choice of junk lines in turn.
+fn marked_models() {
+    for n in 1..=2 {
+        let mut sides = vec![vec![]];
+        let gates = inputs::every_gate(n);
+        for gate in &gates {
+            sides.extend([vec![*gate], vec![*gate, gates[0]]]);
+        }
+        for header in every_header(n) {
+            for first in &sides {
+                for second in &sides {
+                    check_pair_models(header, first, second);
+                }
+            }
+        }
+    }
+    let gates = inputs::every_gate(3);
+    let headers = every_header(3);
+    let mut turn = 0;
+    for first in &gates {
+        for second in &gates {
+            turn = (turn + 1) % 8;
+            for header in headers.iter().filter(|header| header.junk == turn) {
+                check_pair_models(*header, &[*first], &[*second]);
+            }
+        }
+    }
+}
+
+fn every_header(lines: u64) -> Vec<Header> {
+    let mut headers = Vec::new();
+    for constants in 0..1 << lines {
+        for values in 0..1 << lines {
+            headers.extend((0..1 << lines).map(|junk| Header {
+                lines,
+                constants,
+                values,
+                junk,
+            }));
+        }
+    }
+    headers.retain(|header| !reference::bad_marks(*header));
+    headers
+}
+
+fn check_pair_models(header: Header, first: &[Gate], second: &[Gate]) {
+    let models = models_of(header.lines, &reference::pair_list(header, first, second));
     for (input, models) in models.iter().enumerate() {
-        let input = input as u64;
-        let output = gates.iter().fold(input, |state, gate| gate.apply(state));
-        assert_eq!(*models, u64::from(output != input), "{gates:?} on {input}");
+        let state = input as u64;
+        let changed = output(first, state) ^ output(second, state);
+        let tied = header.constants & (state ^ header.values) == 0;
+        let differs = tied && changed & !header.junk != 0;
+        assert_eq!(
+            *models,
+            u64::from(differs),
+            "{header:?} {first:?} {second:?} on {input}"
+        );
     }
 }

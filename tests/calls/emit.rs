@@ -2,7 +2,7 @@
 
 use crate::capi::{self, SizesAnswer};
 use crate::cases::{self, Single};
-use crate::classes;
+use crate::classes::{self, Given};
 use crate::expected;
 use crate::harness::{Buffer, Counts};
 use crate::inputs::{self, Cascade};
@@ -19,7 +19,8 @@ const CLASSES: &[&str] = &[
 
 pub fn section(random: &mut Random) -> Counts {
     let buffers = &["words", "out"];
-    let mut counts = classes::single_counts("cascade_emit", &[10], buffers, CLASSES);
+    let (name, given) = ("cascade_emit", Given::Lines);
+    let mut counts = classes::single_counts(name, given, &[10], buffers, CLASSES);
     counts.require(classes::TARGETS);
     for controls in 0..64 {
         counts.require(&[&with_controls(controls)]);
@@ -43,6 +44,7 @@ pub fn section(random: &mut Random) -> Counts {
         random,
         MITER_GATES,
         RANDOM_CASES,
+        |random| inputs::cascade(random, MITER_GATES),
         needed,
         dangling,
         &mut check,
@@ -72,7 +74,8 @@ fn check(case: &Single<i16>, counts: &mut Counts) {
     case.check_out("cascade_emit", call, answer, &wanted);
     let number = answer.number;
     let further = [(10, number == 10 || case.out.is_empty())];
-    classes::count_single(counts, case, MITER_GATES, &further, number);
+    let given = Given::Lines;
+    classes::count_single(counts, case, given, MITER_GATES, &further, number);
     let needed = needed(&case.cascade);
     classes::count_out(counts, &case.out, case.dangling, needed, number);
     if number == 0 {

@@ -3,12 +3,12 @@
 
 use crate::capi::{self, CountAnswer};
 use crate::cases::{Lent, Pair};
-use crate::classes;
+use crate::classes::{self, Given};
 use crate::expected;
 use crate::harness::{compare, Counts};
-use crate::inputs::{self, Cascade, Missing};
+use crate::inputs::{self, Cascade, Marks, Missing};
 use crate::random::Random;
-use crate::reference::{self, has, Gate, GATE_MASKS};
+use crate::reference::{self, has, Gate, Header, GATE_MASKS};
 
 const RANDOM_CASES: u64 = 40_000;
 const LONG_LISTS: u64 = 40;
@@ -29,13 +29,18 @@ const CLASSES: &[&str] = &[
     "served: the guilty line alone stands",
     "served: every line of the first gate struck",
     "served: a struck line tried as a repair",
+    "served: a struck line tried as a repair, a junk line differs",
+    "served: a constant stands",
+    "served: a junk line stands",
     "9: the first state",
     "9: a later state",
     "9: state 2^n",
+    "9: a state that breaks a constant",
     "9 before 12: the agreeing state stands first",
     "12: the first state",
     "12: a later state",
     "12: the two are equal",
+    "12: only a junk line differs",
 ];
 
 /// What the call is given, the suspect first, and the control that was left out of the suspect, where
@@ -48,21 +53,23 @@ struct Case {
 
 pub fn section(random: &mut Random) -> Counts {
     let (name, buffers) = ("cascade_fault_masks", &["a", "b", "states", "out"]);
-    let mut counts = classes::pair_counts(name, &[9, 12, 10], buffers, CLASSES);
-    inputs::each_faulty_pair(random, &mut |random, a, b| {
+    let mut counts = classes::pair_counts(name, Given::Header, &[9, 12, 10], buffers, CLASSES);
+    inputs::each_faulty_marked_pair(random, &mut |random, a, b| {
         for states in [vec![], vec![0], vec![u64::MAX], vec![1, u64::MAX]] {
             each_length(random, (&a, &b), &states, None, &mut counts);
         }
     });
     for (lines, gates, states) in [(64, 1024, 1), (64, 1024, 3), (1, 0, 0), (64, 0, 0)] {
-        let right = inputs::good_cascade(random, lines, gates);
-        with_missing(random, right, states, &mut counts);
+        for marked in [false, true] {
+            let right = inputs::good_cascade(random, lines, gates);
+            with_missing(random, right, states, marked, &mut counts);
+        }
     }
-    for _ in 0..LONG_LISTS {
+    for round in 0..LONG_LISTS {
         let lines = random.pick(&[8, 20, 63, 64]);
         let right = inputs::good_cascade(random, lines, 5);
         let states = 1_000 + random.index(4_000);
-        with_missing(random, right, states, &mut counts);
+        with_missing(random, right, states, round % 2 == 1, &mut counts);
     }
     for _ in 0..RANDOM_CASES {
         random_case(random, &mut counts);
@@ -72,12 +79,13 @@ pub fn section(random: &mut Random) -> Counts {
 
 /// A suspect that lacks one control, or any two cascades with states drawn from those of the first.
 fn random_case(random: &mut Random, counts: &mut Counts) {
-    let (a, b) = inputs::pair(random);
+    let (a, b) = inputs::marked_pair(random);
     if (1..=64).contains(&a.lines) && random.one_in(2) {
         let gates = random.index(7);
         let right = inputs::good_cascade(random, a.lines, gates);
         let states = random.pick(&[0, 1, 1, 2, 3, 8]);
-        return with_missing(random, right, states, counts);
+        let marked = random.one_in(2);
+        return with_missing(random, right, states, marked, counts);
     }
     let states: Vec<u64> = (0..random.index(4))
         .map(|_| match random.below(3) {
@@ -96,8 +104,15 @@ fn random_case(random: &mut Random, counts: &mut Counts) {
     check(&Case { given, missing }, counts);
 }
 
-/// Leaves one control out of the reference, and now and then spoils the list.
-fn with_missing(random: &mut Random, right: Cascade, states: usize, counts: &mut Counts) {
+/// Leaves one control out of the reference, marks lines so that the states honour the constants, and now
+/// and then spoils the list.
+fn with_missing(
+    random: &mut Random,
+    right: Cascade,
+    states: usize,
+    marked: bool,
+    counts: &mut Counts,
+) {
     let lines = inputs::all_lines(right.lines);
     let drawn: Vec<u64> = (0..states).map(|_| random.word() & lines).collect();
     let missing = inputs::any_control(random, &right);
@@ -105,6 +120,11 @@ fn with_missing(random: &mut Random, right: Cascade, states: usize, counts: &mut
         Some(missing) => inputs::suspect(&right, missing, &drawn),
         None => (right.clone(), vec![]),
     };
+    let mut marks = Marks::default();
+    if marked {
+        marks = inputs::honoured_marks(random, right.lines, &states);
+    }
+    let (suspect, right) = (suspect.with_marks(marks), right.with_marks(marks));
     if !states.is_empty() && random.one_in(8) {
         let at = random.index(states.len());
         let any = random.word() & lines;
@@ -135,16 +155,17 @@ fn each_length(
 
 fn check(case: &Case, counts: &mut Counts) {
     let given = &case.given;
-    let (na, nb) = (given.a.lines, given.b.lines);
+    let (ha, hb) = (given.a.header(), given.b.header());
     let library = |lent: &mut Lent| {
         let Lent { a, b, states, out } = lent;
+        let (ha, hb) = (expected::header(ha), expected::header(hb));
         let (a_len, b_len, s_len, out_len) = (a.len(), b.len(), states.len(), out.len());
         let (a, b, s, out) = (a.pointer(), b.pointer(), states.pointer(), out.pointer());
-        unsafe { capi::cascade_fault_masks(na, a, a_len, nb, b, b_len, s, s_len, out, out_len) }
+        unsafe { capi::cascade_fault_masks(ha, a, a_len, hb, b, b_len, s, s_len, out, out_len) }
     };
     let (a, b) = (&given.a.words, &given.b.words);
     let mut wanted = given.out.clone();
-    let answer = reference::fault_masks(na, a, nb, b, &given.states, &mut wanted);
+    let answer = reference::fault_masks(ha, a, hb, b, &given.states, &mut wanted);
     let answer = expected::count_answer(answer);
     let out = given.check("cascade_fault_masks", library, answer, &wanted);
     count(given, answer, counts);
@@ -182,9 +203,13 @@ fn check_struck(case: &Pair, masks: &[u64], counts: &mut Counts) {
         return;
     }
     let right = reference::gates_of(&case.b.words);
+    let outputs = |repaired: &[Gate], state: u64| {
+        [repaired, &right].map(|gates| gates.iter().fold(state, |state, gate| gate.apply(state)))
+    };
+    let header = case.a.header();
     let wrong = |repaired: &[Gate], state: u64| {
-        let output = |gates: &[Gate]| gates.iter().fold(state, |state, gate| gate.apply(state));
-        output(repaired) != output(&right)
+        let [one, other] = outputs(repaired, state);
+        !header.alike(one, other)
     };
     for (index, gate) in gates.iter().enumerate() {
         for line in (0..n).filter(|k| *k != gate.target && gate.control(*k).is_none()) {
@@ -196,6 +221,12 @@ fn check_struck(case: &Pair, masks: &[u64], counts: &mut Counts) {
                 let wrong = case.states.iter().any(|state| wrong(&repaired, *state));
                 compare(case, "a struck line is no repair", wrong, true);
                 counts.add("served: a struck line tried as a repair");
+                let junk = case.states.iter().any(|state| {
+                    let [one, other] = outputs(&repaired, *state);
+                    (one ^ other) & header.junk != 0
+                });
+                let hidden = "served: a struck line tried as a repair, a junk line differs";
+                counts.add_if(junk, hidden);
             }
         }
     }
@@ -209,19 +240,17 @@ fn count(case: &Pair, answer: CountAnswer, counts: &mut Counts) {
         out,
         dangling,
     } = case;
-    let n = suspect.lines;
+    let (n, header) = (suspect.lines, suspect.header());
     let needed = GATE_MASKS * (suspect.words.len() / 3);
-    let agreeing = reference::first_agreeing_state(
-        &reference::gates_of(&suspect.words),
-        &reference::gates_of(&reference.words),
-        states,
-    );
+    let gates = reference::gates_of(&suspect.words);
+    let right = reference::gates_of(&reference.words);
+    let agreeing = reference::first_agreeing_state(header, &gates, &right, states);
     let further = [
-        (9, reference::first_bad_state(n, states).is_some()),
+        (9, reference::first_bad_state(header, states).is_some()),
         (12, agreeing.is_some()),
         (10, reference::short_buffer(out, needed)),
     ];
-    classes::count_pair(counts, case, &further);
+    classes::count_pair(counts, case, Given::Header, &further);
     classes::count_pointer(counts, "states", states, *dangling);
     let CountAnswer { number, place, .. } = answer;
     classes::count_out(counts, out, *dangling, needed, number);
@@ -230,6 +259,8 @@ fn count(case: &Pair, answer: CountAnswer, counts: &mut Counts) {
             let state = states[place as usize];
             counts.add(["9: the first state", "9: a later state"][usize::from(place > 0)]);
             counts.add_if(n < 64 && state == 1 << n, "9: state 2^n");
+            let broken = !reference::bad_state(n, state);
+            counts.add_if(broken, "9: a state that breaks a constant");
             counts.add_if(
                 agreeing.is_some_and(|index| index < place),
                 "9 before 12: the agreeing state stands first",
@@ -238,6 +269,10 @@ fn count(case: &Pair, answer: CountAnswer, counts: &mut Counts) {
         12 => {
             counts.add(["12: the first state", "12: a later state"][usize::from(place > 0)]);
             counts.add_if(suspect.words == reference.words, "12: the two are equal");
+            let plain = Header::unmarked(n);
+            let state = [states[place as usize]];
+            let agree = reference::first_agreeing_state(plain, &gates, &right, &state).is_some();
+            counts.add_if(!agree, "12: only a junk line differs");
         }
         _ => {}
     }
@@ -262,6 +297,9 @@ fn count_served(Pair { a, states, .. }: &Pair, masks: &[u64], counts: &mut Count
         n == 64 && masks.iter().any(|mask| has(*mask, 63)),
         "served: n = 64, line 63 stands",
     );
+    let stands = |lines| masks.iter().any(|mask| mask & lines != 0);
+    counts.add_if(stands(a.marks.constants), "served: a constant stands");
+    counts.add_if(stands(a.marks.junk), "served: a junk line stands");
     counts.add_if(
         masks.len() > 1 && masks[0] | masks[1] == 0,
         "served: every line of the first gate struck",

@@ -2,7 +2,7 @@
 
 use crate::capi;
 use crate::cases::{Lent, Pair};
-use crate::classes;
+use crate::classes::{self, Given};
 use crate::expected;
 use crate::harness::Counts;
 use crate::inputs;
@@ -26,7 +26,8 @@ const CLASSES: &[&str] = &[
 ];
 
 pub fn section(random: &mut Random) -> Counts {
-    let mut counts = classes::pair_counts("cascade_fewer_gates", &[], &["a", "b"], CLASSES);
+    let (name, given) = ("cascade_fewer_gates", Given::Lines);
+    let mut counts = classes::pair_counts(name, given, &[], &["a", "b"], CLASSES);
     let mut check = |a, b, dangling| check(&Pair::new(a, b, dangling), &mut counts);
     inputs::each_faulty_pair(random, &mut |random, a, b| check(a, b, random.one_in(2)));
     for first in [0, 1, 2, 1023, 1024] {
@@ -53,7 +54,7 @@ fn check(case: &Pair, counts: &mut Counts) {
     let answer = reference::pick(na, &case.a.words, nb, &case.b.words);
     let reference = expected::fewer_answer(answer);
     case.check("cascade_fewer_gates", library, reference, &[]);
-    classes::count_pair(counts, case, &[]);
+    classes::count_pair(counts, case, Given::Lines, &[]);
     if answer.is_ok() {
         count(case, counts);
     }

@@ -2,12 +2,12 @@
 
 use crate::capi;
 use crate::cases::{Lent, Pair};
-use crate::classes;
+use crate::classes::{self, Given};
 use crate::expected;
 use crate::harness::Counts;
 use crate::inputs::{self, Cascade};
 use crate::random::Random;
-use crate::reference::{self, SWEEP_LINES};
+use crate::reference::{self, Header, SWEEP_LINES};
 
 const RANDOM_CASES: u64 = 30_000;
 
@@ -21,15 +21,21 @@ const CLASSES: &[&str] = &[
     "served: n = 1",
     "served: n = 16, state 2^16 - 2",
     "served: both empty",
+    "served: none, a state that breaks a constant differs",
+    "served: none, a junk line differs",
+    "served: found, a lower state that breaks a constant differs",
+    "served: found, a junk line differs on a lower state",
     "13: n = 17",
     "13: n = 64",
 ];
 
 pub fn section(random: &mut Random) -> Counts {
     let name = "cascade_first_difference";
-    let mut counts = classes::pair_counts(name, &[13], &["a", "b"], CLASSES);
+    let given = Given::Header;
+    let mut counts = classes::pair_counts(name, given, &[13], &["a", "b"], CLASSES);
     let mut check = |case: Pair| check(&case, &mut counts);
-    inputs::each_faulty_pair(random, &mut |random, a, b| check(narrow(random, a, b)));
+    inputs::each_faulty_marked_pair(random, &mut |random, a, b| check(narrow(random, a, b)));
+    inputs::each_mark(&mut |cascade| check(narrow(random, cascade.clone(), cascade)));
     for lines in [1, 2, 15, 16, 17, 18, 32, 63, 64] {
         for gates in [0, 3] {
             let a = inputs::good_cascade(random, lines, gates);
@@ -38,7 +44,7 @@ pub fn section(random: &mut Random) -> Counts {
         }
     }
     for _ in 0..RANDOM_CASES {
-        let (a, mut b) = inputs::pair(random);
+        let (a, mut b) = inputs::marked_pair(random);
         if random.one_in(8) && (1..=64).contains(&a.lines) {
             b = late(&a);
         }
@@ -57,9 +63,13 @@ fn late(a: &Cascade) -> Cascade {
 
 /// The two, on fewer lines where a sweep of all states would take long.
 fn narrow(random: &mut Random, mut a: Cascade, mut b: Cascade) -> Pair {
-    let states = |cascade: &Cascade| (cascade.words.len() as u64) << cascade.lines;
-    if (1..=SWEEP_LINES).contains(&a.lines) && a.lines == b.lines && states(&a) > 1 << 14 {
-        a = inputs::good_cascade(random, 1 + a.lines % 8, 6);
+    let words = 8 + (a.words.len() + b.words.len()) as u64;
+    let (ha, hb) = (a.header(), b.header());
+    let served = reference::test_headed_pair(ha, &a.words, hb, &b.words).is_ok();
+    if served && a.lines <= SWEEP_LINES && words << a.lines > 1 << 15 {
+        let lines = 1 + a.lines % 8;
+        let marks = inputs::good_marks(random, lines);
+        a = inputs::good_cascade(random, lines, 6).with_marks(marks);
         b = a.clone();
         b.words.extend([0; 6]);
     }
@@ -67,15 +77,49 @@ fn narrow(random: &mut Random, mut a: Cascade, mut b: Cascade) -> Pair {
 }
 
 fn check(case: &Pair, counts: &mut Counts) {
-    let (na, nb) = (case.a.lines, case.b.lines);
-    let library = |Lent { a, b, .. }: &mut Lent| unsafe {
-        capi::cascade_first_difference(na, a.pointer(), a.len(), nb, b.pointer(), b.len())
+    let (ha, hb) = (case.a.header(), case.b.header());
+    let library = |Lent { a, b, .. }: &mut Lent| {
+        let (a_len, b_len) = (a.len(), b.len());
+        let (ha, hb) = (expected::header(ha), expected::header(hb));
+        unsafe { capi::cascade_first_difference(ha, a.pointer(), a_len, hb, b.pointer(), b_len) }
     };
-    let answer = reference::first_difference(na, &case.a.words, nb, &case.b.words);
+    let answer = reference::first_difference(ha, &case.a.words, hb, &case.b.words);
     let reference = expected::state_answer(answer);
     case.check("cascade_first_difference", library, reference, &[]);
-    classes::count_pair(counts, case, &[(13, reference::too_wide(na))]);
+    let further = [(13, reference::too_wide(ha.lines))];
+    classes::count_pair(counts, case, Given::Header, &further);
     count(case, answer, counts);
+    if let Ok(first) = answer {
+        count_left_out(case, first, counts);
+    }
+}
+
+/// Counts what the marks leave out, by the first difference without constants and without junk lines.
+fn count_left_out(Pair { a, b, .. }: &Pair, first: Option<u64>, counts: &mut Counts) {
+    let header = a.header();
+    let first_with = |header| {
+        let answer = reference::first_difference(header, &a.words, header, &b.words);
+        answer.expect("a sweep that is served")
+    };
+    let untied = first_with(Header {
+        constants: 0,
+        values: 0,
+        ..header
+    });
+    let without_junk = first_with(Header { junk: 0, ..header });
+    match first {
+        None => {
+            let broken = "served: none, a state that breaks a constant differs";
+            counts.add_if(untied.is_some(), broken);
+            counts.add_if(without_junk.is_some(), "served: none, a junk line differs");
+        }
+        Some(_) => {
+            let broken = "served: found, a lower state that breaks a constant differs";
+            counts.add_if(untied < first, broken);
+            let junk = "served: found, a junk line differs on a lower state";
+            counts.add_if(without_junk < first, junk);
+        }
+    }
 }
 
 fn count(

@@ -3,7 +3,7 @@
 use crate::calls::run;
 use crate::capi::{self, CountAnswer};
 use crate::cases::{self, Single};
-use crate::classes;
+use crate::classes::{self, Given};
 use crate::expected;
 use crate::harness::{compare, compare_buffer, Buffer, Counts};
 use crate::inputs::{self, Cascade};
@@ -16,12 +16,14 @@ const CLASSES: &[&str] = &["served: two gates or more"];
 
 pub fn section(random: &mut Random) -> Counts {
     let buffers = &["words", "out"];
-    let mut counts = classes::single_counts("cascade_inverse", &[10], buffers, CLASSES);
+    let (name, given) = ("cascade_inverse", Given::Lines);
+    let mut counts = classes::single_counts(name, given, &[10], buffers, CLASSES);
     let mut check = |case: Single| check(&case, &mut counts);
     cases::each_with_out(
         random,
         CASCADE_GATES,
         RANDOM_CASES,
+        |random| inputs::cascade(random, CASCADE_GATES),
         needed,
         |_| true,
         &mut check,
@@ -48,7 +50,8 @@ fn check(case: &Single, counts: &mut Counts) {
         check_laws(&case.cascade, &out.contents()[..words.len()]);
     }
     let further = [(10, reference::short_buffer(&case.out, words.len()))];
-    classes::count_single(counts, case, CASCADE_GATES, &further, number);
+    let given = Given::Lines;
+    classes::count_single(counts, case, given, CASCADE_GATES, &further, number);
     classes::count_out(counts, &case.out, case.dangling, words.len(), number);
     counts.add_if(number == 0 && words.len() >= 6, "served: two gates or more");
 }

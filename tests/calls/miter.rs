@@ -2,8 +2,8 @@
 
 use crate::calls::run;
 use crate::capi;
-use crate::cases::{Lent, Pair};
-use crate::classes;
+use crate::cases::{self, Lent, Pair};
+use crate::classes::{self, Given};
 use crate::expected;
 use crate::harness::{compare, Buffer, Counts};
 use crate::inputs::{self, Cascade};
@@ -24,31 +24,23 @@ const CLASSES: &[&str] = &[
 
 pub fn section(random: &mut Random) -> Counts {
     let buffers = &["a", "b", "out"];
-    let mut counts = classes::pair_counts("cascade_miter", &[10], buffers, CLASSES);
+    let (name, given) = ("cascade_miter", Given::Lines);
+    let mut counts = classes::pair_counts(name, given, &[10], buffers, CLASSES);
+    let mut check = |case: Pair| check(&case, &mut counts);
     inputs::each_faulty_pair(random, &mut |random, a, b| {
-        each_length(random, a, b, &mut counts);
+        cases::each_pair_length(random, &a, &b, needed(&a, &b), &mut check);
     });
     for (first, second) in [(1024, 1024), (1024, 0), (0, 1024), (0, 0), (1, 1023)] {
         let a = inputs::good_cascade(random, 64, first);
         let b = inputs::good_cascade(random, 64, second);
-        each_length(random, a, b, &mut counts);
+        cases::each_pair_length(random, &a, &b, needed(&a, &b), &mut check);
     }
-    for _ in 0..RANDOM_CASES {
-        let (a, b) = inputs::pair(random);
-        let length = inputs::buffer_length(random, a.words.len() + b.words.len());
-        let out = random.words(length);
-        let given = Pair::new(a, b, random.one_in(2));
-        check(&Pair { out, ..given }, &mut counts);
-    }
+    cases::each_drawn_pair(random, RANDOM_CASES, inputs::pair, needed, &mut check);
     counts
 }
 
-fn each_length(random: &mut Random, a: Cascade, b: Cascade, counts: &mut Counts) {
-    for length in inputs::edge_lengths(a.words.len() + b.words.len()) {
-        let out = random.words(length);
-        let given = Pair::new(a.clone(), b.clone(), random.one_in(2));
-        check(&Pair { out, ..given }, counts);
-    }
+fn needed(a: &Cascade, b: &Cascade) -> usize {
+    a.words.len() + b.words.len()
 }
 
 fn check(case: &Pair, counts: &mut Counts) {
@@ -87,8 +79,9 @@ fn check_identity(case: &Pair, miter: &[u64]) -> bool {
 
 fn count(case: &Pair, number: u64, counts: &mut Counts) {
     let Pair { a, b, out, .. } = case;
-    let needed = a.words.len() + b.words.len();
-    classes::count_pair(counts, case, &[(10, reference::short_buffer(out, needed))]);
+    let needed = needed(a, b);
+    let further = [(10, reference::short_buffer(out, needed))];
+    classes::count_pair(counts, case, Given::Lines, &further);
     classes::count_out(counts, out, case.dangling, needed, number);
     if number == 0 {
         let reversed: Vec<_> = reference::gates_of(&b.words).into_iter().rev().collect();

@@ -12,7 +12,16 @@ use crate::reference;
 const GOOD_TEXTS: u64 = 300;
 const RANDOM_TEXTS: u64 = 200_000;
 
-const CLASSES: &[&str] = &["served: two gates or more", "served: bytes after end"];
+const CLASSES: &[&str] = &[
+    "served: two gates or more",
+    "served: bytes after end",
+    "served: constants, junk lines and gates",
+    "1: at a const line",
+    "1: at a junk line",
+    "14: at a const line",
+    "14: at a junk line",
+    "3: after marks",
+];
 
 /// What the call is given. With `dangling`, an empty slice has a dangling pointer.
 #[derive(Debug)]
@@ -25,7 +34,7 @@ struct Case {
 pub fn section(random: &mut Random) -> Counts {
     let mut counts = Counts::new("cascade_read");
     counts.require(&["served"]);
-    for number in [1, 2, 3, 4, 5, 6, 10] {
+    for number in [1, 2, 3, 4, 5, 6, 14, 10] {
         counts.require(&[&format!("refused with {number}")]);
     }
     classes::require_buffers(&mut counts, &["text", "out"]);
@@ -52,21 +61,20 @@ fn rows(random: &mut Random, counts: &mut Counts) {
     for (name, text, wanted) in short.chain(long) {
         counts.require(&[name]);
         let answer = expected::read_answer(&reference::read_text(&text));
-        let by_hand = match wanted {
-            Wanted::Served(lines, gates, taken) => ReadAnswer {
-                number: 0,
-                place: 0,
-                lines,
-                gates,
-                taken,
-            },
-            Wanted::Refused(number, place) => ReadAnswer {
-                number,
-                place,
-                lines: 0,
-                gates: 0,
-                taken: 0,
-            },
+        let nothing = reference::Header::unmarked(0);
+        let (number, place, header, gates, taken) = match wanted {
+            Wanted::Served(header, gates, taken) => (0, 0, header, gates, taken),
+            Wanted::Refused(number, place) => (number, place, nothing, 0, 0),
+        };
+        let by_hand = ReadAnswer {
+            number,
+            place,
+            lines: header.lines,
+            constants: header.constants,
+            values: header.values,
+            junk: header.junk,
+            gates,
+            taken,
         };
         compare(&name, "a row of the reference", answer, by_hand);
         lengths(&text, random, counts);
@@ -119,7 +127,7 @@ fn check(case: &Case, counts: &mut Counts) {
     compare_buffer(case, "cascade_read: out", &out, &wanted);
     compare_buffer(case, "cascade_read: text", &text, &case.text);
     if let Ok(cascade) = &reference {
-        let again = reference::text_of(cascade.lines, &cascade.gates);
+        let again = reference::text_of(cascade.header, &cascade.gates);
         let front = &case.text[..cascade.taken];
         compare(case, "the text of what was read", front, &again[..]);
     }
@@ -136,5 +144,16 @@ fn count(case: &Case, answer: ReadAnswer, counts: &mut Counts) {
         counts.add_if(answer.gates >= 2, "served: two gates or more");
         let more = case.text.len() as u64 > answer.taken;
         counts.add_if(more, "served: bytes after end");
+        let all = answer.constants != 0 && answer.junk != 0 && answer.gates > 0;
+        counts.add_if(all, "served: constants, junk lines and gates");
     }
+    let file_line = |place| case.text.split(|byte| *byte == b'\n').nth(place);
+    let starts = |place, word| file_line(place).is_some_and(|line| line.starts_with(word));
+    let place = answer.place as usize;
+    let (at_const, at_junk) = (starts(place, b"const"), starts(place, b"junk"));
+    counts.add_if(number == 1 && at_const, "1: at a const line");
+    counts.add_if(number == 1 && at_junk, "1: at a junk line");
+    counts.add_if(number == 14 && at_const, "14: at a const line");
+    counts.add_if(number == 14 && at_junk, "14: at a junk line");
+    counts.add_if(number == 3 && starts(1, b"const"), "3: after marks");
 }

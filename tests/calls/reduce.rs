@@ -3,7 +3,7 @@
 use crate::calls::step;
 use crate::capi::{self, ReduceAnswer};
 use crate::cases::{self, Single};
-use crate::classes;
+use crate::classes::{self, Given};
 use crate::expected;
 use crate::harness::{compare, Buffer, Counts};
 use crate::inputs::{self, Cascade};
@@ -25,7 +25,8 @@ const CLASSES: &[&str] = &[
 ];
 
 pub fn section(random: &mut Random) -> Counts {
-    let mut counts = classes::single_counts("cascade_reduce", &[], &["words"], CLASSES);
+    let mut counts =
+        classes::single_counts("cascade_reduce", Given::Lines, &[], &["words"], CLASSES);
     let mut check = |case: Single| check(&case, &mut counts);
     cases::each_edge(random, MITER_GATES, &mut check);
     for lines in [1, 4, 16, 64] {
@@ -48,7 +49,8 @@ fn check(case: &Single, counts: &mut Counts) {
     let answer = reference::reduce(cascade.lines, &mut wanted);
     let answer = expected::reduce_answer(wanted.len(), answer);
     case.check("cascade_reduce", call, answer, &wanted);
-    classes::count_single(counts, case, MITER_GATES, &[], answer.number);
+    let (given, number) = (Given::Lines, answer.number);
+    classes::count_single(counts, case, given, MITER_GATES, &[], number);
     if answer.number == 0 {
         let wider = check_chain(cascade, &wanted, answer);
         counts.add_if(wider, "reduced: with a step that only T-01's rule allows");

@@ -2,7 +2,7 @@
 
 use crate::capi::{self, Gate, RunAnswer};
 use crate::cases::{self, Single};
-use crate::classes;
+use crate::classes::{self, Given};
 use crate::expected;
 use crate::harness::{compare, compare_buffer, Buffer, Counts};
 use crate::inputs::{self, Cascade};
@@ -29,7 +29,8 @@ const CLASSES: &[&str] = &[
 ];
 
 pub fn section(random: &mut Random) -> Counts {
-    let mut counts = classes::single_counts("cascade_run", &[9], &["words", "records"], CLASSES);
+    let (buffers, given) = (&["words", "records"], Given::Lines);
+    let mut counts = classes::single_counts("cascade_run", given, &[9], buffers, CLASSES);
     let mut check = |case: Single| check(&case, &mut counts);
     cases::each_edge(random, CASCADE_GATES, &mut |case| {
         for state in inputs::edge_states(case.cascade.lines) {
@@ -61,12 +62,14 @@ fn check(case: &Single, counts: &mut Counts) {
         lines,
         words,
         state,
+        ..
     } = &case.cascade;
     let answer = expected::run_answer(reference::run(*lines, words, *state));
     let library = |n, words: &mut Buffer<u64>| call(n, words, *state);
     case.check("cascade_run", library, answer, words);
     let further = [(9, reference::bad_state(*lines, *state))];
-    classes::count_single(counts, case, CASCADE_GATES, &further, answer.number);
+    let (given, number) = (Given::Lines, answer.number);
+    classes::count_single(counts, case, given, CASCADE_GATES, &further, number);
     count(&case.cascade, answer.number, counts);
     check_records(&case.cascade, case.dangling, counts);
 }

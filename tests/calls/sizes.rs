@@ -2,7 +2,7 @@
 
 use crate::capi::{self, SizesAnswer};
 use crate::cases::{self, Single};
-use crate::classes;
+use crate::classes::{self, Given};
 use crate::expected;
 use crate::harness::{Buffer, Counts};
 use crate::inputs::{self, Cascade};
@@ -20,7 +20,8 @@ const CLASSES: &[&str] = &[
 ];
 
 pub fn section(random: &mut Random) -> Counts {
-    let mut counts = classes::single_counts("cascade_sizes", &[], &["words"], CLASSES);
+    let mut counts =
+        classes::single_counts("cascade_sizes", Given::Lines, &[], &["words"], CLASSES);
     counts.require(classes::TARGETS);
     for controls in 0..64 {
         for polarity in 0..3 {
@@ -50,7 +51,8 @@ fn check(case: &Single, counts: &mut Counts) {
     let Cascade { lines, words, .. } = &case.cascade;
     let answer = expected::sizes_answer(reference::sizes(*lines, words));
     case.check("cascade_sizes", call, answer, words);
-    classes::count_single(counts, case, MITER_GATES, &[], answer.number);
+    let (given, number) = (Given::Lines, answer.number);
+    classes::count_single(counts, case, given, MITER_GATES, &[], number);
     if answer.number == 0 {
         count_gates(*lines, words, counts);
     }

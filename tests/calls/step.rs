@@ -3,7 +3,7 @@
 
 use crate::capi::{self, StepAnswer};
 use crate::cases::{self, Single};
-use crate::classes;
+use crate::classes::{self, Given};
 use crate::expected;
 use crate::harness::{compare, Buffer, Counts};
 use crate::inputs::{self, Cascade};
@@ -37,7 +37,7 @@ const CLASSES: &[&str] = &[
 ];
 
 pub fn section(random: &mut Random) -> Counts {
-    let mut counts = classes::single_counts("cascade_step", &[], &["words"], CLASSES);
+    let mut counts = classes::single_counts("cascade_step", Given::Lines, &[], &["words"], CLASSES);
     let mut check = |case: Single| check(&case, &mut counts);
     cases::each_edge(random, MITER_GATES, &mut check);
     each_two_gates(&mut check);
@@ -106,7 +106,8 @@ fn check(case: &Single, counts: &mut Counts) {
     let answer = reference::step(cascade.lines, &mut wanted);
     let answer = expected::step_answer(wanted.len(), answer);
     case.check("cascade_step", call, answer, &wanted);
-    classes::count_single(counts, case, MITER_GATES, &[], answer.number);
+    let (given, number) = (Given::Lines, answer.number);
+    classes::count_single(counts, case, given, MITER_GATES, &[], number);
     if answer.number == 0 {
         check_run(cascade, &wanted, answer);
         let others = [1, 3, cascade.lines + 1, 64];

@@ -1,23 +1,29 @@
 //! cascade_write, and reading back what it wrote.
 
-use crate::capi::{self, WriteAnswer};
+use crate::capi;
 use crate::cases::{self, Single};
-use crate::classes;
+use crate::classes::{self, Given};
 use crate::expected;
 use crate::harness::{compare, compare_buffer, Buffer, Counts};
-use crate::inputs::Cascade;
+use crate::inputs::{self, Cascade};
 use crate::random::Random;
 use crate::reference::{self, CASCADE_GATES};
 
 const RANDOM_CASES: u64 = 100_000;
 
 pub fn section(random: &mut Random) -> Counts {
-    let mut counts = classes::single_counts("cascade_write", &[10], &["words", "out"], &[]);
+    let buffers = &["words", "out"];
+    let mut counts = classes::single_counts("cascade_write", Given::Header, &[10], buffers, &[]);
     let mut check = |case: Single<u8>| check(&case, &mut counts);
+    inputs::each_mark(&mut |cascade| {
+        let needed = needed(&cascade);
+        cases::each_length(random, &cascade, needed, |_| true, &mut check);
+    });
     cases::each_with_out(
         random,
         CASCADE_GATES,
         RANDOM_CASES,
+        inputs::marked_cascade,
         needed,
         |_| true,
         &mut check,
@@ -27,28 +33,29 @@ pub fn section(random: &mut Random) -> Counts {
 
 /// The bytes of the text; a few where the words are no cascade.
 fn needed(cascade: &Cascade) -> usize {
-    match reference::test_cascade(cascade.lines, &cascade.words, CASCADE_GATES) {
-        Ok(gates) => reference::text_of(cascade.lines, &gates).len(),
+    match reference::test_headed(cascade.header(), &cascade.words) {
+        Ok(_) => cascade.text().len(),
         Err(_) => 12,
     }
 }
 
-fn call(lines: u64, words: &mut Buffer<u64>, out: &mut Buffer<u8>) -> WriteAnswer {
-    let (words_len, out_len) = (words.len(), out.len());
-    unsafe { capi::cascade_write(lines, words.pointer(), words_len, out.pointer(), out_len) }
-}
-
 fn check(case: &Single<u8>, counts: &mut Counts) {
-    let Cascade { lines, words, .. } = &case.cascade;
+    let cascade = &case.cascade;
+    let header = cascade.header();
+    let library = |_, words: &mut Buffer<u64>, out: &mut Buffer<u8>| {
+        let (header, words_len, out_len) = (expected::header(header), words.len(), out.len());
+        unsafe { capi::cascade_write(header, words.pointer(), words_len, out.pointer(), out_len) }
+    };
     let mut wanted = case.out.clone();
-    let answer = expected::write_answer(reference::write(*lines, words, &mut wanted));
-    let mut out = case.check_out("cascade_write", call, answer, &wanted);
+    let answer = expected::write_answer(reference::write(header, &cascade.words, &mut wanted));
+    let mut out = case.check_out("cascade_write", library, answer, &wanted);
     if answer.number == 0 {
-        check_back(&case.cascade, &mut out, answer.written);
+        check_back(cascade, &mut out, answer.written);
     }
-    let text = reference::text_of(*lines, &reference::gates_of(words)).len();
+    let text = cascade.text().len();
     let further = [(10, reference::short_buffer(&case.out, text))];
-    classes::count_single(counts, case, CASCADE_GATES, &further, answer.number);
+    let (given, number) = (Given::Header, answer.number);
+    classes::count_single(counts, case, given, CASCADE_GATES, &further, number);
     classes::count_out(counts, &case.out, case.dangling, text, answer.number);
 }
 
@@ -57,7 +64,20 @@ fn check_back(case: &Cascade, text: &mut Buffer<u8>, written: u64) {
     let mut back = Buffer::new(&vec![0; case.words.len()]);
     let (text_len, out_len) = (text.len(), back.len());
     let answer = unsafe { capi::cascade_read(text.pointer(), text_len, back.pointer(), out_len) };
-    compare(case, "read back: lines", answer.lines, case.lines);
+    let capi::ReadAnswer {
+        lines,
+        constants,
+        values,
+        junk,
+        ..
+    } = answer;
+    let read = reference::Header {
+        lines,
+        constants,
+        values,
+        junk,
+    };
+    compare(case, "read back: header", read, case.header());
     compare(case, "read back: bytes", answer.taken, written);
     compare_buffer(case, "read back: words", &back, &case.words);
 }

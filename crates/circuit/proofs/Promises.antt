@@ -13,7 +13,7 @@ pub use Rattle.circuit.proofs.lemmas.words.Gates.{valid_none, valid_parts, valid
 pub use Rattle.circuit.proofs.lemmas.words.Tests.{lines_good, size_served, from_served, next_good, next_bad, none_left, gates_refused, gates_sized, check_lines, check_gates, check_served, served_check, check_refused, refused_check, words_cascade, cascade_count, cascade_words, words_wrong, pair_served, served_pair, pair_refused, pair_wrong}
 -- headers: their marks, the tests of a caller's header and words, and two runs compared
 pub use Rattle.circuit.proofs.lemmas.header.Marks.{marks_facts, marks_lines, lines_marks, permits_lines, lines_permit, permits_exactly, not_permitted, alike_lines, lines_alike, unlike_line, unmarked_good, unmarked_header, unmarked_permits, unmarked_state, unmarked_line, unmarked_alike, same_header, header_same}
-pub use Rattle.circuit.proofs.lemmas.header.Tests.{headed_words, headed_served, served_headed, headed_refused, refused_headed, headed_exactly, headed_wrong, unmarked_outcome, headed_pair_served, served_headed_pair, headed_pair_refused, headed_pair_wrong, unmarked_pair}
+pub use Rattle.circuit.proofs.lemmas.header.Tests.{headed_lines, headed_marks, headed_words, headed_served, served_headed, headed_refused, refused_headed, headed_exactly, headed_wrong, unmarked_outcome, headed_pair_served, served_headed_pair, headed_pair_refused, headed_pair_wrong, unmarked_pair}
 pub use Rattle.circuit.proofs.lemmas.header.Runs.{equal_differs_for, differs_unlike, agrees_alike, unmarked_equal, unmarked_differs}
 -- a run and the inverse
 pub use Rattle.circuit.proofs.lemmas.run.Laws.{run_none, run_one, run_next, run_append, run_below, tested_run, equal_differs, run_refused, run_served, served_run}

@@ -13,9 +13,9 @@ use Rattle.circuit.specs.Text.{line_feed, minus_sign, digit}
 use Rattle.circuit.specs.File.{parted_by, is_digit, same}
 use Rattle.circuit.proofs.Promises.{whole, whole_one, whole_next, parts_back, same_true, digit_bounds}
 use Rattle.checking.specs.Clauses.{Clause, OR, XOR}
-use Rattle.text.specs.Dimacs.{blank, xor_sign, problem_word, cnf_word, decimal, literal_text, literals_text, clauses_text, header_text, both_read, then_read, digits_read, number_read, signed_read, literal_read, literals_read, clause_read, lines_read, Dimacs, Header, header, header_read, headed, read_lines, dimacs_read}
+use Rattle.text.specs.Dimacs.{blank, xor_sign, problem_word, cnf_word, decimal, literal_text, literals_text, clauses_text, header_text, both_read, then_read, digits_read, number_read, signed_read, literal_read, literals_read, body_read, clause_read, lines_read, Dimacs, Header, header, header_read, headed, read_lines, dimacs_read}
 use Rattle.text.proofs.Decimal.{decimal_short, decimal_long}
-use Rattle.text.proofs.Reading.{body_text, body_next, line_text, line_closed, header_line, header_closed}
+use Rattle.text.proofs.Reading.{ended_text, ended_next, body_line, line_text, line_closed, header_line, header_closed}
 
 -- nothing was read
 nothing : {A : Type 0} {a : A} → none ≡ some a → ⊥
@@ -107,16 +107,39 @@ literal_was (b ∷ bs) l e =
 
 -- ---- a clause
 
-literals_were : (fs : List (List ℕ)) (ls : List ℤ) → literals_read fs ≡ some ls → whole blank fs ≡ body_text ls
-unfolding literals_read literals_text
-literals_were [] ls e = absurd (nothing e)
-literals_were (f ∷ []) ls e =
+last_was : (f : List ℕ) (ls : List ℤ) → literals_read (f ∷ []) ≡ some ls → (f ≡ 48 ∷ []) × ([] ≡ ls)
+unfolding literals_read
+last_was f ls e =
     let (t, r) = was_true (same f (48 ∷ [])) (some []) ls e in
     let n : [] ≡ ls = cc in
-    whole_one blank f ∙ same_true f (48 ∷ []) t ∙ ap body_text n
+    (same_true f (48 ∷ []) t, n)
+
+literals_were : (fs : List (List ℕ)) (ls : List ℤ) → literals_read fs ≡ some ls → whole blank fs ≡ ended_text ls
+unfolding literals_read literals_text
+literals_were [] ls e = absurd (nothing e)
+literals_were (f ∷ []) ls e = let (z, n) = last_was f ls e in whole_one blank f ∙ z ∙ ap ended_text n
 literals_were (f ∷ g ∷ fs) ls e =
     let (l, ms, a, b, is) = both_were ◌∷◌ (literal_read f) (literals_read (g ∷ fs)) ls e in
-    next_was blank f g fs (literal_was f l a) (literals_were (g ∷ fs) ms b) ∙ sym (body_next l ms) ∙ ap body_text is
+    next_was blank f g fs (literal_was f l a) (literals_were (g ∷ fs) ms b) ∙ sym (ended_next l ms) ∙ ap ended_text is
+
+-- with one literal at least
+some_were : (f g : List ℕ) (fs : List (List ℕ)) (ls : List ℤ) → literals_read (f ∷ g ∷ fs) ≡ some ls → whole blank (f ∷ g ∷ fs) ≡ body_line ls
+unfolding literals_read
+some_were f g fs ls e =
+    let (l, ms, a, b, is) = both_were ◌∷◌ (literal_read f) (literals_read (g ∷ fs)) ls e in
+    literals_were (f ∷ g ∷ fs) ls e ∙ sym (ap ended_text is) ∙ ap body_line is
+
+body_were : (fs : List (List ℕ)) (ls : List ℤ) → body_read fs ≡ some ls → whole blank fs ≡ body_line ls
+unfolding body_read
+body_were [] ls e = absurd (nothing e)
+body_were (f ∷ []) ls e = absurd (nothing e)
+body_were (f ∷ g ∷ []) ls e =
+    either (same f [])
+    (λ t.
+    let (z, n) = last_was g ls (sym (cond-true (same f []) _ _ t) ∙ e) in
+    next_was blank f g [] (same_true f [] t) (whole_one blank g ∙ z) ∙ ap body_line n)
+    (λ t. some_were f g [] ls (sym (cond-false (same f []) _ _ t) ∙ e))
+body_were (f ∷ g ∷ h ∷ fs) ls e = some_were f g (h ∷ fs) ls e
 
 clause_was : (line : List ℕ) (c : Clause) → clause_read line ≡ some c → line ≡ line_text c
 unfolding clause_read
@@ -124,11 +147,11 @@ clause_was [] c e = absurd (nothing e)
 clause_was (b ∷ bs) c e =
     either (eqb b xor_sign)
     (λ t.
-    let (ls, r, is) = then_was XOR (literals_read (parted_by blank bs)) c (sym (cond-true (eqb b xor_sign) _ _ t) ∙ e) in
-    ap₂ (λ (x : ℕ) (y : List ℕ). x ∷ y) (eqb-true b xor_sign t) (sym (parts_back blank bs) ∙ literals_were (parted_by blank bs) ls r) ∙ ap line_text is)
+    let (ls, r, is) = then_was XOR (body_read (parted_by blank bs)) c (sym (cond-true (eqb b xor_sign) _ _ t) ∙ e) in
+    ap₂ (λ (x : ℕ) (y : List ℕ). x ∷ y) (eqb-true b xor_sign t) (sym (parts_back blank bs) ∙ body_were (parted_by blank bs) ls r) ∙ ap line_text is)
     (λ t.
-    let (ls, r, is) = then_was OR (literals_read (parted_by blank (b ∷ bs))) c (sym (cond-false (eqb b xor_sign) _ _ t) ∙ e) in
-    sym (parts_back blank (b ∷ bs)) ∙ literals_were (parted_by blank (b ∷ bs)) ls r ∙ ap line_text is)
+    let (ls, r, is) = then_was OR (body_read (parted_by blank (b ∷ bs))) c (sym (cond-false (eqb b xor_sign) _ _ t) ∙ e) in
+    sym (parts_back blank (b ∷ bs)) ∙ body_were (parted_by blank (b ∷ bs)) ls r ∙ ap line_text is)
 
 -- ---- the clauses
 

@@ -39,14 +39,19 @@ unfoldable pub literals_text : List ℤ → List ℕ
 literals_text [] = []
 literals_text (l ∷ ls) = (literal_text l ++ (blank ∷ [])) ++ literals_text ls
 
--- `0` and the LF, which close a clause
+-- a clause's literals, each followed by a blank; the blank alone where there are none, since ` 0` closes a clause
+abbrev pub body_text : List ℤ → List ℕ
+body_text [] = blank ∷ []
+body_text (l ∷ ls) = literals_text (l ∷ ls)
+
+-- `0` and the LF, which end a clause
 abbrev pub closing : List ℕ
 closing = 48 ∷ line_feed ∷ []
 
 -- a clause a line
 abbrev pub clause_text : Clause → List ℕ
-clause_text (OR ls) = literals_text ls ++ closing
-clause_text (XOR ls) = xor_sign ∷ (literals_text ls ++ closing)
+clause_text (OR ls) = body_text ls ++ closing
+clause_text (XOR ls) = xor_sign ∷ (body_text ls ++ closing)
 
 unfoldable pub clauses_text : List Clause → List ℕ
 clauses_text [] = []
@@ -102,11 +107,18 @@ literals_read [] = none
 literals_read (f ∷ []) = cond (same f (48 ∷ [])) (some []) none
 literals_read (f ∷ g ∷ fs) = both_read ◌∷◌ (literal_read f) (literals_read (g ∷ fs))
 
+-- a clause's fields: literals, one at least, and `0`; or an empty one and `0`
+unfoldable pub body_read : List (List ℕ) → Option (List ℤ)
+body_read [] = none
+body_read (f ∷ []) = none
+body_read (f ∷ g ∷ []) = cond (same f []) (literals_read (g ∷ [])) (literals_read (f ∷ g ∷ []))
+body_read (f ∷ g ∷ h ∷ fs) = literals_read (f ∷ g ∷ h ∷ fs)
+
 -- a line's clause: an XOR after `x`, else an OR
 unfoldable pub clause_read : List ℕ → Option Clause
 clause_read [] = none
 clause_read (b ∷ bs) =
-    cond (b == xor_sign) (then_read XOR (literals_read (parted_by blank bs))) (then_read OR (literals_read (parted_by blank (b ∷ bs))))
+    cond (b == xor_sign) (then_read XOR (body_read (parted_by blank bs))) (then_read OR (body_read (parted_by blank (b ∷ bs))))
 
 -- the clauses of lines that an LF ends; what follows the last LF is empty
 unfoldable pub lines_read : List (List ℕ) → Option (List Clause)

@@ -3,4 +3,4 @@ use Rattle.checking.proofs.lemmas.emission.Lines.{Compared}
 use Rattle.checking.proofs.emission.put_differences.Given as goal
 
 abbrev pub invariant-loop-k : goal.invariant-loop-k
-invariant-loop-k l = Compared l.n l.current l.used l.initial.out l.out l.k l.at
+invariant-loop-k l = Compared l.n l.junk l.left l.right l.fn.used l.initial.out l.out l.used l.at l.k

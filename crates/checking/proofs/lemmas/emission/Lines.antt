@@ -1,115 +1,141 @@
 -- What the emission's loops over the lines write, line by line. Assumes nothing.
-use Rattle.std.proofs.Common.{◌≡◌, ℕ, zero, suc, ◌+◌, ◌-◌, ◌<◌, ◌≤◌, Bool, ltb, List, [], ◌∷◌, ◌++◌, map, length, take, drop, set, ℤ, pos, sym, refl, ap, ◌∙◌, ap₂, append_assoc, append-nil, arith, length-append}
+use Rattle.std.proofs.Common.{◌≡◌, ℕ, zero, suc, ◌+◌, ◌-◌, ◌<◌, ◌≤◌, true, false, cond, List, [], ◌∷◌, ◌++◌, map, length, take, drop, set, ℤ, pos, sym, refl, ap, ◌∙◌, ap₂, append_assoc, append-nil, arith, length-append}
 use mathlib.Core.List.{map-append}
 use lib.ListN.{length-map}
 use borrow.Rule.Slice.PartMut.{put_mid}
-use Rattle.bits.specs.Lists.{over}
+use Rattle.bits.specs.Digits.{bit}
+use Rattle.bits.specs.Lists.{over, Put}
+use Rattle.bits.proofs.Bools.{cond-true, cond-false}
 use Rattle.bits.proofs.Lists.{over_length, over_push, lent_over}
-use Rattle.checking.specs.Clauses.{plus, input_of, up_from, difference_clauses}
+use Rattle.checking.specs.Clauses.{plus, up_from, difference_clauses}
+use Rattle.checking.specs.Pair.{without_junk}
 use Rattle.checking.specs.Stored.{stored}
 use Rattle.checking.specs.private.Emitter.{by_line}
-use Rattle.checking.specs.private.Emission.{line_stored, lines_stored, last_stored, LineReady, LinesReady}
+use Rattle.checking.specs.private.Emission.{line_stored, lines_stored, counted_stored, last_stored, LineReady, LinesReady, LinesPut}
 use Rattle.checking.proofs.lemmas.clauses.Forced.{length_up_from}
-use Rattle.checking.proofs.lemmas.clauses.Loop.{up_from_more}
+use Rattle.checking.proofs.lemmas.clauses.Totals.{up_from_more}
 use Rattle.checking.proofs.lemmas.emitter.Parts.{lent_long}
 
 -- ---- the clauses of the d
 
--- the clauses of m lines from line k on
-abbrev lines_left : ℕ → List ℕ → ℕ → ℕ → ℕ → List ℤ
-lines_left n current used k m = stored (difference_clauses (λ k. ltb n (by_line current k)) input_of (by_line current) (used + k) (up_from k m))
+-- those of `more` lines from k on that are not junk
+abbrev lines_left : ℕ → ℕ → ℕ → List ℕ
+lines_left junk k more = without_junk junk (up_from k more)
 
 -- the clauses of lines below k stand at the buffer's start, and those of `lines` more are left
-pub record Compared (n : ℕ) (current : List ℕ) (used : ℕ) (first out : List ℤ) (k at : ℕ) : Type 0 where
+pub record Compared (n junk : ℕ) (left right : List ℕ) (start_used : ℕ) (first out : List ℤ) (used at k : ℕ) : Type 0 where
   pub front : List ℤ
   pub lines : ℕ
   pub count : k + lines ≡ n
-  pub left : lines_stored n current used ≡ front ++ lines_left n current used k lines
+  pub clauses_left : counted_stored n junk left right start_used ≡ front ++ lines_stored left right used (lines_left junk k lines)
+  pub number_left : used + length (lines_left junk k lines) ≡ start_used + length (lines_left junk 0 n)
+  pub few : used ≤ start_used + k
   pub place : length front ≡ at
   pub as_long : length out ≡ length first
   pub buffer : out ≡ over front first
 
-pub compared_none : (n : ℕ) (current : List ℕ) (used : ℕ) (first : List ℤ) → Compared n current used first first 0 0
-compared_none n current used first =
-    let e : used ≡ used + 0 = omega arith in
-    record {
-      front = [];
-      lines = n;
-      count = omega arith;
-      left = ap (λ (u : ℕ). stored (difference_clauses (λ k. ltb n (by_line current k)) input_of (by_line current) u (up_from 0 n))) e;
-      place = refl;
-      as_long = refl;
-      buffer = refl;
-    }
+pub compared_none : (n junk : ℕ) (left right : List ℕ) (used : ℕ) (first : List ℤ) → Compared n junk left right used first first used 0 0
+compared_none n junk left right used first =
+    record { front = []; lines = n; count = omega arith; clauses_left = refl; number_left = refl; few = omega arith; place = refl; as_long = refl; buffer = refl }
 
 one_less : (m : ℕ) → 0 < m → (l : ℕ) × (m ≡ suc l)
 one_less zero h = absurd (omega arith)
 one_less (suc l) h = (l, refl)
 
-module _ (n : ℕ) (current : List ℕ) (used : ℕ) (first out : List ℤ) (k at : ℕ) (ready : LinesReady n current used (length first))
-    (e : Compared n current used first out k at) (inside : k < n) where
-  abbrev new : List ℤ
-  new = line_stored (ltb n (by_line current k)) (used + k + 1) (k + 1) (by_line current k)
-
+module _ (n junk : ℕ) (left right : List ℕ) (start_used : ℕ) (first out : List ℤ) (used at k : ℕ) (ready : LinesReady n junk left right start_used (length first))
+    (e : Compared n junk left right start_used first out used at k) (inside : k < n) where
   abbrev lines : (l : ℕ) × (e.lines ≡ suc l)
   lines = one_less e.lines (omega (arith, e.count))
 
-  split : lines_stored n current used ≡ (e.front ++ new) ++ lines_left n current used (k + 1) lines.0
-  unfolding difference_clauses up_from stored
-  split =
-      let a : suc (used + k) ≡ used + k + 1 = omega arith in
-      let b : suc k ≡ k + 1 = omega arith in
-      let c : suc (used + k) ≡ used + (k + 1) = omega arith in
-      let hit : ℕ → Bool = λ j. ltb n (by_line current j) in
-      e.left
-      ∙ ap (λ (m : ℕ). e.front ++ lines_left n current used k m) lines.1
-      ∙ ap (λ (l : List ℤ). e.front ++ l)
-      (ap₂ (λ (x y : ℕ). line_stored (hit k) x y (by_line current k) ++ stored (difference_clauses hit input_of (by_line current) (suc (used + k)) (up_from (suc k) lines.0))) a b
-      ∙ ap₂ (λ (x y : ℕ). new ++ stored (difference_clauses hit input_of (by_line current) x (up_from y lines.0))) c b)
-      ∙ sym (append_assoc e.front new (lines_left n current used (k + 1) lines.0))
+  next : lines_left junk k e.lines ≡ cond (bit junk k) (lines_left junk (k + 1) lines.0) (k ∷ lines_left junk (k + 1) lines.0)
+  unfolding up_from without_junk
+  next =
+      let one : suc k ≡ k + 1 = omega arith in
+      ap (lines_left junk k) lines.1 ∙ ap (λ (m : ℕ). cond (bit junk k) (lines_left junk m lines.0) (k ∷ lines_left junk m lines.0)) one
 
-  pub line_room : at + length new ≤ length out
-  line_room =
-      omega (
-        arith,
-        ap length split,
-        length-append (e.front ++ new) (lines_left n current used (k + 1) lines.0),
-        length-append e.front new,
-        ready.enough,
-        e.place,
-        e.as_long,
-      )
-
-  pub line_ready : LineReady (ltb n (by_line current k)) (used + k + 1) (k + 1) (by_line current k) (length (take (length out - at) (drop at out)))
-  line_ready =
+  -- a junk line has none
+  pub compared_junk : bit junk k ≡ true → Compared n junk left right start_used first out used at (k + 1)
+  compared_junk j =
+      let same : lines_left junk k e.lines ≡ lines_left junk (k + 1) lines.0 = next ∙ cond-true (bit junk k) _ _ j in
       record {
-        difference = omega (arith, ready.few);
-        first = omega (arith, ready.lines);
-        last = ready.small k inside;
-        enough = omega (arith, lent_long out at, line_room);
-      }
-
-  pub compared_next : (last : List ℤ) (words : ℕ) → words ≡ length new → last ≡ over new (take (length out - at) (drop at out))
-      → Compared n current used first (put_mid at (length out - at) out last) (k + 1) (at + words)
-  compared_next last words h l =
-      let filled = lent_over e.front new first out last at e.buffer e.place (omega (arith, line_room)) l in
-      let front_long = length-append e.front new in
-      record {
-        front = e.front ++ new;
+        front = e.front;
         lines = lines.0;
         count = omega (arith, e.count, lines.1);
-        left = split;
-        place = omega (arith, front_long, e.place);
-        as_long = ap length filled ∙ over_length (e.front ++ new) first (omega (arith, front_long, e.place, line_room, e.as_long));
-        buffer = filled;
+        clauses_left = e.clauses_left ∙ ap (λ (ls : List ℕ). e.front ++ lines_stored left right used ls) same;
+        number_left = ap (λ (ls : List ℕ). used + length ls) (sym same) ∙ e.number_left;
+        few = omega (arith, e.few);
+        place = e.place;
+        as_long = e.as_long;
+        buffer = e.buffer;
       }
 
+  module _ (j : bit junk k ≡ false) where
+    abbrev new : List ℤ
+    new = line_stored (used + 1) (by_line left k) (by_line right k)
+
+    kept : lines_left junk k e.lines ≡ k ∷ lines_left junk (k + 1) lines.0
+    kept = next ∙ cond-false (bit junk k) _ _ j
+
+    split : counted_stored n junk left right start_used ≡ (e.front ++ new) ++ lines_stored left right (used + 1) (lines_left junk (k + 1) lines.0)
+    unfolding difference_clauses stored
+    split =
+        let one : suc used ≡ used + 1 = omega arith in
+        e.clauses_left
+        ∙ ap (λ (ls : List ℕ). e.front ++ lines_stored left right used ls) kept
+        ∙ ap
+        (λ (d : ℕ). e.front ++ (line_stored d (by_line left k) (by_line right k) ++ lines_stored left right d (lines_left junk (k + 1) lines.0))) one
+        ∙ sym (append_assoc e.front new (lines_stored left right (used + 1) (lines_left junk (k + 1) lines.0)))
+
+    pub line_room : at + length new ≤ length out
+    line_room =
+        omega (
+          arith,
+          ap length split,
+          length-append (e.front ++ new) (lines_stored left right (used + 1) (lines_left junk (k + 1) lines.0)),
+          length-append e.front new,
+          ready.enough,
+          e.place,
+          e.as_long,
+        )
+
+    pub line_ready : LineReady (used + 1) (by_line left k) (by_line right k) (length (take (length out - at) (drop at out)))
+    line_ready =
+        record {
+          difference = omega (arith, ready.few, e.few);
+          first = ready.small_left k inside;
+          last = ready.small_right k inside;
+          enough = omega (arith, lent_long out at, line_room);
+        }
+
+    pub compared_next : (last : List ℤ) (words : ℕ) → Put words last new (take (length out - at) (drop at out))
+        → Compared n junk left right start_used first (put_mid at (length out - at) out last) (used + 1) (at + words) (k + 1)
+    compared_next last words p =
+        let filled = lent_over e.front new first out last at e.buffer e.place (omega (arith, line_room)) p.buffer in
+        let front_long = length-append e.front new in
+        record {
+          front = e.front ++ new;
+          lines = lines.0;
+          count = omega (arith, e.count, lines.1);
+          clauses_left = split;
+          number_left = omega (arith, e.number_left, ap length kept);
+          few = omega (arith, e.few);
+          place = omega (arith, front_long, e.place, p.count);
+          as_long = ap length filled ∙ over_length (e.front ++ new) first (omega (arith, front_long, e.place, line_room, e.as_long));
+          buffer = filled;
+        }
+
 -- at the end
-pub compared_all : (n : ℕ) (current : List ℕ) (used : ℕ) (first out : List ℤ) (k at : ℕ) → n ≤ k → (e : Compared n current used first out k at) → lines_stored n current used ≡ e.front
-unfolding difference_clauses up_from stored
-compared_all n current used first out k at past e =
+pub compared_all : (n junk : ℕ) (left right : List ℕ) (start_used : ℕ) (first out : List ℤ) (used at k : ℕ) → n ≤ k
+    → Compared n junk left right start_used first out used at k → LinesPut n junk left right start_used first out at used
+unfolding difference_clauses up_from without_junk stored
+compared_all n junk left right start_used first out used at k past e =
     let none : e.lines ≡ 0 = omega (arith, e.count) in
-    e.left ∙ ap (λ (m : ℕ). e.front ++ lines_left n current used k m) none ∙ append-nil e.front
+    let all : counted_stored n junk left right start_used ≡ e.front =
+    e.clauses_left ∙ ap (λ (m : ℕ). e.front ++ lines_stored left right used (lines_left junk k m)) none ∙ append-nil e.front in
+    record {
+      variables = omega (arith, e.number_left, ap (λ (m : ℕ). length (lines_left junk k m)) none);
+      written = record { count = sym e.place ∙ ap length (sym all); buffer = e.buffer ∙ ap (λ (f : List ℤ). over f first) (sym all) };
+    }
 
 -- ---- the last clause
 
