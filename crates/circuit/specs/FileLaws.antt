@@ -6,11 +6,11 @@ use Rattle.circuit.specs.declared.gate.Gate.{Gate}
 use Rattle.circuit.specs.declared.header.Header.{Header}
 use Rattle.circuit.specs.Gate.{max_lines, max_gates, Control, Inside}
 use Rattle.circuit.specs.Header.{unmarked, marks_good}
-use Rattle.circuit.specs.Outcome.{Outcome, served, refused, demand, and_then, Wrong, Fails, Untouched, Yields}
+use Rattle.circuit.specs.Outcome.{Outcome, served, refused, demand, and_then, written, Wrong, Fails, Untouched, Yields}
 use Rattle.circuit.specs.Refusal.{wrong_form, bad_line_count, line_outside, target_controlled, not_rising, too_many_gates, no_room, bad_mark}
 use Rattle.circuit.specs.Words.{gates_of, words_of, all_valid, check_outcome, Headed, HeadedRefused}
 use Rattle.circuit.specs.Text.{digit, lines_word, gate_word, end_word, number_text, control_text, header_line, header_lines, gate_lines, end_line, text_of}
-use Rattle.circuit.specs.File.{Line, first_line, later_lines, lines_of, line_size, fields_of, header_on, mark_word, starts_mark, Reading, read_from, mark_lines, reading, read_outcome, read_buffer, write_outcome, write_buffer}
+use Rattle.circuit.specs.File.{Line, first_line, later_lines, lines_of, line_size, fields_of, header_on, mark_word, starts_mark, Reading, read_from, mark_lines, counts_of, gates_read, reading, read_outcome, read_buffer, write_outcome, write_buffer}
 use Rattle.circuit.specs.declared.file.ReadCounts.{ReadCounts}
 
 -- a cascade that a file can hold
@@ -52,7 +52,7 @@ value_fields constant value = cond constant ((digit (cond value 1 0) ∷ []) ∷
 -- a mark line, of a constant or else a junk line, after those of its group, whose lines are in the mask
 pub data MarkOffence (constant : Bool) (n mask : ℕ) (l : Line) : ℕ → Type 0 where
   -- no number follows the word
-  no_line : (f : List ℕ) (fs : List (List ℕ)) → fields_of l.bytes ≡ mark_word constant ∷ f ∷ fs → ((k : ℕ) → NumberField f k → ⊥) → MarkOffence constant n mask l wrong_form
+  no_mark_line : (f : List ℕ) (fs : List (List ℕ)) → fields_of l.bytes ≡ mark_word constant ∷ f ∷ fs → ((k : ℕ) → NumberField f k → ⊥) → MarkOffence constant n mask l wrong_form
   -- the mark's line is n or more, or not above one before it
   beyond : (f : List ℕ) (fs : List (List ℕ)) → fields_of l.bytes ≡ mark_word constant ∷ f ∷ fs → (k : ℕ) → NumberField f k → n ≤ k → MarkOffence constant n mask l bad_mark
   mark_not_rising : (f : List ℕ) (fs : List (List ℕ)) → fields_of l.bytes ≡ mark_word constant ∷ f ∷ fs → (k : ℕ) → NumberField f k → k < n
@@ -179,7 +179,7 @@ pub record RoundTrip (read : List ℕ → ℕ → Outcome ReadCounts) (read_into
       → Yields (write c.header (take (3 * c.gates) (read_into text out)) (length into)) (write_into c.header (take (3 * c.gates) (read_into text out)) into)
       (served c.taken) (over (take c.taken text) into)
 
--- a file without marks, by document 01: its text, its reading and its writing
+-- a file without marks, by document 01: its text and its reading
 abbrev pub unmarked_text : ℕ → List Gate → List ℕ
 unmarked_text n gs = header_line n ++ (gate_lines gs ++ end_line)
 
@@ -188,26 +188,44 @@ unmarked_reading text =
     and_then (header_on (first_line (lines_of text))) (λ n.
     read_from (unmarked n) 1 [] (line_size (first_line (lines_of text))) (later_lines (lines_of text)))
 
-unfoldable pub unmarked_writing : ℕ → List ℕ → ℕ → Outcome ℕ
-unmarked_writing n ws room =
+-- its two calls, and what they leave
+unfoldable pub unmarked_read_outcome : List ℕ → ℕ → Outcome ReadCounts
+unmarked_read_outcome text room =
+    and_then (unmarked_reading text) (λ c. demand (nat_le (3 * length c.gates) room) no_room 0 (served (counts_of c)))
+
+unfoldable pub unmarked_read_buffer : List ℕ → List ℕ → List ℕ
+unmarked_read_buffer text out = written (unmarked_read_outcome text (length out)) (words_of (gates_read (unmarked_reading text))) out
+
+unfoldable pub unmarked_write_outcome : ℕ → List ℕ → ℕ → Outcome ℕ
+unmarked_write_outcome n ws room =
     and_then (check_outcome n ws max_gates) (λ k.
     demand (nat_le (length (unmarked_text n (gates_of ws))) room) no_room 0 (served (length (unmarked_text n (gates_of ws)))))
+
+unfoldable pub unmarked_write_buffer : ℕ → List ℕ → List ℕ → List ℕ
+unmarked_write_buffer n ws out = written (unmarked_write_outcome n ws (length out)) (unmarked_text n (gates_of ws)) out
 
 -- line 1 of a text
 abbrev pub line_1 : List ℕ → Line
 line_1 text = first_line (later_lines (lines_of text))
 
--- with marks, files are what they were without
+-- line 1 is no mark line: it starts neither `const` tab nor `junk` tab
+abbrev pub NoMarkLine : List ℕ → Type 0
+NoMarkLine text = (constant : Bool) → starts_mark constant (line_1 text) ≡ false
+
+-- files without marks are what they were
 pub record UnmarkedFiles : Type 0 where
-  -- the same bytes, and the same answer of writing
+  -- the same bytes
   pub text : (n : ℕ) (gs : List Gate) → text_of (unmarked n) gs ≡ unmarked_text n gs
-  pub writing : (n : ℕ) (ws : List ℕ) (room : ℕ) → write_outcome (unmarked n) ws room ≡ unmarked_writing n ws room
-  -- the same answer for every text whose line 1 starts neither `const` tab nor `junk` tab
-  pub answer : (text : List ℕ) → starts_mark true (line_1 text) ≡ false → starts_mark false (line_1 text) ≡ false → reading text ≡ unmarked_reading text
+  -- the same answer for every text without a mark line
+  pub answer : (text : List ℕ) → NoMarkLine text → reading text ≡ unmarked_reading text
   -- every text that was served is such a text, and gave a header without marks; and a text that now gives such a header was served
-  pub served_before : (text : List ℕ) (c : Reading) → unmarked_reading text ≡ served c
-      → (starts_mark true (line_1 text) ≡ false) × (starts_mark false (line_1 text) ≡ false) × (c.header ≡ unmarked c.header.lines)
+  pub served_before : (text : List ℕ) (c : Reading) → unmarked_reading text ≡ served c → NoMarkLine text × (c.header ≡ unmarked c.header.lines)
   pub served_now : (text : List ℕ) (c : Reading) → reading text ≡ served c → c.header ≡ unmarked c.header.lines → unmarked_reading text ≡ served c
+  -- the calls answer and leave the same
+  pub read_call : (text out : List ℕ) → NoMarkLine text
+      → Yields (read_outcome text (length out)) (read_buffer text out) (unmarked_read_outcome text (length out)) (unmarked_read_buffer text out)
+  pub write_call : (n : ℕ) (ws out : List ℕ)
+      → Yields (write_outcome (unmarked n) ws (length out)) (write_buffer (unmarked n) ws out) (unmarked_write_outcome n ws (length out)) (unmarked_write_buffer n ws out)
 
 pub record FileLaws : Type 0 where
   pub reader : ReaderLaws reading

@@ -16,7 +16,7 @@ use Rattle.circuit.specs.Outcome.{Outcome, served, refused, before, then, Fails,
 use Rattle.circuit.specs.Refusal.{wrong_form}
 use Rattle.circuit.specs.Text.{line_feed}
 use Rattle.circuit.specs.File.{Line, Reading, reading, line_after_end}
-use Rattle.circuit.specs.FileLaws.{FileCascade, HeaderOffence, no_lines, no_number, outside, MarkOffence, no_line, beyond, mark_not_rising, mark_no_end, ControlsOffence, form, value, later, LineOffence, no_gate_line, many, target_form, target_value, controls, controlled, controls_not_rising, FileRefused, on_header_line, on_mark_line, later_line}
+use Rattle.circuit.specs.FileLaws.{FileCascade, HeaderOffence, no_lines, no_number, outside, MarkOffence, no_mark_line, beyond, mark_not_rising, mark_no_end, ControlsOffence, form, value, later, LineOffence, no_gate_line, many, target_form, target_value, controls, controlled, controls_not_rising, FileRefused, on_header_line, on_mark_line, later_line}
 use Rattle.circuit.specs.FileLaws as laws
 use Rattle.circuit.proofs.Promises.{reader, mark_lines_few}
 use Rattle.checking.specs.Pair.{pair_clauses}
@@ -100,7 +100,7 @@ header_number l _ (outside _ _ _ _ _ _) = omega arith
 header_number l _ (laws.HeaderOffence.no_end _ _ _ _ _ _ _ _) = omega arith
 
 mark_number : (constant : Bool) (n mask : ℕ) (l : Line) (number : ℕ) → MarkOffence constant n mask l number → number < 100
-mark_number constant n mask l _ (no_line _ _ _ _) = omega arith
+mark_number constant n mask l _ (no_mark_line _ _ _ _) = omega arith
 mark_number constant n mask l _ (beyond _ _ _ _ _ _) = omega arith
 mark_number constant n mask l _ (mark_not_rising _ _ _ _ _ _ _ _ _) = omega arith
 mark_number constant n mask l _ (mark_no_end _ _ _ _ _ _ _ _) = omega arith

@@ -10,7 +10,7 @@ ghost use Rattle.circuit.specs.private.Scan.{is_stop, field_at, line_at, width, 
 use crate::gate::Gate;
 use crate::refusal::Refusal;
 
-// The byte that ends the header's line.
+// The byte that ends the line of the line count.
 const HEADER_END: u8 = b'\n';
 
 // The number in a field, and the position after the field.

@@ -260,7 +260,7 @@ module _ (constant : Bool) (n i : ℕ) (m : Marks) where
     fields_found o (fits k h below above) = ended_found k h below above (mark_value constant i fs) (value_found i constant fs)
     fields_found o (high k h a) = bad bad_mark (laws.beyond f fs e k h a)
     fields_found o (low k h below j b a) = bad bad_mark (laws.mark_not_rising f fs e k h below j b a)
-    fields_found o (none h) = bad wrong_form (laws.no_line f fs e h)
+    fields_found o (none h) = bad wrong_form (laws.no_mark_line f fs e h)
 
   pub mark_found : (l : Line) → starts_mark constant l ≡ true → MarkFound constant n i m l (mark_on constant n i m l)
   unfolding starts_fields mark_fields
@@ -279,7 +279,7 @@ module _ (constant : Bool) (n i : ℕ) (m : Marks) where
   mark_by l f fs e = ap (mark_fields constant n i m l.ended) e
 
   pub mark_refused : (l : Line) (number : ℕ) → MarkOffence constant n m.mask l number → mark_on constant n i m l ≡ refused number i
-  mark_refused l number (laws.no_line f fs e h) = mark_by l f fs e ∙ then_refused _ _ wrong_form i (number_none n i m.mask f h)
+  mark_refused l number (laws.no_mark_line f fs e h) = mark_by l f fs e ∙ then_refused _ _ wrong_form i (number_none n i m.mask f h)
   mark_refused l number (laws.beyond f fs e k h a) = mark_by l f fs e ∙ then_refused _ _ bad_mark i (number_high n i m.mask f k h a)
   mark_refused l number (laws.mark_not_rising f fs e k h below j b a) = mark_by l f fs e ∙ then_refused _ _ bad_mark i (number_low n i m.mask f k h j b a)
   mark_refused l number (laws.mark_no_end f fs e k h below above g) =
@@ -288,7 +288,7 @@ module _ (constant : Bool) (n i : ℕ) (m : Marks) where
       ∙ value_open i constant l.ended fs (with_mark m k) g
 
   pub offence_starts : (l : Line) (number : ℕ) → MarkOffence constant n m.mask l number → starts_mark constant l ≡ true
-  offence_starts l number (laws.no_line f fs e h) = starts_with_word constant f fs l e
+  offence_starts l number (laws.no_mark_line f fs e h) = starts_with_word constant f fs l e
   offence_starts l number (laws.beyond f fs e k h a) = starts_with_word constant f fs l e
   offence_starts l number (laws.mark_not_rising f fs e k h below j b a) = starts_with_word constant f fs l e
   offence_starts l number (laws.mark_no_end f fs e k h below above g) = starts_with_word constant f fs l e
