@@ -1,4 +1,4 @@
--- Two cascades compared on the states and the lines that count, by document 02; and the one with fewer gates, by document 01.
+-- Two cascades compared on permitted states and counted lines, by document 02; and the one with fewer gates, by document 01.
 use Rattle.std.specs.Prelude.{◌≡◌, ℕ, zero, suc, ◌+◌, ◌^◌, ◌<◌, Bool, cond, not, ◌&&◌, List, [], Option, Some, None, nat_le}
 use Rattle.bits.specs.Digits.{bit}
 use Rattle.circuit.specs.declared.gate.Gate.{Gate}

@@ -1,4 +1,4 @@
--- Faults: the lines that may be a missing control of a gate of the suspect, by document 01; of the states and the lines that count, by document 02. A line that stands is a candidate.
+-- Faults: the lines that may be a missing control of a gate of the suspect, by document 01; over permitted states and counted lines, by document 02. A line that stands is a candidate.
 use Rattle.std.specs.Prelude.{ℕ, zero, suc, ◌+◌, ◌*◌, ◌^◌, Bool, true, false, cond, not, ◌&&◌, List, [], ◌∷◌, ◌++◌, map, length, ◌==◌, nat_le}
 use Rattle.std.specs.Bool.{xor}
 use Rattle.bits.specs.Digits.{bit}

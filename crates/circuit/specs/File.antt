@@ -180,18 +180,18 @@ mark_on constant n i m l = mark_fields constant n i m l.ended (fields_of l.bytes
 -- ---- the whole text
 
 -- the line count, by the fields of line 0: 1, 2, then 1 for a further field or a missing LF
-unfoldable pub header_fields : Bool → List (List ℕ) → Outcome ℕ
-header_fields ended [] = refused wrong_form 0
-header_fields ended (f ∷ []) = refused wrong_form 0
-header_fields ended (f ∷ k ∷ []) =
+unfoldable pub count_fields : Bool → List (List ℕ) → Outcome ℕ
+count_fields ended [] = refused wrong_form 0
+count_fields ended (f ∷ []) = refused wrong_form 0
+count_fields ended (f ∷ k ∷ []) =
     demand (same f lines_word) wrong_form 0
     (and_then (number_of 0 k) (λ n. demand (line_count_good n) bad_line_count 0 (demand ended wrong_form 0 (served n))))
-header_fields ended (f ∷ k ∷ x ∷ fs) =
+count_fields ended (f ∷ k ∷ x ∷ fs) =
     demand (same f lines_word) wrong_form 0
     (and_then (number_of 0 k) (λ n. demand (line_count_good n) bad_line_count 0 (refused wrong_form 0)))
 
-abbrev pub header_on : Line → Outcome ℕ
-header_on l = header_fields l.ended (fields_of l.bytes)
+abbrev pub count_on : Line → Outcome ℕ
+count_on l = count_fields l.ended (fields_of l.bytes)
 
 -- `end` and its LF
 abbrev pub is_end : Line → Bool
@@ -232,7 +232,7 @@ read_from h first gs at (l ∷ ls) =
 -- lines from the top: the line count, constants, junk lines, gates and `end`
 unfoldable pub reading : List ℕ → Outcome Reading
 reading text =
-    and_then (header_on (first_line (lines_of text))) (λ n.
+    and_then (count_on (first_line (lines_of text))) (λ n.
     and_then (group_from true n 1 (line_size (first_line (lines_of text))) no_marks (later_lines (lines_of text))) (λ c.
     and_then (group_from false n c.line c.at no_marks c.left) (λ j.
     read_from (header_of n c.marks j.marks) j.line [] j.at j.left)))

@@ -9,8 +9,8 @@ use Rattle.circuit.specs.Header.{unmarked, marks_good}
 use Rattle.circuit.specs.Outcome.{Outcome, served, refused, demand, and_then, written, Wrong, Fails, Untouched, Yields}
 use Rattle.circuit.specs.Refusal.{wrong_form, bad_line_count, line_outside, target_controlled, not_rising, too_many_gates, no_room, bad_mark}
 use Rattle.circuit.specs.Words.{gates_of, words_of, all_valid, check_outcome, Headed, HeadedRefused}
-use Rattle.circuit.specs.Text.{digit, lines_word, gate_word, end_word, number_text, control_text, header_line, header_lines, gate_lines, end_line, text_of}
-use Rattle.circuit.specs.File.{Line, first_line, later_lines, lines_of, line_size, fields_of, header_on, mark_word, starts_mark, Reading, read_from, mark_lines, counts_of, gates_read, reading, read_outcome, read_buffer, write_outcome, write_buffer}
+use Rattle.circuit.specs.Text.{digit, lines_word, gate_word, end_word, number_text, control_text, count_line, header_lines, gate_lines, end_line, text_of}
+use Rattle.circuit.specs.File.{Line, first_line, later_lines, lines_of, line_size, fields_of, count_on, mark_word, starts_mark, Reading, read_from, mark_lines, counts_of, gates_read, reading, read_outcome, read_buffer, write_outcome, write_buffer}
 use Rattle.circuit.specs.declared.file.ReadCounts.{ReadCounts}
 
 -- a cascade that a file can hold
@@ -34,16 +34,16 @@ pub record ControlField (f : List ℕ) (c : Control) : Type 0 where
   pub text : f ≡ control_text c
 
 -- line 0
-pub data HeaderOffence (l : Line) : ℕ → Type 0 where
+pub data CountOffence (l : Line) : ℕ → Type 0 where
   -- it does not start `lines` tab
-  no_lines : ((k : List ℕ) (fs : List (List ℕ)) → fields_of l.bytes ≢ lines_word ∷ k ∷ fs) → HeaderOffence l wrong_form
+  no_lines : ((k : List ℕ) (fs : List (List ℕ)) → fields_of l.bytes ≢ lines_word ∷ k ∷ fs) → CountOffence l wrong_form
   -- no number follows
-  no_number : (k : List ℕ) (fs : List (List ℕ)) → fields_of l.bytes ≡ lines_word ∷ k ∷ fs → ((n : ℕ) → NumberField k n → ⊥) → HeaderOffence l wrong_form
+  no_number : (k : List ℕ) (fs : List (List ℕ)) → fields_of l.bytes ≡ lines_word ∷ k ∷ fs → ((n : ℕ) → NumberField k n → ⊥) → CountOffence l wrong_form
   -- n is outside 1 to 64
-  outside : (k : List ℕ) (fs : List (List ℕ)) → fields_of l.bytes ≡ lines_word ∷ k ∷ fs → (n : ℕ) → NumberField k n → (1 ≤ n → n ≤ max_lines → ⊥) → HeaderOffence l bad_line_count
+  outside : (k : List ℕ) (fs : List (List ℕ)) → fields_of l.bytes ≡ lines_word ∷ k ∷ fs → (n : ℕ) → NumberField k n → (1 ≤ n → n ≤ max_lines → ⊥) → CountOffence l bad_line_count
   -- n is good, and a further field stands there or the LF is missing
   no_end : (k : List ℕ) (fs : List (List ℕ)) → fields_of l.bytes ≡ lines_word ∷ k ∷ fs → (n : ℕ) → NumberField k n → 1 ≤ n → n ≤ max_lines
-      → (fs ≡ [] → l.ended ≢ true) → HeaderOffence l wrong_form
+      → (fs ≡ [] → l.ended ≢ true) → CountOffence l wrong_form
 
 -- what may follow the line of a mark: a constant's value, and nothing for a junk line
 abbrev pub value_fields : Bool → Bool → List (List ℕ)
@@ -109,7 +109,7 @@ group_mask constant h = cond constant h.constants h.junk
 
 -- the lines before are good, and the line or the missing line after them is not
 pub data FileRefused (text : List ℕ) : ℕ → ℕ → Type 0 where
-  on_header_line : (number : ℕ) → HeaderOffence (first_line (lines_of text)) number → FileRefused text number 0
+  on_count_line : (number : ℕ) → CountOffence (first_line (lines_of text)) number → FileRefused text number 0
   -- a line that starts a mark of a group that is open
   on_mark_line : (h : Header) (rest : List ℕ) → FileCascade h [] → text ≡ header_lines h ++ rest → (constant : Bool) → GroupOpen constant h []
       → (number : ℕ) → MarkOffence constant h.lines (group_mask constant h) (first_line (lines_of rest)) number → FileRefused text number (mark_lines h + 1)
@@ -181,11 +181,11 @@ pub record RoundTrip (read : List ℕ → ℕ → Outcome ReadCounts) (read_into
 
 -- a file without marks, by document 01: its text and its reading
 abbrev pub unmarked_text : ℕ → List Gate → List ℕ
-unmarked_text n gs = header_line n ++ (gate_lines gs ++ end_line)
+unmarked_text n gs = count_line n ++ (gate_lines gs ++ end_line)
 
 unfoldable pub unmarked_reading : List ℕ → Outcome Reading
 unmarked_reading text =
-    and_then (header_on (first_line (lines_of text))) (λ n.
+    and_then (count_on (first_line (lines_of text))) (λ n.
     read_from (unmarked n) 1 [] (line_size (first_line (lines_of text))) (later_lines (lines_of text)))
 
 -- its two calls, and what they leave
@@ -216,7 +216,7 @@ NoMarkLine text = (constant : Bool) → starts_mark constant (line_1 text) ≡ f
 pub record UnmarkedFiles : Type 0 where
   -- the same bytes
   pub text : (n : ℕ) (gs : List Gate) → text_of (unmarked n) gs ≡ unmarked_text n gs
-  -- the same answer for every text without a mark line
+  -- the same answer for every text whose line 1 is no mark line
   pub answer : (text : List ℕ) → NoMarkLine text → reading text ≡ unmarked_reading text
   -- every text that was served is such a text, and gave a header without marks; and a text that now gives such a header was served
   pub served_before : (text : List ℕ) (c : Reading) → unmarked_reading text ≡ served c → NoMarkLine text × (c.header ≡ unmarked c.header.lines)
@@ -227,7 +227,21 @@ pub record UnmarkedFiles : Type 0 where
   pub write_call : (n : ℕ) (ws out : List ℕ)
       → Yields (write_outcome (unmarked n) ws (length out)) (write_buffer (unmarked n) ws out) (unmarked_write_outcome n ws (length out)) (unmarked_write_buffer n ws out)
 
+-- a row, byte by byte: two lines, line 0 the constant 1, line 1 junk, no gates
+abbrev pub marked_row : List ℕ
+marked_row =
+    108 ∷ 105 ∷ 110 ∷ 101 ∷ 115 ∷ 9 ∷ 50 ∷ 10
+    ∷ 99 ∷ 111 ∷ 110 ∷ 115 ∷ 116 ∷ 9 ∷ 48 ∷ 9 ∷ 49 ∷ 10
+    ∷ 106 ∷ 117 ∷ 110 ∷ 107 ∷ 9 ∷ 49 ∷ 10
+    ∷ 101 ∷ 110 ∷ 100 ∷ 10 ∷ []
+
+abbrev pub marked_header : Header
+marked_header = record { lines = 2; constants = 1; values = 1; junk = 2 }
+
 pub record FileLaws : Type 0 where
+  -- the row is the text of its header without gates, and is read as that
+  pub row_text : text_of marked_header [] ≡ marked_row
+  pub row_read : reading marked_row ≡ served (record { header = marked_header; gates = []; taken = 29 })
   pub reader : ReaderLaws reading
   pub unmarked_files : UnmarkedFiles
   -- the calls themselves: reading a written cascade gives that cascade, writing a read one the same bytes

@@ -35,7 +35,7 @@ no_gate = 7
 abbrev pub line_counts_differ : ℕ
 line_counts_differ = 8
 
--- a state of 2 ^ n or more
+-- a state of 2 ^ n or more, or that breaks a constant
 abbrev pub bad_state : ℕ
 bad_state = 9
 

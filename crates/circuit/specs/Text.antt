@@ -56,8 +56,8 @@ abbrev pub gate_text : Gate → List ℕ
 gate_text g = gate_word ++ (tab ∷ (number_text g.target ++ controls_text (controls_of g)))
 
 -- lines, each with its LF
-abbrev pub header_line : ℕ → List ℕ
-header_line n = lines_word ++ (tab ∷ (number_text n ++ (line_feed ∷ [])))
+abbrev pub count_line : ℕ → List ℕ
+count_line n = lines_word ++ (tab ∷ (number_text n ++ (line_feed ∷ [])))
 
 abbrev pub gate_line : Gate → List ℕ
 gate_line g = gate_text g ++ (line_feed ∷ [])
@@ -85,7 +85,7 @@ junk_lines h = flat_map junk_line (lines_in h.junk h.lines)
 
 -- the lines before those of the gates: `lines`, n; each constant; each junk line
 abbrev pub header_lines : Header → List ℕ
-header_lines h = header_line h.lines ++ (const_lines h ++ junk_lines h)
+header_lines h = count_line h.lines ++ (const_lines h ++ junk_lines h)
 
 -- first the header's lines; each gate; last `end`
 abbrev pub text_of : Header → List Gate → List ℕ

@@ -21,7 +21,7 @@ pub enum Refusal {
     NoGate(u64),
     // Two cascades have different line counts.
     LineCountsDiffer,
-    // A state has a bit above the lines.
+    // A state has a bit above the lines, or breaks a constant.
     BadState(u64),
     // The buffer is shorter than the answer.
     NoRoom,

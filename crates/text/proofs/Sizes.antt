@@ -16,7 +16,7 @@ use Rattle.circuit.specs.Outcome.{Outcome, served, refused, before, then, Fails,
 use Rattle.circuit.specs.Refusal.{wrong_form}
 use Rattle.circuit.specs.Text.{line_feed}
 use Rattle.circuit.specs.File.{Line, Reading, reading, line_after_end}
-use Rattle.circuit.specs.FileLaws.{FileCascade, HeaderOffence, no_lines, no_number, outside, MarkOffence, no_mark_line, beyond, mark_not_rising, mark_no_end, ControlsOffence, form, value, later, LineOffence, no_gate_line, many, target_form, target_value, controls, controlled, controls_not_rising, FileRefused, on_header_line, on_mark_line, later_line}
+use Rattle.circuit.specs.FileLaws.{FileCascade, CountOffence, no_lines, no_number, outside, MarkOffence, no_mark_line, beyond, mark_not_rising, mark_no_end, ControlsOffence, form, value, later, LineOffence, no_gate_line, many, target_form, target_value, controls, controlled, controls_not_rising, FileRefused, on_count_line, on_mark_line, later_line}
 use Rattle.circuit.specs.FileLaws as laws
 use Rattle.circuit.proofs.Promises.{reader, mark_lines_few}
 use Rattle.checking.specs.Pair.{pair_clauses}
@@ -93,11 +93,11 @@ small_text (refused_at number file place) (a, b, c) =
 
 -- ---- the numbers and places of refused files
 
-header_number : (l : Line) (number : ℕ) → HeaderOffence l number → number < 100
+header_number : (l : Line) (number : ℕ) → CountOffence l number → number < 100
 header_number l _ (no_lines _) = omega arith
 header_number l _ (no_number _ _ _ _) = omega arith
 header_number l _ (outside _ _ _ _ _ _) = omega arith
-header_number l _ (laws.HeaderOffence.no_end _ _ _ _ _ _ _ _) = omega arith
+header_number l _ (laws.CountOffence.no_end _ _ _ _ _ _ _ _) = omega arith
 
 mark_number : (constant : Bool) (n mask : ℕ) (l : Line) (number : ℕ) → MarkOffence constant n mask l number → number < 100
 mark_number constant n mask l _ (no_mark_line _ _ _ _) = omega arith
@@ -121,7 +121,7 @@ line_number n i count l _ (controlled _ _ _ _ _ _) = omega arith
 line_number n i count l _ (controls_not_rising _ _ _ _ _ _ _) = omega arith
 
 pub refused_small : (text : List ℕ) (number place : ℕ) → FileRefused text number place → (number < 100) × (place < 10000)
-refused_small text _ _ (on_header_line number o) = (header_number _ number o, omega arith)
+refused_small text _ _ (on_count_line number o) = (header_number _ number o, omega arith)
 refused_small text _ _ (on_mark_line h rest good starts constant opened number o) =
     (mark_number constant h.lines _ _ number o, omega (arith, good.lines_high, mark_lines_few h good.marks))
 refused_small text _ _ (later_line h gs rest good starts closed number o) =

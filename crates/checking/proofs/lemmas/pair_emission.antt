@@ -4,3 +4,4 @@ pub mod Fits
 pub mod Outcomes
 pub mod Answers
 pub mod Laws
+pub mod Unmarked

@@ -12,6 +12,7 @@ use Rattle.circuit.proofs.lemmas.run.Records.{records_words, records_served, ser
 use Rattle.circuit.proofs.lemmas.inverse.Laws.{run_inverse, inverse_run, inverse_append, inverse_twice, inverse_valid, refused_exactly, inverse_served, served_inverse, inverse_stands, inverse_untouched}
 use Rattle.circuit.proofs.lemmas.file.Laws.{reader, read_served, served_read, read_refused, write_served, served_write, write_refused, refuses_all}
 use Rattle.circuit.proofs.lemmas.file.Unmarked.{unmarked_files, marks_unread}
+use Rattle.circuit.proofs.lemmas.file.Rows.{row_text, row_read}
 use Rattle.circuit.proofs.lemmas.file.RoundTrip.{round_trip, idle_reading, idle_writing}
 use Rattle.circuit.proofs.laws.Goals as goal
 
@@ -86,6 +87,8 @@ returns c =
           };
       file =
           record {
+            row_text = row_text;
+            row_read = row_read;
             reader = reader;
             unmarked_files = unmarked_files;
             round_trip = round_trip;

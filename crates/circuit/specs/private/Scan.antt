@@ -7,7 +7,7 @@ use Rattle.circuit.specs.declared.file.scan.ControlRead.{ControlRead}
 use Rattle.circuit.specs.declared.file.scan.Seen.{Seen}
 use Rattle.circuit.specs.Outcome.{Outcome, served, refused, and_then}
 use Rattle.circuit.specs.Text.{tab, line_feed}
-use Rattle.circuit.specs.File.{Line, first_line, lines_of, line_size, fields_of, line_of, control_of, controls_from, closed_gate, gate_on, header_on, read_from, counts_of}
+use Rattle.circuit.specs.File.{Line, first_line, lines_of, line_size, fields_of, line_of, control_of, controls_from, closed_gate, gate_on, count_on, read_from, counts_of}
 
 -- a byte that ends a field
 abbrev pub is_stop : ℕ → Bool
@@ -50,7 +50,7 @@ later_fields (f ∷ fs) = fs
 
 -- the line count of a text, and the position after its line
 abbrev pub count_next : List ℕ → Outcome Numeral
-count_next r = and_then (header_on (line_at r)) (λ n. served (record { value = n; next = line_size (line_at r) }))
+count_next r = and_then (count_on (line_at r)) (λ n. served (record { value = n; next = line_size (line_at r) }))
 
 -- the position after the gate line at a position, with index i and after so many gate lines
 abbrev pub gate_next : ℕ → ℕ → ℕ → ℕ → List ℕ → Outcome ℕ

@@ -4,7 +4,7 @@ ghost use Rattle.std.specs.Prelude.{◌≡◌, true, ◌+◌, ◌*◌, ◌/◌, 
 ghost use Rattle.bits.specs.Lists.{Put};
 ghost use Rattle.circuit.specs.Gate.{max_lines, controls_of};
 ghost use Rattle.circuit.specs.Header.{marks_good};
-ghost use Rattle.circuit.specs.Text.{tab, digit, number_text, control_text, controls_text, header_line, const_line, junk_line, const_lines, junk_lines, header_lines, gate_text, gate_line, plus_sign, minus_sign};
+ghost use Rattle.circuit.specs.Text.{tab, digit, number_text, control_text, controls_text, count_line, const_line, junk_line, const_lines, junk_lines, header_lines, gate_text, gate_line, plus_sign, minus_sign};
 ghost use Rattle.circuit.specs.private.Put.{mask_gate, mark_line, mark_text};
 
 use crate::gate::Gate;
@@ -105,8 +105,8 @@ pub(crate) fn put_gate_line(out: &mut [u8], g: Gate) -> usize
 
 // Writes the line with the line count.
 fn put_count(out: &mut [u8], n: u64) -> usize
-    requires { (n < 100) × (length (header_line n) ≤ length out.old) }
-    ensures { Put result out.new (header_line n) out.old }
+    requires { (n < 100) × (length (count_line n) ≤ length out.old) }
+    ensures { Put result out.new (count_line n) out.old }
 {
     let at = put_numbered(out, b"lines\t", n);
     out[at] = b'\n';

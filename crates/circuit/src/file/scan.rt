@@ -11,7 +11,7 @@ use crate::gate::Gate;
 use crate::refusal::Refusal;
 
 // The byte that ends the line of the line count.
-const HEADER_END: u8 = b'\n';
+const COUNT_END: u8 = b'\n';
 
 // The number in a field, and the position after the field.
 #[derive(Clone, Copy)]
@@ -223,7 +223,7 @@ pub(crate) fn line_count(text: &[u8]) -> Result<Numeral, Refusal>
     if text.len() <= k.next {
         return Err(Refusal::WrongForm(0));
     }
-    if text[k.next] != HEADER_END {
+    if text[k.next] != COUNT_END {
         return Err(Refusal::WrongForm(0));
     }
     Ok(Numeral {

@@ -10,6 +10,7 @@ use Rattle.circuit.specs.Run.{run}
 use Rattle.circuit.proofs.Promises.{unmarked_permits, unmarked_state, unmarked_alike, unmarked_pair, unmarked_equal, unmarked_differs, agrees_alike}
 use Rattle.checking.specs.Compare.{outputs_differ, Agree, max_sweep_lines, Difference, none, lowest, lowest_from, difference_outcome, Says, differs_outcome}
 use Rattle.checking.specs.Faults.{fault_masks, each_from, fault_check, fault_outcome, fault_buffer}
+use Rattle.checking.proofs.lemmas.pair_emission.Unmarked.{sizes_same, emission_same, emitted_same}
 use Rattle.checking.specs.UnmarkedLaws.{unequal_on, lowest_unequal, unmarked_sweep, UnmarkedSays, unmarked_input, unmarked_faults, UnmarkedLaws}
 
 -- a call goes on in the same way
@@ -79,4 +80,4 @@ module _ (n : ℕ) (a b : List Gate) (va : all_valid n a ≡ true) (vb : all_val
   )
 
 pub unmarked_laws : UnmarkedLaws
-unmarked_laws = record { sweep = same_sweep; says = same_says; input = same_input; masks = same_masks; buffer = same_buffer }
+unmarked_laws = record { sweep = same_sweep; says = same_says; input = same_input; masks = same_masks; buffer = same_buffer; sizes = sizes_same; emission = emission_same; emitted = emitted_same }

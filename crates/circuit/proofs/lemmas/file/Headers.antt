@@ -15,15 +15,15 @@ use Rattle.circuit.specs.Gate.{max_lines, valid, controls_of}
 use Rattle.circuit.specs.Header.{marks_good}
 use Rattle.circuit.specs.Outcome.{Outcome, served, refused, and_then}
 use Rattle.circuit.specs.Words.{all_valid}
-use Rattle.circuit.specs.Text.{line_feed, end_word, number_text, junk_line, header_line, const_lines, junk_lines, header_lines, gate_line, gate_text, gate_lines, end_line, text_of}
-use Rattle.circuit.specs.File.{Line, first_line, later_lines, lines_of, line_size, parted_by, fields_of, same, starts_fields, mark_word, starts_mark, Marks, no_marks, Group, group_from, header_on, header_of, Reading, read_from, reading, mark_lines}
+use Rattle.circuit.specs.Text.{line_feed, end_word, number_text, junk_line, count_line, const_lines, junk_lines, header_lines, gate_line, gate_text, gate_lines, end_line, text_of}
+use Rattle.circuit.specs.File.{Line, first_line, later_lines, lines_of, line_size, parted_by, fields_of, same, starts_fields, mark_word, starts_mark, Marks, no_marks, Group, group_from, count_on, header_of, Reading, read_from, reading, mark_lines}
 use Rattle.circuit.specs.FileLaws.{FileCascade, GroupOpen, group_mask, MarkOffence}
 use Rattle.circuit.proofs.lemmas.Outcome.{then_served, then_refused}
 use Rattle.circuit.proofs.lemmas.header.Marks.{marks_facts}
 use Rattle.circuit.proofs.lemmas.gate.Valid.{valid_facts}
 use Rattle.circuit.proofs.lemmas.file.Lines.{lines_cut, same_true}
 use Rattle.circuit.proofs.lemmas.file.Controls.{controls_inside}
-use Rattle.circuit.proofs.lemmas.file.Texts.{header_text, header_line_lem, header_read_lem, gate_line_lem, gate_fields_lem, gates_read_lem}
+use Rattle.circuit.proofs.lemmas.file.Texts.{header_text, count_line_lem, header_read_lem, gate_line_lem, gate_fields_lem, gates_read_lem}
 use Rattle.circuit.proofs.lemmas.file.MarkLines.{none_starts, mark_bytes, mark_line_lem, mark_parts, starts_parts, words_apart, mark_refused, offence_starts}
 use Rattle.circuit.proofs.lemmas.file.Groups.{MarksInside, group_count, group_read, group_stops, group_wrong}
 
@@ -192,13 +192,13 @@ module _ (h : Header) (high : h.lines ≤ max_lines) (good : marks_good h ≡ tr
 
 module _ (h : Header) (low : 1 ≤ h.lines) (high : h.lines ≤ max_lines) where
   -- its first line
-  count_read : (x : List ℕ) → reading (header_line h.lines ++ x) ≡ from_groups h.lines (length (header_line h.lines)) (lines_of x)
+  count_read : (x : List ℕ) → reading (count_line h.lines ++ x) ≡ from_groups h.lines (length (count_line h.lines)) (lines_of x)
   unfolding reading
   count_read x =
       let n : ℕ = h.lines in
       let z : length (number_text n ++ (line_feed ∷ [])) ≡ length (number_text n) + 1 = length-append (number_text n) (line_feed ∷ []) in
-      let e : line_size (record { bytes = header_text n; ended = true }) ≡ length (header_line n) = omega arith in
-      ap (λ (ls : List Line). and_then (header_on (first_line ls)) (λ n. from_groups n (line_size (first_line ls)) (later_lines ls))) (header_line_lem n x high)
+      let e : line_size (record { bytes = header_text n; ended = true }) ≡ length (count_line n) = omega arith in
+      ap (λ (ls : List Line). and_then (count_on (first_line ls)) (λ n. from_groups n (line_size (first_line ls)) (later_lines ls))) (count_line_lem n x high)
       ∙ then_served _ _ n (header_read_lem n low high)
       ∙ ap (λ (k : ℕ). from_groups n k (lines_of x)) e
 
@@ -206,18 +206,18 @@ module _ (h : Header) (low : 1 ≤ h.lines) (high : h.lines ≤ max_lines) where
   module _ (good : marks_good h ≡ true) (r : List ℕ) where
     pub header_read : Closed h r → reading (header_lines h ++ r) ≡ read_from h (mark_lines h + 1) [] (length (header_lines h)) (lines_of r)
     header_read closed =
-        let a : length (header_line h.lines) + length (const_lines h ++ junk_lines h) ≡ length (header_lines h) = omega (arith, length-append (header_line h.lines) (const_lines h ++ junk_lines h)) in
-        ap reading (append_assoc (header_line h.lines) (const_lines h ++ junk_lines h) r)
+        let a : length (count_line h.lines) + length (const_lines h ++ junk_lines h) ≡ length (header_lines h) = omega (arith, length-append (count_line h.lines) (const_lines h ++ junk_lines h)) in
+        ap reading (append_assoc (count_line h.lines) (const_lines h ++ junk_lines h) r)
         ∙ count_read ((const_lines h ++ junk_lines h) ++ r)
-        ∙ groups_read h high good (length (header_line h.lines)) r closed
+        ∙ groups_read h high good (length (count_line h.lines)) r closed
         ∙ ap (λ (k : ℕ). read_from h (mark_lines h + 1) [] k (lines_of r)) a
 
     pub header_wrong : (constant : Bool) → GroupOpen constant h [] → (number : ℕ) → MarkOffence constant h.lines (group_mask constant h) (first_line (lines_of r)) number
         → reading (header_lines h ++ r) ≡ refused number (mark_lines h + 1)
     header_wrong constant o number x =
-        ap reading (append_assoc (header_line h.lines) (const_lines h ++ junk_lines h) r)
+        ap reading (append_assoc (count_line h.lines) (const_lines h ++ junk_lines h) r)
         ∙ count_read ((const_lines h ++ junk_lines h) ++ r)
-        ∙ groups_wrong h high good (length (header_line h.lines)) r constant o number x
+        ∙ groups_wrong h high good (length (count_line h.lines)) r constant o number x
 
 -- a text that starts with a header's lines and gate lines
 pub start_read : (h : Header) (gs : List Gate) (r : List ℕ) → FileCascade h gs

@@ -11,8 +11,8 @@ use Rattle.circuit.specs.declared.header.Header.{Header}
 use Rattle.circuit.specs.Gate.{max_lines, max_gates}
 use Rattle.circuit.specs.Outcome.{Outcome, served, refused, and_then}
 use Rattle.circuit.specs.Refusal.{wrong_form, no_room}
-use Rattle.circuit.specs.Text.{tab, line_feed, lines_word, number_text, junk_line, header_line, header_lines, end_line, gate_lines, text_of}
-use Rattle.circuit.specs.File.{Line, no_line, first_line, later_lines, lines_of, line_size, gate_on, gate_fields, parted_by, header_on, is_end, starts_mark, Marks, no_marks, Group, group_from, header_of, Reading, mark_lines, read_from, reading, counts_of, read_outcome, write_outcome}
+use Rattle.circuit.specs.Text.{tab, line_feed, lines_word, number_text, junk_line, count_line, header_lines, end_line, gate_lines, text_of}
+use Rattle.circuit.specs.File.{Line, no_line, first_line, later_lines, lines_of, line_size, gate_on, gate_fields, parted_by, count_on, is_end, starts_mark, Marks, no_marks, Group, group_from, header_of, Reading, mark_lines, read_from, reading, counts_of, read_outcome, write_outcome}
 use Rattle.circuit.specs.declared.file.ReadCounts.{ReadCounts}
 use Rattle.circuit.specs.FileLaws as laws
 use Rattle.circuit.specs.FileLaws.{FileCascade, LineOffence, FileRefused, ReaderLaws, Readable, ReadAs, ReadRefused, Writable, WriteRefused}
@@ -38,12 +38,12 @@ pub data TextFound (text : List ℕ) : Outcome Reading → Type 0 where
   wrong : (number place : ℕ) → FileRefused text number place → TextFound text (refused number place)
 
 -- the lines of a header by its groups
-module _ (n : ℕ) (text x y z : List ℕ) (c j : Marks) (starts : text ≡ header_line n ++ x) (constants : x ≡ group_text true n c ++ y) (junk : y ≡ group_text false n j ++ z) where
+module _ (n : ℕ) (text x y z : List ℕ) (c j : Marks) (starts : text ≡ count_line n ++ x) (constants : x ≡ group_text true n c ++ y) (junk : y ≡ group_text false n j ++ z) where
   groups_text : text ≡ header_lines (header_of n c j) ++ z
   groups_text =
       starts
-      ∙ ap (λ (l : List ℕ). header_line n ++ l) (constants ∙ ap (λ (l : List ℕ). group_text true n c ++ l) junk ∙ sym (append_assoc (group_text true n c) (group_text false n j) z))
-      ∙ sym (append_assoc (header_line n) (group_text true n c ++ group_text false n j) z)
+      ∙ ap (λ (l : List ℕ). count_line n ++ l) (constants ∙ ap (λ (l : List ℕ). group_text true n c ++ l) junk ∙ sym (append_assoc (group_text true n c) (group_text false n j) z))
+      ∙ sym (append_assoc (count_line n) (group_text true n c ++ group_text false n j) z)
 
 groups_good : (n : ℕ) (c j : Marks) → MarksInside true n c → MarksInside false n j → marks_good (header_of n c j) ≡ true
 groups_good n c j ci ji = facts_marks (header_of n c j) ci.below ji.below ci.within
@@ -88,9 +88,9 @@ module _ (text : List ℕ) where
         none_before rest = unfold gate_lines in refl
 
   -- after the line count
-  module _ (n : ℕ) (low : 1 ≤ n) (high : n ≤ max_lines) (x : List ℕ) (starts : text ≡ header_line n ++ x) where
+  module _ (n : ℕ) (low : 1 ≤ n) (high : n ≤ max_lines) (x : List ℕ) (starts : text ≡ count_line n ++ x) where
     abbrev at : ℕ
-    at = length (header_line n)
+    at = length (count_line n)
 
     junk_found : (c : Marks) (y : List ℕ) → MarksInside true n c → x ≡ group_text true n c ++ y → starts_mark true (first_line (lines_of y)) ≡ false
         → (o : Outcome Group) → GroupFound false n (1 + group_count n c) (at + length (group_text true n c)) y o
@@ -106,7 +106,7 @@ module _ (text : List ℕ) where
         let h : Header = header_of n c j in
         let good : marks_good h ≡ true = groups_good n c j ci ji in
         let a : length (header_lines h) ≡ at + length (group_text true n c) + length (group_text false n j) =
-        omega (arith, length-append (header_line n) (group_text true n c ++ group_text false n j), length-append (group_text true n c) (group_text false n j)) in
+        omega (arith, length-append (count_line n) (group_text true n c ++ group_text false n j), length-append (group_text true n c) (group_text false n j)) in
         subst (TextFound text)
         (ap₂ (λ (i k : ℕ). read_from h i [] k (lines_of z)) (sym (groups_counted h good)) a)
         (gates_found h low high good z (groups_text n text x y z c j starts q t) (closes h z (λ e. subst (λ (l : List ℕ). starts_mark true (first_line (lines_of l)) ≡ false) (t ∙ ap (λ (l : List ℕ). l ++ z) (no_junk n j e)) s) u)
@@ -134,18 +134,18 @@ module _ (text : List ℕ) where
 
   pub text_found : TextFound text (reading text)
   unfolding reading
-  text_found = go (header_on (first_line (lines_of text))) (header_found (first_line (lines_of text)))
+  text_found = go (count_on (first_line (lines_of text))) (header_found (first_line (lines_of text)))
     where
       go : (o : Outcome ℕ) → HeaderFound (first_line (lines_of text)) o
           → TextFound text (and_then o (λ n. from_groups n (line_size (first_line (lines_of text))) (later_lines (lines_of text))))
-      go o (HeaderFound.bad number x) = wrong number 0 (laws.on_header_line number x)
+      go o (HeaderFound.bad number x) = wrong number 0 (laws.on_count_line number x)
       go o (HeaderFound.good n low high b d) =
           let l = first_line (lines_of text) in
           let c = cut_first text d in
           let rest : List ℕ = drop (line_size l) text in
           let z : length (number_text n ++ (line_feed ∷ [])) ≡ length (number_text n) + 1 = length-append (number_text n) (line_feed ∷ []) in
-          let s : length (header_line n) ≡ line_size l = omega (arith, ap length b) in
-          let e : text ≡ header_line n ++ rest =
+          let s : length (count_line n) ≡ line_size l = omega (arith, ap length b) in
+          let e : text ≡ count_line n ++ rest =
           c.text
           ∙ ap (λ (x : List ℕ). x ++ (line_feed ∷ rest)) b
           ∙ ap (λ (x : List ℕ). lines_word ++ (tab ∷ x)) (sym (append_assoc (number_text n) (line_feed ∷ []) rest)) in
@@ -199,7 +199,7 @@ line_refused h first high gs at (l ∷ ls) number x =
     ∙ then_refused _ _ number i (offence_refused h.lines i (length gs) high l number x)
 
 pub wrong_read : (text : List ℕ) (number place : ℕ) → FileRefused text number place → reading text ≡ refused number place
-wrong_read text number place (laws.on_header_line m x) = unfold reading in then_refused _ _ m 0 (header_refused (first_line (lines_of text)) m x)
+wrong_read text number place (laws.on_count_line m x) = unfold reading in then_refused _ _ m 0 (header_refused (first_line (lines_of text)) m x)
 wrong_read text number place (laws.on_mark_line h rest c t constant o m x) =
     ap reading t ∙ header_wrong h c.lines_low c.lines_high c.marks rest constant o m x
 wrong_read text number place (laws.later_line h gs rest c t closed m x) =

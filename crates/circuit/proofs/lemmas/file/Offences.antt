@@ -11,9 +11,9 @@ use Rattle.circuit.specs.Outcome.{Outcome, served, refused, demand, and_then}
 use Rattle.circuit.specs.Refusal.{wrong_form, bad_line_count, line_outside}
 use Rattle.circuit.specs.Words.{all_valid, line_count_good}
 use Rattle.circuit.specs.Text.{tab, line_feed, plus_sign, minus_sign, lines_word, gate_word, end_word, number_text, control_text, controls_text, gate_text, gate_line, end_line, gate_lines}
-use Rattle.circuit.specs.File.{Line, no_line, first_line, later_lines, lines_of, line_size, parted_by, fields_of, same, number_of, line_of, control_of, controls_from, among, rising_from, gate_of, closed_gate, gate_fields, gate_on, header_fields, header_on, is_end, Reading, read_from}
+use Rattle.circuit.specs.File.{Line, no_line, first_line, later_lines, lines_of, line_size, parted_by, fields_of, same, number_of, line_of, control_of, controls_from, among, rising_from, gate_of, closed_gate, gate_fields, gate_on, count_fields, count_on, is_end, Reading, read_from}
 use Rattle.circuit.specs.FileLaws as laws
-use Rattle.circuit.specs.FileLaws.{NumberField, ControlField, HeaderOffence, ControlsOffence, Among, NotRising, GoodFields, LineOffence}
+use Rattle.circuit.specs.FileLaws.{NumberField, ControlField, CountOffence, ControlsOffence, Among, NotRising, GoodFields, LineOffence}
 use Rattle.circuit.proofs.lemmas.Outcome.{never, demand_met, demand_failed, then_served, then_refused}
 use Rattle.circuit.proofs.lemmas.words.Tests.{lines_good, good_lines}
 use Rattle.circuit.proofs.lemmas.file.Lines.{separated, whole, parts_back, same_true, same_self, true_same, Cut, cut_first}
@@ -336,7 +336,7 @@ module _ (n i count : ℕ) (lines_high : n ≤ max_lines) (l : Line) where
 
 pub data HeaderFound (l : Line) : Outcome ℕ → Type 0 where
   good : (n : ℕ) → 1 ≤ n → n ≤ max_lines → l.bytes ≡ header_text n → l.ended ≡ true → HeaderFound l (served n)
-  bad : (number : ℕ) → HeaderOffence l number → HeaderFound l (refused number 0)
+  bad : (number : ℕ) → CountOffence l number → HeaderFound l (refused number 0)
 
 header_bytes : (l : Line) (k : List ℕ) (n : ℕ) → fields_of l.bytes ≡ lines_word ∷ k ∷ [] → k ≡ number_text n → l.bytes ≡ header_text n
 unfolding separated
@@ -364,8 +364,8 @@ module _ (l : Line) where
           subst (HeaderFound l) (sym (number_wrong 0 k number place q) ∙ q)
           (bad 1 (laws.no_number k fs e (λ n f. never (field_number 0 k n f) q)))
 
-  pub header_found : HeaderFound l (header_on l)
-  unfolding header_fields
+  pub header_found : HeaderFound l (count_on l)
+  unfolding count_fields
   header_found = go (fields_of l.bytes) refl
     where
       other : (f k : List ℕ) (fs : List (List ℕ)) → fields_of l.bytes ≡ f ∷ k ∷ fs → same f lines_word ≡ false → HeaderFound l (refused wrong_form 0)
@@ -374,7 +374,7 @@ module _ (l : Line) where
       word : (f k : List ℕ) (fs : List (List ℕ)) → fields_of l.bytes ≡ f ∷ k ∷ fs → same f lines_word ≡ true → fields_of l.bytes ≡ lines_word ∷ k ∷ fs
       word f k fs e s = e ∙ ap (λ (x : List ℕ). x ∷ k ∷ fs) (same_true f lines_word s)
 
-      go : (fs : List (List ℕ)) → fields_of l.bytes ≡ fs → HeaderFound l (header_fields l.ended fs)
+      go : (fs : List (List ℕ)) → fields_of l.bytes ≡ fs → HeaderFound l (count_fields l.ended fs)
       go [] e = bad 1 (laws.no_lines (λ k fs q. nil≢cons (sym e ∙ q)))
       go (f ∷ []) e = bad 1 (laws.no_lines (λ k fs q. nil≢cons (tail-eq_of_cons-eq (sym e ∙ q))))
       go (f ∷ k ∷ []) e =
@@ -384,45 +384,45 @@ module _ (l : Line) where
           (number_found k [] (word f k [] e s) (λ n. demand l.ended wrong_form 0 (served n)) (λ n h low high.
           either l.ended
           (λ d. subst (HeaderFound l) (sym (demand_met {A = ℕ} _ _ _ _ d)) (good n low high (header_bytes l k n (word f k [] e s) h.text) d))
-          (λ d. subst (HeaderFound l) (sym (demand_failed {A = ℕ} _ _ _ _ d)) (bad 1 (HeaderOffence.no_end k [] (word f k [] e s) n h low high (λ q x. refuted d x)))))))
+          (λ d. subst (HeaderFound l) (sym (demand_failed {A = ℕ} _ _ _ _ d)) (bad 1 (CountOffence.no_end k [] (word f k [] e s) n h low high (λ q x. refuted d x)))))))
           (λ s. subst (HeaderFound l) (sym (demand_failed {A = ℕ} _ _ _ _ s)) (other f k [] e s))
       go (f ∷ k ∷ x ∷ fs) e =
           either (same f lines_word)
           (λ s.
           subst (HeaderFound l) (sym (demand_met {A = ℕ} _ _ _ _ s))
           (number_found k (x ∷ fs) (word f k (x ∷ fs) e s) (λ n. refused wrong_form 0) (λ n h low high.
-          bad 1 (HeaderOffence.no_end k (x ∷ fs) (word f k (x ∷ fs) e s) n h low high (λ q d. cons≢nil q)))))
+          bad 1 (CountOffence.no_end k (x ∷ fs) (word f k (x ∷ fs) e s) n h low high (λ q d. cons≢nil q)))))
           (λ s. subst (HeaderFound l) (sym (demand_failed {A = ℕ} _ _ _ _ s)) (other f k (x ∷ fs) e s))
 
   -- the other way
-  pub header_refused : (number : ℕ) → HeaderOffence l number → header_on l ≡ refused number 0
-  unfolding header_fields
+  pub header_refused : (number : ℕ) → CountOffence l number → count_on l ≡ refused number 0
+  unfolding count_fields
   header_refused number (laws.no_lines h) = go (fields_of l.bytes) refl
     where
       wrong_word : (f k : List ℕ) (fs : List (List ℕ)) → fields_of l.bytes ≡ f ∷ k ∷ fs → same f lines_word ≡ false
       wrong_word f k fs q = not_held (same f lines_word) (λ s. h k fs (q ∙ ap (λ (x : List ℕ). x ∷ k ∷ fs) (same_true f lines_word s)))
 
-      go : (fs : List (List ℕ)) → fields_of l.bytes ≡ fs → header_fields l.ended fs ≡ refused wrong_form 0
+      go : (fs : List (List ℕ)) → fields_of l.bytes ≡ fs → count_fields l.ended fs ≡ refused wrong_form 0
       go [] q = refl
       go (f ∷ []) q = refl
       go (f ∷ k ∷ []) q = demand_failed {A = ℕ} _ _ _ _ (wrong_word f k [] q)
       go (f ∷ k ∷ x ∷ fs) q = demand_failed {A = ℕ} _ _ _ _ (wrong_word f k (x ∷ fs) q)
   header_refused number (laws.no_number k [] e h) =
-      ap (header_fields l.ended) e ∙ demand_met {A = ℕ} _ _ _ _ (same_self lines_word) ∙ then_refused _ _ wrong_form 0 (no_number 0 k h)
+      ap (count_fields l.ended) e ∙ demand_met {A = ℕ} _ _ _ _ (same_self lines_word) ∙ then_refused _ _ wrong_form 0 (no_number 0 k h)
   header_refused number (laws.no_number k (x ∷ fs) e h) =
-      ap (header_fields l.ended) e ∙ demand_met {A = ℕ} _ _ _ _ (same_self lines_word) ∙ then_refused _ _ wrong_form 0 (no_number 0 k h)
+      ap (count_fields l.ended) e ∙ demand_met {A = ℕ} _ _ _ _ (same_self lines_word) ∙ then_refused _ _ wrong_form 0 (no_number 0 k h)
   header_refused number (laws.outside k [] e n h b) =
-      ap (header_fields l.ended) e ∙ demand_met {A = ℕ} _ _ _ _ (same_self lines_word) ∙ then_served _ _ n (field_number 0 k n h)
+      ap (count_fields l.ended) e ∙ demand_met {A = ℕ} _ _ _ _ (same_self lines_word) ∙ then_served _ _ n (field_number 0 k n h)
       ∙ demand_failed {A = ℕ} _ _ _ _ (not_held (line_count_good n) (λ t. let (low, high) = lines_good n t in b low high))
   header_refused number (laws.outside k (x ∷ fs) e n h b) =
-      ap (header_fields l.ended) e ∙ demand_met {A = ℕ} _ _ _ _ (same_self lines_word) ∙ then_served _ _ n (field_number 0 k n h)
+      ap (count_fields l.ended) e ∙ demand_met {A = ℕ} _ _ _ _ (same_self lines_word) ∙ then_served _ _ n (field_number 0 k n h)
       ∙ demand_failed {A = ℕ} _ _ _ _ (not_held (line_count_good n) (λ t. let (low, high) = lines_good n t in b low high))
-  header_refused number (HeaderOffence.no_end k [] e n h low high b) =
-      ap (header_fields l.ended) e ∙ demand_met {A = ℕ} _ _ _ _ (same_self lines_word) ∙ then_served _ _ n (field_number 0 k n h)
+  header_refused number (CountOffence.no_end k [] e n h low high b) =
+      ap (count_fields l.ended) e ∙ demand_met {A = ℕ} _ _ _ _ (same_self lines_word) ∙ then_served _ _ n (field_number 0 k n h)
       ∙ demand_met {A = ℕ} _ _ _ _ (good_lines n low high)
       ∙ demand_failed {A = ℕ} _ _ _ _ (not_held l.ended (λ d. b refl d))
-  header_refused number (HeaderOffence.no_end k (x ∷ fs) e n h low high b) =
-      ap (header_fields l.ended) e ∙ demand_met {A = ℕ} _ _ _ _ (same_self lines_word) ∙ then_served _ _ n (field_number 0 k n h)
+  header_refused number (CountOffence.no_end k (x ∷ fs) e n h low high b) =
+      ap (count_fields l.ended) e ∙ demand_met {A = ℕ} _ _ _ _ (same_self lines_word) ∙ then_served _ _ n (field_number 0 k n h)
       ∙ demand_met {A = ℕ} _ _ _ _ (good_lines n low high)
 
 -- ---- the whole text

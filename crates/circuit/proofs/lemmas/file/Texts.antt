@@ -7,8 +7,8 @@ use Rattle.circuit.specs.declared.header.Header.{Header}
 use Rattle.circuit.specs.Gate.{max_lines, max_gates, valid, Control, Inside, controls_of}
 use Rattle.circuit.specs.Outcome.{served}
 use Rattle.circuit.specs.Words.{all_valid}
-use Rattle.circuit.specs.Text.{tab, line_feed, plus_sign, minus_sign, lines_word, gate_word, number_text, control_text, controls_text, gate_text, header_line, gate_line, gate_lines}
-use Rattle.circuit.specs.File.{lines_of, fields_of, same, line_of, control_of, controls_from, among, rising_from, gate_of, closed_gate, gate_fields, gate_on, header_fields, header_on, read_from}
+use Rattle.circuit.specs.Text.{tab, line_feed, plus_sign, minus_sign, lines_word, gate_word, number_text, control_text, controls_text, gate_text, count_line, gate_line, gate_lines}
+use Rattle.circuit.specs.File.{lines_of, fields_of, same, line_of, control_of, controls_from, among, rising_from, gate_of, closed_gate, gate_fields, gate_on, count_fields, count_on, read_from}
 use Rattle.circuit.proofs.lemmas.Outcome.{demand_met, then_served}
 use Rattle.circuit.proofs.lemmas.gate.Valid.{valid_facts, valid_more}
 use Rattle.circuit.proofs.lemmas.words.Tests.{good_lines}
@@ -130,22 +130,22 @@ module _ (h : Header) (lines_high : h.lines ≤ max_lines) where
 abbrev pub header_text : ℕ → List ℕ
 header_text n = lines_word ++ (tab ∷ number_text n)
 
-pub header_fields_lem : (n : ℕ) → n ≤ max_lines → fields_of (header_text n) ≡ lines_word ∷ number_text n ∷ []
+pub count_fields_lem : (n : ℕ) → n ≤ max_lines → fields_of (header_text n) ≡ lines_word ∷ number_text n ∷ []
 unfolding free
-header_fields_lem n h =
+count_fields_lem n h =
     parts_cut tab lines_word (number_text n) refl
     ∙ ap (λ (l : List (List ℕ)). lines_word ∷ l) (parts_one tab (number_text n) (number_free tab n (omega arith) (omega arith)))
 
-pub header_line_lem : (n : ℕ) (r : List ℕ) → n ≤ max_lines → lines_of (header_line n ++ r) ≡ record { bytes = header_text n; ended = true } ∷ lines_of r
+pub count_line_lem : (n : ℕ) (r : List ℕ) → n ≤ max_lines → lines_of (count_line n ++ r) ≡ record { bytes = header_text n; ended = true } ∷ lines_of r
 unfolding free
-header_line_lem n r h =
+count_line_lem n r h =
     ap (λ (x : List ℕ). lines_of (lines_word ++ (tab ∷ x))) (append_assoc (number_text n) (line_feed ∷ []) r)
     ∙ lines_cut (header_text n) r (number_free line_feed n (omega arith) (omega arith))
 
-pub header_read_lem : (n : ℕ) → 1 ≤ n → n ≤ max_lines → header_on (record { bytes = header_text n; ended = true }) ≡ served n
-unfolding header_fields
+pub header_read_lem : (n : ℕ) → 1 ≤ n → n ≤ max_lines → count_on (record { bytes = header_text n; ended = true }) ≡ served n
+unfolding count_fields
 header_read_lem n low high =
-    ap (header_fields true) (header_fields_lem n high)
+    ap (count_fields true) (count_fields_lem n high)
     ∙ demand_met _ _ _ _ (same_self lines_word)
     ∙ then_served _ _ n (number_text_lem 0 n (omega arith))
     ∙ demand_met _ _ _ _ (good_lines n low high)

@@ -8,15 +8,15 @@ use Rattle.circuit.specs.declared.header.Header.{Header}
 use Rattle.circuit.specs.Gate.{max_lines, max_gates}
 use Rattle.circuit.specs.Header.{unmarked}
 use Rattle.circuit.specs.Outcome.{Outcome, served, refused, demand, and_then, written, Yields}
-use Rattle.circuit.specs.Text.{const_line, junk_line, const_lines, junk_lines, header_line, header_lines, gate_lines, end_line, text_of}
-use Rattle.circuit.specs.File.{Line, first_line, later_lines, lines_of, line_size, header_on, starts_mark, no_marks, read_from, Reading, reading, counts_of, gates_read, read_outcome, read_buffer, write_outcome, write_buffer}
+use Rattle.circuit.specs.Text.{const_line, junk_line, const_lines, junk_lines, count_line, header_lines, gate_lines, end_line, text_of}
+use Rattle.circuit.specs.File.{Line, first_line, later_lines, lines_of, line_size, count_on, starts_mark, no_marks, read_from, Reading, reading, counts_of, gates_read, read_outcome, read_buffer, write_outcome, write_buffer}
 use Rattle.circuit.specs.FileLaws.{unmarked_text, unmarked_reading, unmarked_read_outcome, unmarked_read_buffer, unmarked_write_outcome, unmarked_write_buffer, line_1, NoMarkLine, UnmarkedFiles, FileCascade, ReaderLaws}
 use Rattle.circuit.specs.Words.{gates_of, words_of}
 use Rattle.circuit.specs.Refusal.{no_room}
 use Rattle.circuit.proofs.lemmas.header.Tests.{unmarked_outcome}
 use Rattle.circuit.proofs.lemmas.Outcome.{never, then_served, then_both}
 use Rattle.circuit.proofs.lemmas.file.Lines.{cut_first}
-use Rattle.circuit.proofs.lemmas.file.Texts.{header_line_lem}
+use Rattle.circuit.proofs.lemmas.file.Texts.{count_line_lem}
 use Rattle.circuit.proofs.lemmas.file.Offences.{HeaderFound, header_found, Walked, whole_text, stopped, walked}
 use Rattle.circuit.proofs.lemmas.file.Groups.{group_stops}
 use Rattle.circuit.proofs.lemmas.file.Headers.{from_groups, no_mark_after}
@@ -28,8 +28,8 @@ use Rattle.circuit.proofs.lemmas.header.Marks.{facts_marks}
 no_lines : (n : ℕ) → const_lines (unmarked n) ++ junk_lines (unmarked n) ≡ []
 no_lines n = ap₂ ◌++◌ (ap (flat_map (λ k. const_line k (bit 0 k))) (lines_none n)) (ap (flat_map junk_line) (lines_none n))
 
-pub unmarked_lines : (n : ℕ) → header_lines (unmarked n) ≡ header_line n
-unmarked_lines n = ap (λ (x : List ℕ). header_line n ++ x) (no_lines n) ∙ append-nil (header_line n)
+pub unmarked_lines : (n : ℕ) → header_lines (unmarked n) ≡ count_line n
+unmarked_lines n = ap (λ (x : List ℕ). count_line n ++ x) (no_lines n) ∙ append-nil (count_line n)
 
 pub same_text : (n : ℕ) (gs : List Gate) → text_of (unmarked n) gs ≡ unmarked_text n gs
 same_text n gs = ap (λ (x : List ℕ). x ++ (gate_lines gs ++ end_line)) (unmarked_lines n)
@@ -43,7 +43,7 @@ no_groups n at ls s t =
 
 pub same_answer : (text : List ℕ) → NoMarkLine text → reading text ≡ unmarked_reading text
 unfolding reading unmarked_reading
-same_answer text none = go (header_on (first_line (lines_of text)))
+same_answer text none = go (count_on (first_line (lines_of text)))
   where
     at : ℕ
     at = line_size (first_line (lines_of text))
@@ -60,8 +60,8 @@ pub served_before : (text : List ℕ) (c : Reading) → unmarked_reading text �
 unfolding unmarked_reading
 served_before text c e =
     let l = first_line (lines_of text) in
-    let (n, a, b) = then_both (header_on l) _ c e in
-    go n (header_on l) (header_found l) a b
+    let (n, a, b) = then_both (count_on l) _ c e in
+    go n (count_on l) (header_found l) a b
   where
     walk : (n : ℕ) → n ≤ max_lines → (r : List ℕ) → lines_of r ≡ later_lines (lines_of text) → (o : Outcome Reading)
         → Walked (unmarked n) 1 [] (line_size (first_line (lines_of text))) r o → o ≡ served c → Before text c
@@ -93,13 +93,13 @@ served_now text c e plain =
     let (rest, good, t, k) = read_cascade text c e in
     let n : ℕ = c.header.lines in
     let after : List ℕ = gate_lines c.gates ++ (end_line ++ rest) in
-    let starts : text ≡ header_line n ++ after =
+    let starts : text ≡ count_line n ++ after =
     t
     ∙ append_assoc (header_lines c.header) (gate_lines c.gates ++ end_line) rest
     ∙ ap₂ (λ (x y : List ℕ). x ++ y) (ap header_lines plain ∙ unmarked_lines n) (append_assoc (gate_lines c.gates) end_line rest) in
     let no : (constant : Bool) → starts_mark constant (line_1 text) ≡ false =
     λ constant.
-    ap (λ (ls : List Line). starts_mark constant (first_line (later_lines ls))) (ap lines_of starts ∙ header_line_lem n after good.lines_high)
+    ap (λ (ls : List Line). starts_mark constant (first_line (later_lines ls))) (ap lines_of starts ∙ count_line_lem n after good.lines_high)
     ∙ no_mark_after n good.lines_high c.gates good.gates rest constant in
     sym (same_answer text no) ∙ e
 

@@ -8,7 +8,7 @@ use Rattle.circuit.specs.declared.file.scan.Numeral.{Numeral}
 use Rattle.circuit.specs.Gate.{max_lines}
 use Rattle.circuit.specs.Outcome.{Outcome, served, refused, and_then}
 use Rattle.circuit.specs.Text.{line_feed}
-use Rattle.circuit.specs.File.{Line, first_line, later_lines, lines_of, line_size, starts_mark, Marks, no_marks, mark_on, Group, group_from, header_on, header_of, read_from, Reading, reading}
+use Rattle.circuit.specs.File.{Line, first_line, later_lines, lines_of, line_size, starts_mark, Marks, no_marks, mark_on, Group, group_from, count_on, header_of, read_from, Reading, reading}
 use Rattle.circuit.specs.private.Scan.{line_at, count_next}
 use Rattle.circuit.specs.private.Marks.{marks_at, marks_of, mark_next, group_next, header_next}
 use Rattle.circuit.proofs.lemmas.Outcome.{never, unserved, then_served, then_refused, then_both, then_fails}
@@ -175,16 +175,16 @@ pub record Counted (text : List ℕ) (m : Numeral) : Type 0 where
   pub high : m.value ≤ max_lines
   pub inside : m.next ≤ length text
   pub early : 1 ≤ m.next
-  pub is : header_on (line_at text) ≡ served m.value
+  pub is : count_on (line_at text) ≡ served m.value
   pub size : line_size (line_at text) ≡ m.next
   pub later : later_lines (lines_of text) ≡ lines_of (drop m.next text)
 
 pub counted : (text : List ℕ) (m : Numeral) → count_next text ≡ served m → Counted text m
 counted text m e =
-    let (n, a, b) = then_both (header_on (line_at text)) _ m e in
+    let (n, a, b) = then_both (count_on (line_at text)) _ m e in
     let l = line_at text in
     let x : record { value = n; next = line_size l } ≡ m = unserved b in
-    let (high, d) = facts n (header_on l) (header_found l) a in
+    let (high, d) = facts n (count_on l) (header_found l) a in
     let c = cut_first text d in
     let s : length text ≡ length l.bytes + length (line_feed ∷ drop (line_size l) text) = ap length c.text ∙ length-append l.bytes _ in
     subst (Counted text) x (record { high = high; inside = omega arith; early = omega arith; is = a; size = refl; later = sym c.later })
@@ -212,7 +212,7 @@ module _ (text : List ℕ) where
       then_served _ _ m.value c.is
       ∙ ap₂ (λ (k : ℕ) (ls : List Line). rest_of m.value (group_from true m.value 1 k no_marks ls)) c.size c.later
 
-  count_bad : (number p : ℕ) → header_on (line_at text) ≡ refused number p → reading text ≡ refused number p
+  count_bad : (number p : ℕ) → count_on (line_at text) ≡ refused number p → reading text ≡ refused number p
   unfolding reading
   count_bad number p e = then_refused _ _ number p e
 

@@ -16,7 +16,7 @@ use Rattle.bits.proofs.Lowest.{lowest_below, lines_on, lines_done}
 use Rattle.circuit.specs.declared.gate.Gate.{Gate}
 use Rattle.circuit.specs.Gate.{max_lines, Control, control_at, controls_below, controls_of}
 use Rattle.circuit.proofs.lemmas.gate.Controls.{control_on, controls_lines}
-use Rattle.circuit.specs.Text.{tab, line_feed, number_text, control_text, controls_text, gate_text, gate_line, header_line}
+use Rattle.circuit.specs.Text.{tab, line_feed, number_text, control_text, controls_text, gate_text, gate_line, count_line}
 use Rattle.circuit.specs.private.Put.{mask_gate}
 use Rattle.circuit.specs.private.Scan.{width}
 use Rattle.circuit.proofs.lemmas.file.scan.Rest.{number_width}
@@ -176,7 +176,7 @@ pub gate_length : (g : Gate) → length (gate_line g) ≡ 3 + width g.target + l
 gate_length g =
     omega (arith, length-append (103 ∷ tab ∷ (number_text g.target ++ controls_text (controls_of g))) (line_feed ∷ []), length-append (number_text g.target) (controls_text (controls_of g)), number_width g.target)
 
-pub header_length : (n : ℕ) → length (header_line n) ≡ 7 + width n
+pub header_length : (n : ℕ) → length (count_line n) ≡ 7 + width n
 header_length n = omega (arith, length-append (number_text n) (line_feed ∷ []), number_width n)
 
 -- the same bytes, said in another way
@@ -233,5 +233,5 @@ line_length g = length-append (gate_text g) (line_feed ∷ [])
 pub text_length : (g : Gate) → length (gate_text g) ≡ length (103 ∷ tab ∷ number_text g.target) + length (controls_text (controls_of g))
 text_length g = omega (arith, length-append (number_text g.target) (controls_text (controls_of g)))
 
-pub header_text_length : (n : ℕ) → length (header_line n) ≡ length (108 ∷ 105 ∷ 110 ∷ 101 ∷ 115 ∷ tab ∷ number_text n) + 1
+pub header_text_length : (n : ℕ) → length (count_line n) ≡ length (108 ∷ 105 ∷ 110 ∷ 101 ∷ 115 ∷ tab ∷ number_text n) + 1
 header_text_length n = omega (arith, length-append (number_text n) (line_feed ∷ []))

@@ -7,7 +7,7 @@ use Rattle.bits.specs.Digits.{bit}
 use Rattle.circuit.specs.declared.header.Header.{Header}
 use Rattle.circuit.specs.Gate.{max_lines}
 use Rattle.circuit.specs.Header.{marks_good}
-use Rattle.circuit.specs.Text.{tab, line_feed, digit, number_text, header_line, const_line, junk_line, const_lines, junk_lines, header_lines}
+use Rattle.circuit.specs.Text.{tab, line_feed, digit, number_text, count_line, const_line, junk_line, const_lines, junk_lines, header_lines}
 use Rattle.circuit.specs.private.Put.{mark_text}
 use Rattle.circuit.specs.private.Scan.{width}
 use Rattle.circuit.proofs.lemmas.header.Marks.{marks_facts}
@@ -32,8 +32,8 @@ module _ (h : Header) (high : h.lines ≤ max_lines) (good : marks_good h ≡ tr
   pub junk_text : mark_text false h.junk 0 ≡ junk_lines h
   junk_text = let (c, j, v) = marks_facts h good in ap (flat_map junk_line) (lines_within_lines h.junk h.lines max_lines j high)
 
-  pub header_parts : length (header_lines h) ≡ length (header_line h.lines) + (length (const_lines h) + length (junk_lines h))
-  header_parts = omega (arith, length-append (header_line h.lines) (const_lines h ++ junk_lines h), length-append (const_lines h) (junk_lines h))
+  pub header_parts : length (header_lines h) ≡ length (count_line h.lines) + (length (const_lines h) + length (junk_lines h))
+  header_parts = omega (arith, length-append (count_line h.lines) (const_lines h ++ junk_lines h), length-append (const_lines h) (junk_lines h))
 
   pub header_long : 7 + width h.lines + (10 * ones h.constants + ones (h.constants / 2 ^ 10)) + (7 * ones h.junk + ones (h.junk / 2 ^ 10)) ≡ length (header_lines h)
   header_long =

@@ -15,7 +15,7 @@ use Rattle.circuit.specs.Outcome.{Outcome, served, refused, demand, and_then}
 use Rattle.circuit.specs.Refusal.{wrong_form, bad_line_count, line_outside, target_controlled, not_rising, too_many_gates}
 use Rattle.circuit.specs.Words.{line_count_good}
 use Rattle.circuit.specs.Text.{tab, line_feed, lines_word, gate_word, end_word, number_text}
-use Rattle.circuit.specs.File.{Line, no_line, first_line, lines_of, line_size, longer, fields_of, same, number_of, line_of, control_of, controls_from, among, rising_from, gate_of, closed_gate, gate_fields, gate_on, starts_fields, header_fields, header_on, is_end}
+use Rattle.circuit.specs.File.{Line, no_line, first_line, lines_of, line_size, longer, fields_of, same, number_of, line_of, control_of, controls_from, among, rising_from, gate_of, closed_gate, gate_fields, gate_on, starts_fields, count_fields, count_on, is_end}
 use Rattle.circuit.specs.private.Scan.{is_stop, field_at, line_at, width, numeral_at, added, later_fields, count_next, gate_next, line_next, control_next, controls_next}
 use Rattle.circuit.proofs.lemmas.Outcome.{never, unserved, demand_met, demand_failed, demanded, then_served, then_refused, then_both, then_fails}
 use Rattle.circuit.proofs.lemmas.file.Lines.{line_more, line_over, lines_none, part_over, parts_none, parts_some, same_self, same_true, true_same, lines_cut, cut_first, separated, whole, parts_back}
@@ -529,7 +529,7 @@ ends_there text at = starts_there text at (101 ∷ 110 ∷ 100 ∷ 10 ∷ []) �
 -- ---- the line count
 
 pub count_other : (r : List ℕ) → starts_with eqb r (108 ∷ 105 ∷ 110 ∷ 101 ∷ 115 ∷ 9 ∷ []) ≡ false → count_next r ≡ refused wrong_form 0
-unfolding header_fields
+unfolding count_fields
 count_other r e = then_refused _ _ wrong_form 0 (go (fields_of (line_at r).bytes) refl)
   where
     no : (f k : List ℕ) (fs : List (List ℕ)) → fields_of (line_at r).bytes ≡ f ∷ k ∷ fs → same f lines_word ≡ false
@@ -537,7 +537,7 @@ count_other r e = then_refused _ _ wrong_form 0 (go (fields_of (line_at r).bytes
         not_held (same f lines_word) (λ s.
         refuted e (word_starts lines_word r k fs (q ∙ ap (λ (x : List ℕ). x ∷ k ∷ fs) (same_true f lines_word s))))
 
-    go : (fs : List (List ℕ)) → fields_of (line_at r).bytes ≡ fs → header_fields (line_at r).ended fs ≡ refused wrong_form 0
+    go : (fs : List (List ℕ)) → fields_of (line_at r).bytes ≡ fs → count_fields (line_at r).ended fs ≡ refused wrong_form 0
     go [] q = refl
     go (f ∷ []) q = refl
     go (f ∷ k ∷ []) q = demand_failed {A = ℕ} _ _ _ _ (no f k [] q)
@@ -549,8 +549,8 @@ last_test ended [] n = demand ended wrong_form 0 (served n)
 last_test ended (x ∷ fs) n = refused wrong_form 0
 
 header_started : (ended : Bool) (k : List ℕ) (fs : List (List ℕ))
-    → header_fields ended (lines_word ∷ k ∷ fs) ≡ and_then (number_of 0 k) (λ n. demand (line_count_good n) bad_line_count 0 (last_test ended fs n))
-unfolding header_fields
+    → count_fields ended (lines_word ∷ k ∷ fs) ≡ and_then (number_of 0 k) (λ n. demand (line_count_good n) bad_line_count 0 (last_test ended fs n))
+unfolding count_fields
 header_started ended k [] = demand_met {A = ℕ} _ _ _ _ (same_self lines_word)
 header_started ended k (x ∷ fs) = demand_met {A = ℕ} _ _ _ _ (same_self lines_word)
 
@@ -565,11 +565,11 @@ module _ (r : List ℕ) (starts : starts_with eqb r (108 ∷ 105 ∷ 110 ∷ 101
   after : List ℕ
   after = drop (length (field_at (drop 6 r))) (drop 6 r)
 
-  header_parts : header_on (line_at r)
+  header_parts : count_on (line_at r)
       ≡ and_then (number_of 0 (field_at (drop 6 r))) (λ n. demand (line_count_good n) bad_line_count 0 (last_test (line_at r).ended (later_fields (fields_of (line_at after).bytes)) n))
   unfolding after
   header_parts =
-      ap (header_fields (line_at r).ended) (header_word.fields ∙ ap (λ (fs : List (List ℕ)). lines_word ∷ fs) (parted (drop 6 r)).fields)
+      ap (count_fields (line_at r).ended) (header_word.fields ∙ ap (λ (fs : List (List ℕ)). lines_word ∷ fs) (parted (drop 6 r)).fields)
       ∙ header_started (line_at r).ended (field_at (drop 6 r)) (later_fields (fields_of (line_at after).bytes))
 
   pub count_wrong : None ≡ numeral_at 6 (number_of 0 (field_at (drop 6 r))) → count_next r ≡ refused wrong_form 0
@@ -589,7 +589,7 @@ module _ (r : List ℕ) (starts : starts_with eqb r (108 ∷ 105 ∷ 110 ∷ 101
     count_outside e = then_refused _ _ bad_line_count 0 (header_parts ∙ then_served _ _ m.value told ∙ demand_failed {A = ℕ} _ _ _ _ e)
 
     module _ (inside : line_count_good m.value ≡ true) where
-      header_last : header_on (line_at r) ≡ last_test (line_at r).ended (later_fields (fields_of (line_at after).bytes)) m.value
+      header_last : count_on (line_at r) ≡ last_test (line_at r).ended (later_fields (fields_of (line_at after).bytes)) m.value
       header_last = header_parts ∙ then_served _ _ m.value told ∙ demand_met {A = ℕ} _ _ _ _ inside
 
       after_is : after ≡ drop (6 + width m.value) r
