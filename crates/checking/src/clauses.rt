@@ -50,6 +50,7 @@ pub fn emit(n: u64, words: &[u64], out: &mut [ClauseWord]) -> Result<Totals, Ref
     if (out.len() as u64) < totals.words {
         return Err(Refusal::NoRoom);
     }
+    // Its list is that of a pair without marks whose second cascade has no gates.
     crate::emission::put_list(Header::unmarked(n), words, &[], out);
     Ok(totals)
 }

@@ -128,7 +128,7 @@ fn put_differences(
     let mut lines = crate::faults::lines_below(n) & !junk;
     let mut used = used;
     let mut at = 0;
-    // A while, as for controls (`put_controls`); a `for` that passes over the junk lines takes eight times as long.
+    // A while, as for controls (`put_controls`); with a `for` that passes over the junk lines the emission of two short cascades takes three times as long.
     while lines != 0 {
         let line = circuit::gate::lowest(lines);
         used += 1;

@@ -32,8 +32,8 @@ up_from_more i (suc m) =
     ap (λ (l : List ℕ). i ∷ l) (up_from_more (suc i) m ∙ ap (λ (j : ℕ). up_from (suc i) m ++ (j ∷ [])) e)
 
 -- the lines below n that are not junk
-abbrev pub counted_below : ℕ → ℕ → List ℕ
-counted_below junk n = without_junk junk (up_from 0 n)
+abbrev pub lines_counted : ℕ → ℕ → List ℕ
+lines_counted junk n = without_junk junk (up_from 0 n)
 
 junk_append : (junk : ℕ) (xs ys : List ℕ) → without_junk junk (xs ++ ys) ≡ without_junk junk xs ++ without_junk junk ys
 unfolding without_junk
@@ -45,7 +45,7 @@ junk_append junk (x ∷ xs) ys = one (bit junk x) (junk_append junk xs ys)
     one true e = e
     one false e = ap (λ (l : List ℕ). x ∷ l) e
 
-pub counted_more : (junk n : ℕ) → counted_below junk (suc n) ≡ counted_below junk n ++ cond (bit junk n) [] (n ∷ [])
+pub counted_more : (junk n : ℕ) → lines_counted junk (suc n) ≡ lines_counted junk n ++ cond (bit junk n) [] (n ∷ [])
 unfolding without_junk
 counted_more junk n =
     let e : 0 + n ≡ n = omega arith in
@@ -53,14 +53,14 @@ counted_more junk n =
     ∙ junk_append junk (up_from 0 n) (n ∷ [])
 
 -- with the junk lines they are all
-pub counted_count : (junk n : ℕ) → length (counted_below junk n) + length (lines_in junk n) ≡ n
+pub counted_count : (junk n : ℕ) → length (lines_counted junk n) + length (lines_in junk n) ≡ n
 unfolding without_junk lines_in up_from
 counted_count junk zero = refl
 counted_count junk (suc n) =
     omega (
       arith,
       ap length (counted_more junk n),
-      length-append (counted_below junk n) (cond (bit junk n) [] (n ∷ [])),
+      length-append (lines_counted junk n) (cond (bit junk n) [] (n ∷ [])),
       length-append (lines_in junk n) (cond (bit junk n) (n ∷ []) []),
       one (bit junk n),
       counted_count junk n,
@@ -103,17 +103,17 @@ line_share mask junk hit n e =
 
 -- the mask has the lines that count and are hit
 pub lines_share : (mask junk : ℕ) (hit : ℕ → Bool) (n : ℕ) → ((k : ℕ) → k < n → bit mask k ≡ (hit k && not (bit junk k)))
-    → lines_sizes hit (counted_below junk n) ≡ share (length (counted_below junk n)) (length (lines_in mask n))
+    → lines_sizes hit (lines_counted junk n) ≡ share (length (lines_counted junk n)) (length (lines_in mask n))
 unfolding lines_sizes lines_in up_from without_junk
 lines_share mask junk hit zero same = refl
 lines_share mask junk hit (suc n) same =
     let last : List ℕ = cond (bit junk n) [] (n ∷ []) in
-    let more : lines_sizes hit (counted_below junk (suc n)) ≡ added (share (length (counted_below junk n)) (length (lines_in mask n))) (lines_sizes hit last) =
+    let more : lines_sizes hit (lines_counted junk (suc n)) ≡ added (share (length (lines_counted junk n)) (length (lines_in mask n))) (lines_sizes hit last) =
     ap (lines_sizes hit) (counted_more junk n)
-    ∙ lines_append hit (counted_below junk n) last
+    ∙ lines_append hit (lines_counted junk n) last
     ∙ ap (λ (t : Totals). added t (lines_sizes hit last)) (lines_share mask junk hit n (λ k h. same k (omega arith))) in
     let one = line_share mask junk hit n (same n (omega arith)) in
-    let long = ap length (counted_more junk n) ∙ length-append (counted_below junk n) last in
+    let long = ap length (counted_more junk n) ∙ length-append (lines_counted junk n) last in
     let found = length-append (lines_in mask n) (cond (bit mask n) (n ∷ []) []) in
     totals_same _ _
     (omega (arith, ap (λ (t : Totals). t.variables) more, ap (λ (t : Totals). t.variables) one, long))
@@ -126,8 +126,8 @@ unfolding without_junk
 none_left_out [] = refl
 none_left_out (k ∷ ks) = cond-false (bit 0 k) (without_junk 0 ks) (k ∷ without_junk 0 ks) (bit_none k) ∙ ap (λ (l : List ℕ). k ∷ l) (none_left_out ks)
 
-pub all_counted : (n : ℕ) → counted_below 0 n ≡ up_from 0 n
-all_counted n = none_left_out (up_from 0 n)
+pub none_junk : (n : ℕ) → lines_counted 0 n ≡ up_from 0 n
+none_junk n = none_left_out (up_from 0 n)
 
 -- so the sums give the sizes of a cascade's list
 pub sizes_totals : (n : ℕ) (gs : List Gate) → sizes_of n gs ≡ list_totals n 0 n (length (lines_in (mask_where n (targeted gs)) n)) (gates_sizes gs)
@@ -140,9 +140,9 @@ sizes_totals n gs =
     ∙ ap (λ (b : Bool). b && targeted gs k) (lt-ltb k n h)
     ∙ sym (ap (λ (b : Bool). targeted gs k && not b) (bit_none k) ∙ and-true (targeted gs k)) in
     let lines : lines_sizes (targeted gs) (up_from 0 n) ≡ share n (length (lines_in mask n)) =
-    ap (lines_sizes (targeted gs)) (sym (all_counted n))
+    ap (lines_sizes (targeted gs)) (sym (none_junk n))
     ∙ lines_share mask 0 (targeted gs) n same
-    ∙ ap (λ (k : ℕ). share k (length (lines_in mask n))) (ap length (all_counted n) ∙ length_up_from 0 n) in
+    ∙ ap (λ (k : ℕ). share k (length (lines_in mask n))) (ap length (none_junk n) ∙ length_up_from 0 n) in
     ap (λ (t : Totals). added (totals n 0 0) (added (gates_sizes gs) (added t (totals 0 1 (n + 2))))) lines
     ∙ totals_same _ _ (omega arith) (omega arith) (omega arith)
 

@@ -18,7 +18,7 @@ use Rattle.checking.proofs.lemmas.clauses.Forced.{used_more, length_up_from}
 use Rattle.checking.proofs.lemmas.clauses.Fits.{used_bound}
 use Rattle.checking.proofs.lemmas.clauses.Reading.{stored_append}
 use Rattle.checking.proofs.lemmas.emission.Gates.{ready_from, put_from, gates_append, used_append, current_append}
-use Rattle.checking.proofs.lemmas.emission.Rest.{rest, back, at_inside, rest_room, put_next}
+use Rattle.checking.proofs.lemmas.emission.Rest.{lent, with_lent, rest_room, put_next}
 use Rattle.checking.proofs.lemmas.pair_emission.Sums.{targeted_miter, unmarked_lines}
 
 -- ---- the list is these clauses, those of the d, and the last one
@@ -106,11 +106,11 @@ module _ (h : Header) (a b : List Gate) (left right : List ℕ) (first : List �
   list = ready.list
 
   -- the constants', and A's
-  abbrev constant_words : List ℤ
-  constant_words = stored (constant_clauses h)
+  abbrev constants_part : List ℤ
+  constants_part = stored (constant_clauses h)
 
-  abbrev a_words : List ℤ
-  a_words = stored (gates_clauses n input_of a)
+  abbrev first_part : List ℤ
+  first_part = stored (gates_clauses n input_of a)
 
   front_long : length (front_words h a b) ≤ length first
   front_long =
@@ -130,57 +130,51 @@ module _ (h : Header) (a b : List Gate) (left right : List ℕ) (first : List �
 
   -- with marks: A's gates from the inputs, and B's
   module _ (m : marked h ≡ true) where
-    abbrev b_words : List ℤ
-    b_words = stored (gates_clauses middle input_of b)
+    abbrev second_part : List ℤ
+    second_part = stored (gates_clauses middle input_of b)
 
-    marked_words : front_words h a b ≡ (constant_words ++ a_words) ++ b_words
+    marked_words : front_words h a b ≡ (constants_part ++ first_part) ++ second_part
     marked_words =
         ap stored (cond-true (marked h) _ _ m)
         ∙ stored_append (constant_clauses h) (gates_clauses n input_of a ++ gates_clauses middle input_of b)
-        ∙ ap (λ (l : List ℤ). constant_words ++ l) (stored_append (gates_clauses n input_of a) (gates_clauses middle input_of b))
-        ∙ sym (append_assoc constant_words a_words b_words)
+        ∙ ap (λ (l : List ℤ). constants_part ++ l) (stored_append (gates_clauses n input_of a) (gates_clauses middle input_of b))
+        ∙ sym (append_assoc constants_part first_part second_part)
 
-    both_long : length ((constant_words ++ a_words) ++ b_words) ≤ length first
+    both_long : length ((constants_part ++ first_part) ++ second_part) ≤ length first
     both_long = omega (arith, ap length marked_words, front_long)
 
-    one_long : length (constant_words ++ a_words) ≤ length first
-    one_long = omega (arith, both_long, length-append (constant_words ++ a_words) b_words)
+    one_long : length (constants_part ++ first_part) ≤ length first
+    one_long = omega (arith, both_long, length-append (constants_part ++ first_part) second_part)
 
     pub constants_ready : ConstantsReady h (length first)
-    constants_ready = record { lines = list.lines; below = list.constants; enough = omega (arith, one_long, length-append constant_words a_words) }
+    constants_ready = record { lines = list.lines; below = list.constants; enough = omega (arith, one_long, length-append constants_part first_part) }
 
-    module _ (start : ℕ) (o : List ℤ) (p : Put start o constant_words first) where
-      pub start_inside : start ≤ length o
-      start_inside = at_inside constant_words a_words first o start p one_long
-
-      pub first_ready : GatesReady n a n left (length (rest start o))
+    module _ (start : ℕ) (o : List ℤ) (p : Put start o constants_part first) where
+      pub first_ready : GatesReady n a n left (length (lent start o))
       first_ready =
-          ready_from n a left input_of list.lines list.first ready.left_inputs n (length (rest start o)) (omega (arith, list.lines, list.few)) ready.long_left left_small
-          (rest_room constant_words a_words first o start p one_long)
+          ready_from n a left input_of list.lines list.first ready.left_inputs n (length (lent start o)) (omega (arith, list.lines, list.few)) ready.long_left left_small
+          (rest_room constants_part first_part first o start p one_long)
 
-      module _ (after : List ℕ) (l : List ℤ) (words used : ℕ) (q : GatesPut n a n (by_line left) after (rest start o) l words used) where
-        of_a : GatesPut n a n input_of after (rest start o) l words used
-        of_a = put_from n a left input_of list.lines list.first ready.left_inputs n n after (rest start o) l words used refl q
+      module _ (after : List ℕ) (l : List ℤ) (words used : ℕ) (q : GatesPut n a n (by_line left) after (lent start o) l words used) where
+        of_a : GatesPut n a n input_of after (lent start o) l words used
+        of_a = put_from n a left input_of list.lines list.first ready.left_inputs n n after (lent start o) l words used refl q
 
-        put_a : Put (start + words) (back start o l) (constant_words ++ a_words) first
-        put_a = put_next constant_words a_words first o start p one_long l words of_a.written
+        put_a : Put (start + words) (with_lent start o l) (constants_part ++ first_part) first
+        put_a = put_next constants_part first_part first o start p one_long l words of_a.written
 
-        pub a_inside : start + words ≤ length (back start o l)
-        a_inside = at_inside (constant_words ++ a_words) b_words first (back start o l) (start + words) put_a both_long
-
-        pub second_ready : GatesReady n b used right (length (rest (start + words) (back start o l)))
+        pub second_ready : GatesReady n b used right (length (lent (start + words) (with_lent start o l)))
         second_ready =
             let more = used_more n a in
-            let room = rest_room (constant_words ++ a_words) b_words first (back start o l) (start + words) put_a both_long in
-            ready_from n b right input_of list.lines list.second ready.right_inputs used (length (rest (start + words) (back start o l)))
+            let room = rest_room (constants_part ++ first_part) second_part first (with_lent start o l) (start + words) put_a both_long in
+            ready_from n b right input_of list.lines list.second ready.right_inputs used (length (lent (start + words) (with_lent start o l)))
             (omega (arith, list.lines, list.few, q.variables, used_bound n a)) ready.long_right (λ k s. omega (arith, right_small k s, q.variables, more))
-            (subst (λ (u : ℕ). length (stored (gates_clauses u input_of b)) ≤ length (rest (start + words) (back start o l))) (sym q.variables) room)
+            (subst (λ (u : ℕ). length (stored (gates_clauses u input_of b)) ≤ length (lent (start + words) (with_lent start o l))) (sym q.variables) room)
 
-        pub marked_put : (after' : List ℕ) (l' : List ℤ) (words' used' : ℕ) → GatesPut n b used (by_line right) after' (rest (start + words) (back start o l)) l' words' used'
-            → FrontPut h a b after after' first (back (start + words) (back start o l) l') (start + words + words') used'
+        pub marked_put : (after' : List ℕ) (l' : List ℤ) (words' used' : ℕ) → GatesPut n b used (by_line right) after' (lent (start + words) (with_lent start o l)) l' words' used'
+            → FrontPut h a b after after' first (with_lent (start + words) (with_lent start o l) l') (start + words + words') used'
         marked_put after' l' words' used' q' =
-            let of_b = put_from n b right input_of list.lines list.second ready.right_inputs used middle after' (rest (start + words) (back start o l)) l' words' used' q.variables q' in
-            let whole = put_next (constant_words ++ a_words) b_words first (back start o l) (start + words) put_a both_long l' words' of_b.written in
+            let of_b = put_from n b right input_of list.lines list.second ready.right_inputs used middle after' (lent (start + words) (with_lent start o l)) l' words' used' q.variables q' in
+            let whole = put_next (constants_part ++ first_part) second_part first (with_lent start o l) (start + words) put_a both_long l' words' of_b.written in
             let more = used_more middle b in
             record {
               variables = of_b.variables ∙ sym (cond-true (marked h) _ _ m);
@@ -188,20 +182,20 @@ module _ (h : Header) (a b : List Gate) (left right : List ℕ) (first : List �
               right_holds = λ k s. of_b.currents k s ∙ ap (λ (f : ℕ → ℕ). f k) (sym (cond-true (marked h) (current_after middle input_of b) _ m));
               left_small = λ k s. omega (arith, of_a.small k s, of_a.variables, of_b.variables, more);
               right_small = of_b.small;
-              written = subst (λ (ws : List ℤ). Put (start + words + words') (back (start + words) (back start o l) l') ws first) (sym marked_words) whole;
+              written = subst (λ (ws : List ℤ). Put (start + words + words') (with_lent (start + words) (with_lent start o l) l') ws first) (sym marked_words) whole;
             }
 
   -- without marks: A's gates from the inputs, and B's from its last one on
   module _ (m : marked h ≡ false) where
-    abbrev back_words : List ℤ
-    back_words = stored (gates_clauses middle (current_after n input_of a) (inverse b))
+    abbrev reversed_part : List ℤ
+    reversed_part = stored (gates_clauses middle (current_after n input_of a) (inverse b))
 
-    unmarked_words : front_words h a b ≡ a_words ++ back_words
+    unmarked_words : front_words h a b ≡ first_part ++ reversed_part
     unmarked_words =
         ap stored (cond-false (marked h) _ _ m ∙ gates_append n input_of a (inverse b))
         ∙ stored_append (gates_clauses n input_of a) (gates_clauses middle (current_after n input_of a) (inverse b))
 
-    miter_long : length (a_words ++ back_words) ≤ length first
+    miter_long : length (first_part ++ reversed_part) ≤ length first
     miter_long = omega (arith, ap length unmarked_words, front_long)
 
     inverse_good : all_valid n (inverse b) ≡ true
@@ -210,28 +204,25 @@ module _ (h : Header) (a b : List Gate) (left right : List ℕ) (first : List �
     pub miter_ready : GatesReady n a n right (length first)
     miter_ready =
         ready_from n a right input_of list.lines list.first ready.right_inputs n (length first) (omega (arith, list.lines, list.few)) ready.long_right right_small
-        (omega (arith, miter_long, length-append a_words back_words))
+        (omega (arith, miter_long, length-append first_part reversed_part))
 
     module _ (after : List ℕ) (o : List ℤ) (words used : ℕ) (kept : length after ≡ length right) (q : GatesPut n a n (by_line right) after first o words used) where
       miter_a : GatesPut n a n input_of after first o words used
       miter_a = put_from n a right input_of list.lines list.first ready.right_inputs n n after first o words used refl q
 
-      pub miter_inside : words ≤ length o
-      miter_inside = at_inside a_words back_words first o words miter_a.written miter_long
-
-      pub back_ready : GatesReady n (inverse b) used after (length (rest words o))
+      pub back_ready : GatesReady n (inverse b) used after (length (lent words o))
       back_ready =
-          let room = rest_room a_words back_words first o words miter_a.written miter_long in
-          ready_from n (inverse b) after (current_after n input_of a) list.lines inverse_good miter_a.currents used (length (rest words o))
+          let room = rest_room first_part reversed_part first o words miter_a.written miter_long in
+          ready_from n (inverse b) after (current_after n input_of a) list.lines inverse_good miter_a.currents used (length (lent words o))
           (omega (arith, list.lines, list.few, q.variables, used_bound n a, inverse_length b)) (omega (arith, kept, ready.long_right)) q.small
-          (subst (λ (u : ℕ). length (stored (gates_clauses u (current_after n input_of a) (inverse b))) ≤ length (rest words o)) (sym q.variables) room)
+          (subst (λ (u : ℕ). length (stored (gates_clauses u (current_after n input_of a) (inverse b))) ≤ length (lent words o)) (sym q.variables) room)
 
-      pub unmarked_put : (after' : List ℕ) (l : List ℤ) (words' used' : ℕ) → GatesPut n (inverse b) used (by_line after) after' (rest words o) l words' used'
-          → FrontPut h a b left after' first (back words o l) (words + words') used'
+      pub unmarked_put : (after' : List ℕ) (l : List ℤ) (words' used' : ℕ) → GatesPut n (inverse b) used (by_line after) after' (lent words o) l words' used'
+          → FrontPut h a b left after' first (with_lent words o l) (words + words') used'
       unmarked_put after' l words' used' q' =
           let of_b =
-          put_from n (inverse b) after (current_after n input_of a) list.lines inverse_good miter_a.currents used middle after' (rest words o) l words' used' q.variables q' in
-          let whole = put_next a_words back_words first o words miter_a.written miter_long l words' of_b.written in
+          put_from n (inverse b) after (current_after n input_of a) list.lines inverse_good miter_a.currents used middle after' (lent words o) l words' used' q.variables q' in
+          let whole = put_next first_part reversed_part first o words miter_a.written miter_long l words' of_b.written in
           let more_a = used_more n a in
           let more_b = used_more middle (inverse b) in
           record {
@@ -242,5 +233,5 @@ module _ (h : Header) (a b : List Gate) (left right : List ℕ) (first : List �
                 ∙ ap (λ (f : ℕ → ℕ). f k) (sym (current_append n input_of a (inverse b)) ∙ sym (cond-false (marked h) (current_after middle input_of b) _ m));
             left_small = λ k s. omega (arith, left_small k s, of_b.variables, more_a, more_b);
             right_small = of_b.small;
-            written = subst (λ (ws : List ℤ). Put (words + words') (back words o l) ws first) (sym unmarked_words) whole;
+            written = subst (λ (ws : List ℤ). Put (words + words') (with_lent words o l) ws first) (sym unmarked_words) whole;
           }

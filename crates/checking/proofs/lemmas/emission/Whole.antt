@@ -23,7 +23,7 @@ use Rattle.checking.proofs.lemmas.clauses.Maps.{differences_local}
 use Rattle.checking.proofs.lemmas.clauses.Forced.{used_more}
 use Rattle.checking.proofs.lemmas.clauses.Sums.{last_sizes}
 use Rattle.checking.proofs.lemmas.emission.Front.{front_words, lines_words, last_part, list_words}
-use Rattle.checking.proofs.lemmas.emission.Rest.{rest, back, rest_room, put_next}
+use Rattle.checking.proofs.lemmas.emission.Rest.{lent, with_lent, rest_room, put_next}
 use Rattle.checking.proofs.lemmas.pair_emission.Fits.{counted_below, counted_few}
 use Rattle.checking.proofs.lemmas.pair_emission.Sums.{targeted_miter}
 
@@ -124,7 +124,7 @@ module _ (h : Header) (a b : List Gate) (first : List ℤ) (ready : ListReady h 
     used_few : used + h.lines < word_limit
     used_few = omega (arith, p.variables, few_used h a b, ready.lines, ready.few)
 
-    pub lines_ready : h.lines ≤ length left → h.lines ≤ length right → LinesReady h.lines h.junk left right used (length (rest at out))
+    pub lines_ready : h.lines ≤ length left → h.lines ≤ length right → LinesReady h.lines h.junk left right used (length (lent at out))
     lines_ready long_left long_right =
         record {
           lines = ready.lines;
@@ -136,14 +136,11 @@ module _ (h : Header) (a b : List Gate) (first : List ℤ) (ready : ListReady h 
           enough = omega (arith, ap length same_lines, rest_room (front_words h a b) (lines_words h a b) first out at p.written most_long);
         }
 
-    module _ (last : List ℤ) (words end : ℕ) (q : LinesPut h.lines h.junk left right used (rest at out) last words end) where
-      put_lines : Put (at + words) (back at out last) (front_words h a b ++ lines_words h a b) first
+    module _ (last : List ℤ) (words end : ℕ) (q : LinesPut h.lines h.junk left right used (lent at out) last words end) where
+      put_lines : Put (at + words) (with_lent at out last) (front_words h a b ++ lines_words h a b) first
       put_lines =
           put_next (front_words h a b) (lines_words h a b) first out at p.written most_long last words
-          (subst (λ (ws : List ℤ). Put words last ws (rest at out)) same_lines q.written)
-
-      pub some_used : used ≤ end
-      some_used = omega (arith, q.variables)
+          (subst (λ (ws : List ℤ). Put words last ws (lent at out)) same_lines q.written)
 
       counted : end - used ≡ count
       counted = omega (arith, q.variables)
@@ -157,13 +154,13 @@ module _ (h : Header) (a b : List Gate) (first : List ℤ) (ready : ListReady h 
       last_long : length last_words ≡ count + 2
       last_long = ap (λ (t : Totals). t.words) (last_sizes (suc (front_used h a b)) count)
 
-      pub last_room : end - used + 2 ≤ length (rest (at + words) (back at out last))
-      last_room = omega (arith, counted, last_long, rest_room (front_words h a b ++ lines_words h a b) last_words first (back at out last) (at + words) put_lines whole_long)
+      pub last_room : end - used + 2 ≤ length (lent (at + words) (with_lent at out last))
+      last_room = omega (arith, counted, last_long, rest_room (front_words h a b ++ lines_words h a b) last_words first (with_lent at out last) (at + words) put_lines whole_long)
 
-      pub list_filled : (all : List ℤ) → all ≡ over (last_stored (end - used) used) (rest (at + words) (back at out last))
-          → back (at + words) (back at out last) all ≡ over (stored (pair_clauses h a b)) first
+      pub list_filled : (all : List ℤ) → all ≡ over (last_stored (end - used) used) (lent (at + words) (with_lent at out last))
+          → with_lent (at + words) (with_lent at out last) all ≡ over (stored (pair_clauses h a b)) first
       list_filled all e =
           let same : last_stored (end - used) used ≡ last_words = ap₂ last_stored counted p.variables in
-          (put_next (front_words h a b ++ lines_words h a b) last_words first (back at out last) (at + words) put_lines whole_long all (length last_words)
-          (record { count = refl; buffer = e ∙ ap (λ (ws : List ℤ). over ws (rest (at + words) (back at out last))) same })).buffer
+          (put_next (front_words h a b ++ lines_words h a b) last_words first (with_lent at out last) (at + words) put_lines whole_long all (length last_words)
+          (record { count = refl; buffer = e ∙ ap (λ (ws : List ℤ). over ws (lent (at + words) (with_lent at out last))) same })).buffer
           ∙ ap (λ (ws : List ℤ). over ws first) (sym (list_words h a b))

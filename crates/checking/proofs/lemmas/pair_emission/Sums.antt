@@ -27,7 +27,7 @@ use Rattle.checking.specs.Miter.{miter_gates}
 use Rattle.checking.specs.Pair.{constant_clause, constant_clauses, without_junk, counted_lines, either_targets, used_after_both, side_by_side, pair_clauses, pair_variables, pair_sizes_of}
 use Rattle.checking.proofs.lemmas.clauses.Forced.{length_up_from}
 use Rattle.checking.proofs.lemmas.clauses.Sums.{sizes_in, sizes_append, gates_sizes_lem, used_sizes, lines_sizes_lem, last_sizes, sizes_list, totals_same}
-use Rattle.checking.proofs.lemmas.clauses.Totals.{counted_count, lines_share, all_counted}
+use Rattle.checking.proofs.lemmas.clauses.Totals.{counted_count, lines_share, none_junk}
 use Rattle.checking.proofs.lemmas.faults.Masks.{flipped, mask_below, mask_bit, all_bit}
 
 -- ---- the list of a pair side by side
@@ -111,7 +111,7 @@ unmarked_masks h e =
 
 -- every line counts
 pub unmarked_lines : (h : Header) → marked h ≡ false → counted_lines h ≡ up_from 0 h.lines
-unmarked_lines h e = ap (λ (x : ℕ). without_junk x (up_from 0 h.lines)) (unmarked_masks h e).1 ∙ all_counted h.lines
+unmarked_lines h e = ap (λ (x : ℕ). without_junk x (up_from 0 h.lines)) (unmarked_masks h e).1 ∙ none_junk h.lines
 
 pub miter_sizes : (h : Header) (a b : List Gate) → marked h ≡ false → pair_sizes_of h a b ≡ sizes_of h.lines (miter_gates a b)
 unfolding pair_sizes_of sizes_of
