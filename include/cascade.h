@@ -9,20 +9,20 @@
  * FILES. A cascade file is text. Lines end in LF, fields are parted by one tab (written -> here):
  *
  *     lines->3             first: the number of lines, 1 to 64
- *     const->2->0          a constant: a line and the value that its input has, 0 or 1
+ *     const->2->0          a constant line and its value, 0 or 1
  *     junk->1              a junk line, whose output is ignored
  *     g->2->+0->-1         a gate: its target, then each control as + or - and its line, by rising line
  *     end                  last
  *
- * All constants stand before all junk lines, each by rising line, and all of these before the gates.
+ * Constant lines stand first, then junk lines, each by rising line, then the gates.
  * Numbers are decimal, of one or two digits, without a leading zero.
  *
- * HEADERS. A header has the line count and the marks of a cascade: the mask of its constants, that of
- * those with value 1, and that of its junk lines. A line may be both; without marks all three are 0. A
- * state is permitted where it has the value of each constant. Two cascades with the same marks are equal
- * where on each permitted state all lines but the junk ones come out alike. Run, inverse, miter, step,
- * reduce, sizes, emit and the pick of the one with fewer gates take gates without marks; steps and
- * reductions on each of two marked cascades alone change nothing of whether and where the two differ.
+ * MARKS. Calls that take a header (struct cascade_header) know constant lines, whose input is fixed, and
+ * junk lines, whose output is ignored; a line may be both. A state is permitted where each constant line
+ * has its value. Two cascades differ on a permitted state where some line that is not junk comes out
+ * differently, and are equal where they differ on none. A cascade without marks has three masks of 0. The
+ * other calls take gates without marks. Steps and reductions on each of two marked cascades alone leave
+ * the states on which the two differ.
  *
  * ANSWERS. Every call tests its input. `number` is 0 where the call is served, and else says why it
  * is refused (enum cascade_number); `place` says where, and is 0 where nothing else is said. So test
@@ -100,12 +100,12 @@ enum cascade_number {
     CASCADE_TOO_MANY_GATES = 6,     /* more gates than the limit; of a file: at the first gate line too many */
     CASCADE_NO_GATE = 7,            /* words that form no gate on these lines; at the gate's index */
     CASCADE_LINE_COUNTS_DIFFER = 8, /* two cascades on different line counts */
-    CASCADE_BAD_STATE = 9,          /* a state that is not permitted, or has a bit above the lines; at its index in a list of states */
+    CASCADE_BAD_STATE = 9,          /* a state with a bit above the lines, or that breaks a constant; at its index in a list of states */
     CASCADE_NO_ROOM = 10,           /* the buffer is shorter than the answer */
     CASCADE_BAD_WORD_COUNT = 11,    /* the number of words is no multiple of three */
     CASCADE_AGREEING_STATE = 12,    /* a state on which suspect and reference agree; at its index */
     CASCADE_TOO_WIDE = 13,          /* a sweep over more than 16 lines */
-    CASCADE_BAD_MARK = 14,          /* a mark on no line, value 1 on no constant; of a file: a mark on no line or not above the one before, at the file line */
+    CASCADE_BAD_MARK = 14,          /* a mark on no line of the cascade, or value 1 on a line that is no constant; of a file: a mark on no line or not above the one before, at the file line */
     CASCADE_MARKS_DIFFER = 15       /* two cascades with different marks */
 };
 /* File lines count from 0, the header being 0; a missing line has the next index. Gates and states
@@ -126,7 +126,8 @@ struct cascade_gate {
     uint64_t positive, negative, target;
 };
 
-/* The line count; the masks of the constants, of those with value 1, and of the junk lines. */
+/* The line count of a cascade, the mask of its constant lines, the mask of those whose constant is 1,
+ * and the mask of its junk lines. */
 struct cascade_header {
     uint64_t lines, constants, values, junk;
 };
@@ -224,7 +225,7 @@ struct cascade_sizes_answer cascade_pair_sizes(struct cascade_header a_header, c
 struct cascade_sizes_answer cascade_pair_emit(struct cascade_header a_header, const uint64_t *a, size_t a_len, struct cascade_header b_header, const uint64_t *b, size_t b_len, int16_t *out, size_t out_len);
 
 /* The lowest permitted state on which two cascades differ, found by trying all. Refused with 2, 14, 11,
- * 6, 7 of each, 8, 15, 13. */
+ * 6, 7 of the first, the same of the second, 8, 15, 13. */
 struct cascade_state_answer cascade_first_difference(struct cascade_header a_header, const uint64_t *a, size_t a_len, struct cascade_header b_header, const uint64_t *b, size_t b_len);
 
 /* Whether two cascades differ on a state. Refused with 2, 14, 11, 6, 7 of each, 8, 15, 9. */
@@ -234,8 +235,9 @@ struct cascade_differs_answer cascade_differs(struct cascade_header a_header, co
 struct cascade_fewer_answer cascade_fewer_gates(uint64_t na, const uint64_t *a, size_t a_len, uint64_t nb, const uint64_t *b, size_t b_len);
 
 /* Two masks a gate of the suspect: the lines that may be a missing positive control of it, and a
- * missing negative one, for all given states, on each of which suspect and reference differ. The
- * answer counts the suspect's gates. Refused with 2, 14, 11, 6, 7 of each, 8, 15, 9, 12, 10. */
+ * missing negative one, for all given states, on each of which suspect and reference differ. It may be
+ * a constant or a junk line. The answer counts the suspect's gates. Refused with 2, 14, 11, 6, 7 of
+ * each, 8, 15, 9, 12, 10. */
 struct cascade_count_answer cascade_fault_masks(struct cascade_header a_header, const uint64_t *suspect, size_t suspect_len, struct cascade_header b_header, const uint64_t *reference, size_t reference_len, const uint64_t *states, size_t states_len, uint64_t *out, size_t out_len);
 
 #ifdef __cplusplus

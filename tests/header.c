@@ -1,5 +1,5 @@
 /* include/cascade.h against the library: the fields of each struct by their places, the names of
- * numbers and limits, null pointers, stack, and rows of document 01. */
+ * numbers and limits, null pointers, stack, marks, and rows of document 01. */
 #define _DEFAULT_SOURCE
 #include "cascade.h"
 #include <stdio.h>
@@ -81,10 +81,9 @@ static void expect(const char *row, uint64_t got, uint64_t right)
     }
 }
 
-/* A header without marks, and one with. */
-static struct cascade_header plain(uint64_t lines)
+static struct cascade_header unmarked(uint64_t lines)
 {
-    return (struct cascade_header){.lines = lines};
+    return (struct cascade_header){lines, 0, 0, 0};
 }
 
 static struct cascade_header marked(uint64_t lines, uint64_t constants, uint64_t values, uint64_t junk)
@@ -125,7 +124,6 @@ static void fields(void)
     expect("a pair, a drop and a turn: gates", reduce.gates, 3);
     expect("a pair, a drop and a turn: pairs", reduce.pairs, 1);
     expect("a pair, a drop and a turn: merges", reduce.merges, 2);
-    /* lines 0 and 1 are 1 and 0, and line 3 is junk: the same list without the junk line's d */
     sizes = cascade_pair_sizes(marked(4, 3, 1, 8), two, 6, marked(4, 3, 1, 8), two, 3);
     expect("sizes of a marked pair: variables", sizes.variables, 10);
     expect("sizes of a marked pair: clauses", sizes.clauses, 9);
@@ -145,16 +143,10 @@ static void fields(void)
     expect("marks read: junk lines", read.junk, 8);
     expect("marks read: gates", read.gates, 0);
     expect("marks read: bytes", read.taken, sizeof text - 1);
-    struct cascade_state_answer first = cascade_first_difference(plain(3), toffoli, 3, plain(3), toffoli, 0);
+    struct cascade_state_answer first = cascade_first_difference(unmarked(3), toffoli, 3, unmarked(3), toffoli, 0);
     expect("first difference to no gate found", first.found, 1);
     expect("first difference to no gate", first.state, 3);
-    first = cascade_first_difference(marked(3, 4, 4, 2), toffoli, 3, marked(3, 4, 4, 2), toffoli, 0);
-    expect("first difference with line 2 at 1", first.state, 7);
-    first = cascade_first_difference(marked(3, 1, 0, 0), toffoli, 3, marked(3, 1, 0, 0), toffoli, 0);
-    expect("first difference with line 0 at 0: found", first.found, 0);
-    first = cascade_first_difference(marked(3, 0, 0, 4), toffoli, 3, marked(3, 0, 0, 4), toffoli, 0);
-    expect("first difference with line 2 junk: found", first.found, 0);
-    struct cascade_differs_answer differs = cascade_differs(plain(3), toffoli, 3, plain(3), one_control, 3, 1);
+    struct cascade_differs_answer differs = cascade_differs(unmarked(3), toffoli, 3, unmarked(3), one_control, 3, 1);
     expect("differs number", differs.number, 0);
     expect("differs on 1", differs.differs, 1);
     struct cascade_fewer_answer fewer = cascade_fewer_gates(2, three, 9, 2, two, 6);
@@ -176,7 +168,7 @@ static void refusals(void)
     uint8_t bytes[64];
     int16_t clauses[64];
     REFUSED(cascade_read(text, sizeof text - 1, out, 12), 3, 1);
-    REFUSED(cascade_write(plain(2), bad, 6, bytes, 64), 7, 1);
+    REFUSED(cascade_write(unmarked(2), bad, 6, bytes, 64), 7, 1);
     REFUSED(cascade_write(marked(2, 4, 0, 0), bad, 5, bytes, 64), 14, 0);
     REFUSED(cascade_run(2, bad, 6, 0), 7, 1);
     REFUSED(cascade_inverse(2, bad, 6, out, 12), 7, 1);
@@ -186,29 +178,49 @@ static void refusals(void)
     REFUSED(cascade_reduce(2, bad, 6), 7, 1);
     REFUSED(cascade_sizes(2, bad, 6), 7, 1);
     REFUSED(cascade_emit(2, bad, 6, clauses, 64), 7, 1);
-    REFUSED(cascade_pair_sizes(plain(2), good, 6, plain(2), bad, 6), 7, 1);
-    REFUSED(cascade_pair_sizes(plain(2), good, 6, marked(2, 1, 2, 0), bad, 6), 14, 0);
-    REFUSED(cascade_pair_sizes(plain(2), good, 6, marked(3, 1, 0, 0), good, 6), 8, 0);
-    REFUSED(cascade_pair_sizes(plain(2), good, 6, marked(2, 1, 0, 0), good, 6), 15, 0);
-    REFUSED(cascade_pair_emit(plain(2), good, 6, plain(2), bad, 6, clauses, 64), 7, 1);
-    REFUSED(cascade_pair_emit(plain(2), good, 6, marked(2, 0, 0, 4), bad, 6, clauses, 64), 14, 0);
-    REFUSED(cascade_pair_emit(plain(2), good, 6, marked(2, 0, 0, 1), good, 6, clauses, 64), 15, 0);
+    REFUSED(cascade_pair_sizes(unmarked(2), good, 6, unmarked(2), bad, 6), 7, 1);
+    REFUSED(cascade_pair_sizes(unmarked(2), good, 6, marked(2, 1, 2, 0), bad, 6), 14, 0);
+    REFUSED(cascade_pair_sizes(unmarked(2), good, 6, marked(3, 1, 0, 0), good, 6), 8, 0);
+    REFUSED(cascade_pair_sizes(unmarked(2), good, 6, marked(2, 1, 0, 0), good, 6), 15, 0);
+    REFUSED(cascade_pair_emit(unmarked(2), good, 6, unmarked(2), bad, 6, clauses, 64), 7, 1);
+    REFUSED(cascade_pair_emit(unmarked(2), good, 6, marked(2, 0, 0, 4), bad, 6, clauses, 64), 14, 0);
+    REFUSED(cascade_pair_emit(unmarked(2), good, 6, marked(2, 0, 0, 1), good, 6, clauses, 64), 15, 0);
     REFUSED(cascade_pair_emit(marked(2, 0, 0, 1), good, 6, marked(2, 0, 0, 1), good, 6, clauses, 1), 10, 0);
-    REFUSED(cascade_first_difference(plain(2), good, 6, plain(2), bad, 6), 7, 1);
-    REFUSED(cascade_first_difference(plain(2), good, 6, plain(3), good, 6), 8, 0);
-    REFUSED(cascade_first_difference(plain(17), good, 6, marked(17, 1, 1, 0), good, 6), 15, 0);
-    REFUSED(cascade_differs(plain(2), good, 6, plain(2), bad, 6, 0), 7, 1);
-    REFUSED(cascade_differs(plain(2), good, 6, plain(3), good, 6, 0), 8, 0);
-    REFUSED(cascade_differs(plain(2), good, 6, marked(2, 0, 0, 1), good, 6, 4), 15, 0);
-    REFUSED(cascade_differs(marked(2, 1, 1, 0), good, 6, marked(2, 1, 1, 0), good, 6, 2), 9, 0);
+    REFUSED(cascade_first_difference(unmarked(2), good, 6, unmarked(2), bad, 6), 7, 1);
+    REFUSED(cascade_first_difference(unmarked(2), good, 6, unmarked(3), good, 6), 8, 0);
+    REFUSED(cascade_differs(unmarked(2), good, 6, unmarked(2), bad, 6, 0), 7, 1);
+    REFUSED(cascade_differs(unmarked(2), good, 6, unmarked(3), good, 6, 0), 8, 0);
     REFUSED(cascade_fewer_gates(2, good, 6, 2, bad, 6), 7, 1);
     REFUSED(cascade_fewer_gates(2, good, 6, 3, good, 6), 8, 0);
-    REFUSED(cascade_fault_masks(plain(3), one_control, 3, plain(4), toffoli, 3, agreeing, 1, out, 12), 8, 0);
-    REFUSED(cascade_fault_masks(plain(3), one_control, 3, marked(3, 2, 0, 0), toffoli, 3, outside, 2, out, 12), 15, 0);
-    REFUSED(cascade_fault_masks(plain(3), one_control, 3, plain(3), toffoli, 3, outside, 2, out, 12), 9, 1);
-    REFUSED(cascade_fault_masks(marked(3, 2, 0, 0), one_control, 3, marked(3, 2, 0, 0), toffoli, 3, agreeing, 2, out, 12), 9, 1);
-    REFUSED(cascade_fault_masks(plain(3), one_control, 3, plain(3), toffoli, 3, agreeing, 2, out, 12), 12, 1);
-    REFUSED(cascade_fault_masks(marked(3, 0, 0, 4), one_control, 3, marked(3, 0, 0, 4), toffoli, 3, agreeing, 2, out, 12), 12, 0);
+    REFUSED(cascade_fault_masks(unmarked(3), one_control, 3, unmarked(4), toffoli, 3, agreeing, 1, out, 12), 8, 0);
+    REFUSED(cascade_fault_masks(unmarked(3), one_control, 3, unmarked(3), toffoli, 3, outside, 2, out, 12), 9, 1);
+    REFUSED(cascade_fault_masks(unmarked(3), one_control, 3, unmarked(3), toffoli, 3, agreeing, 2, out, 12), 12, 1);
+}
+
+/* t2+0+1 and t2+0 on three lines, of which one is a constant or junk: without marks they differ on 1 and 5, on line 2. */
+static void marks(void)
+{
+    const uint64_t toffoli[3] = {3, 0, 2};
+    const uint64_t one_control[3] = {1, 0, 2};
+    const uint64_t states[2] = {5, 1};
+    uint64_t out[2];
+    const struct cascade_header constant = {3, 4, 4, 0}, junk = {3, 0, 0, 4}, both = {3, 4, 4, 4}, outside = {3, 0, 0, 8}, no_constant = {3, 1, 2, 0};
+    expect("constant: first difference", cascade_first_difference(constant, toffoli, 3, constant, one_control, 3).state, 5);
+    expect("junk: first difference", cascade_first_difference(junk, toffoli, 3, junk, one_control, 3).found, 0);
+    expect("both: first difference", cascade_first_difference(both, toffoli, 3, both, one_control, 3).found, 0);
+    expect("constant: differs", cascade_differs(constant, toffoli, 3, constant, one_control, 3, 5).differs, 1);
+    expect("junk: differs", cascade_differs(junk, toffoli, 3, junk, one_control, 3, 5).differs, 0);
+    expect("constant: faults", cascade_fault_masks(constant, one_control, 3, constant, toffoli, 3, states, 1, out, 2).gates, 1);
+    expect("constant: a missing positive control", out[0], 2);
+    expect("constant: a missing negative control", out[1], 0);
+    REFUSED(cascade_differs(constant, toffoli, 3, constant, one_control, 3, 1), CASCADE_BAD_STATE, 0);
+    REFUSED(cascade_fault_masks(constant, one_control, 3, constant, toffoli, 3, states, 2, out, 2), CASCADE_BAD_STATE, 1);
+    REFUSED(cascade_fault_masks(junk, one_control, 3, junk, toffoli, 3, states, 2, out, 2), CASCADE_AGREEING_STATE, 0);
+    REFUSED(cascade_first_difference(outside, toffoli, 2, junk, toffoli, 3), CASCADE_BAD_MARK, 0);
+    REFUSED(cascade_first_difference(junk, toffoli, 3, no_constant, toffoli, 3), CASCADE_BAD_MARK, 0);
+    REFUSED(cascade_first_difference(marked(17, 1, 1, 0), toffoli, 3, unmarked(17), toffoli, 3), CASCADE_MARKS_DIFFER, 0);
+    REFUSED(cascade_differs(constant, toffoli, 3, junk, toffoli, 3, 8), CASCADE_MARKS_DIFFER, 0);
+    REFUSED(cascade_differs(constant, toffoli, 3, unmarked(4), toffoli, 3, 0), CASCADE_LINE_COUNTS_DIFFER, 0);
 }
 
 /* The longest file: 1,024 gates with 63 controls on 64 lines, targets in turn; twice as many, the
@@ -253,11 +265,11 @@ static void limits(void)
     sizes = cascade_pair_emit(constants, longest, few, constants, longest + few, few, clauses, CASCADE_MAX_PAIR_WORDS - 1);
     expect("longest clause list of a pair without room", sizes.number, CASCADE_NO_ROOM);
     REFUSED(cascade_pair_sizes(constants, longest, few, constants, longest, few + 3), CASCADE_TOO_MANY_GATES, 0);
-    REFUSED(cascade_write(plain(64), longest, few + 3, text, sizeof text), CASCADE_TOO_MANY_GATES, 0);
+    REFUSED(cascade_write(unmarked(64), longest, few + 3, text, sizeof text), CASCADE_TOO_MANY_GATES, 0);
     REFUSED(cascade_sizes(64, longest, many + 3), CASCADE_TOO_MANY_GATES, 0);
     REFUSED(cascade_sizes(CASCADE_MAX_LINES + 1, longest, few), CASCADE_BAD_LINE_COUNT, 0);
     REFUSED(cascade_sizes(64, longest, 4), CASCADE_BAD_WORD_COUNT, 0);
-    REFUSED(cascade_first_difference(plain(CASCADE_MAX_SWEEP_LINES + 1), longest, 0, plain(CASCADE_MAX_SWEEP_LINES + 1), longest, 0), CASCADE_TOO_WIDE, 0);
+    REFUSED(cascade_first_difference(unmarked(CASCADE_MAX_SWEEP_LINES + 1), longest, 0, unmarked(CASCADE_MAX_SWEEP_LINES + 1), longest, 0), CASCADE_TOO_WIDE, 0);
 }
 
 /* A file with one line that is wrong, by the number's name. */
@@ -328,8 +340,8 @@ static void nulls(void)
     REFUSED(cascade_read(NULL, 0, out, 3), CASCADE_WRONG_FORM, 0);
     REFUSED(cascade_read((const uint8_t *)"lines\t3\ng\t0\nend\n", 16, NULL, 0), CASCADE_NO_ROOM, 0);
     expect("null: read", cascade_read((const uint8_t *)"lines\t3\nend\n", 12, NULL, 0).lines, 3);
-    expect("null: write", cascade_write(plain(3), NULL, 0, text, 12).written, 12);
-    REFUSED(cascade_write(plain(3), a, 3, NULL, 0), CASCADE_NO_ROOM, 0);
+    expect("null: write", cascade_write(unmarked(3), NULL, 0, text, 12).written, 12);
+    REFUSED(cascade_write(unmarked(3), a, 3, NULL, 0), CASCADE_NO_ROOM, 0);
     expect("null: run", cascade_run(3, NULL, 0, 5).state, 5);
     expect("null: run records", cascade_run_records(3, NULL, 0, 5).state, 5);
     REFUSED(cascade_inverse(3, NULL, 0, NULL, 0), CASCADE_SERVED, 0);
@@ -342,14 +354,14 @@ static void nulls(void)
     expect("null: sizes", cascade_sizes(1, NULL, 0).words, 6);
     expect("null: emission", cascade_emit(1, NULL, 0, clauses, 16).words, 6);
     REFUSED(cascade_emit(1, NULL, 0, NULL, 0), CASCADE_NO_ROOM, 0);
-    expect("null: pair sizes", cascade_pair_sizes(plain(3), NULL, 0, plain(3), a, 3).words, 34);
-    expect("null: pair sizes, second", cascade_pair_sizes(plain(3), a, 3, plain(3), NULL, 0).words, 34);
+    expect("null: pair sizes", cascade_pair_sizes(unmarked(3), NULL, 0, unmarked(3), a, 3).words, 34);
+    expect("null: pair sizes, second", cascade_pair_sizes(unmarked(3), a, 3, unmarked(3), NULL, 0).words, 34);
     expect("null: pair emission", cascade_pair_emit(marked(1, 0, 0, 1), NULL, 0, marked(1, 0, 0, 1), NULL, 0, clauses, 16).words, 2);
-    REFUSED(cascade_pair_emit(plain(1), NULL, 0, plain(1), NULL, 0, NULL, 0), CASCADE_NO_ROOM, 0);
-    expect("null: first difference", cascade_first_difference(plain(3), NULL, 0, plain(3), a, 3).state, 3);
-    expect("null: differs", cascade_differs(plain(3), NULL, 0, plain(3), a, 3, 3).differs, 1);
+    REFUSED(cascade_pair_emit(unmarked(1), NULL, 0, unmarked(1), NULL, 0, NULL, 0), CASCADE_NO_ROOM, 0);
+    expect("null: first difference", cascade_first_difference(unmarked(3), NULL, 0, unmarked(3), a, 3).state, 3);
+    expect("null: differs", cascade_differs(unmarked(3), NULL, 0, unmarked(3), a, 3, 3).differs, 1);
     expect("null: fewer gates", cascade_fewer_gates(3, a, 3, 3, NULL, 0).second, 1);
-    REFUSED(cascade_fault_masks(plain(3), NULL, 0, plain(3), a, 3, NULL, 0, NULL, 0), CASCADE_SERVED, 0);
+    REFUSED(cascade_fault_masks(unmarked(3), NULL, 0, unmarked(3), a, 3, NULL, 0, NULL, 0), CASCADE_SERVED, 0);
 }
 
 /* Two inputs in the same words. */
@@ -358,8 +370,8 @@ static void overlaps(void)
     const uint64_t a[9] = {3, 0, 2, 2, 0, 0, 1, 0, 2};
     uint64_t out[18];
     expect("a cascade against its own start: gates", cascade_miter(3, a, 9, 3, a, 3, out, 18).gates, 4);
-    expect("a cascade against itself: differs", cascade_first_difference(plain(3), a, 9, plain(3), a, 9).found, 0);
-    expect("a cascade against itself: clauses", cascade_pair_sizes(plain(3), a, 9, plain(3), a, 9).number, CASCADE_SERVED);
+    expect("a cascade against itself: differs", cascade_first_difference(unmarked(3), a, 9, unmarked(3), a, 9).found, 0);
+    expect("a cascade against itself: clauses", cascade_pair_sizes(unmarked(3), a, 9, unmarked(3), a, 9).number, CASCADE_SERVED);
     expect("a cascade and its own start: second", cascade_fewer_gates(3, a, 9, 3, a, 6).second, 1);
 }
 
@@ -386,12 +398,12 @@ static void do_sizes(void) { told |= cascade_sizes(64, longest, 6144).number; }
 static void do_emit(void) { told |= cascade_emit(64, longest, 6144, list, CASCADE_MAX_CLAUSE_WORDS).number; }
 static void do_pair_sizes(void) { told |= cascade_pair_sizes(headed, longest, 3072, headed, longest + 3072, 3072).number; }
 static void do_pair_emit(void) { told |= cascade_pair_emit(headed, longest, 3072, headed, longest + 3072, 3072, list, CASCADE_MAX_PAIR_WORDS).number; }
-static void do_miter_emit(void) { told |= cascade_pair_emit(plain(64), longest, 3072, plain(64), longest + 3072, 3072, list, CASCADE_MAX_PAIR_WORDS).number; }
+static void do_miter_emit(void) { told |= cascade_pair_emit(unmarked(64), longest, 3072, unmarked(64), longest + 3072, 3072, list, CASCADE_MAX_PAIR_WORDS).number; }
 static const uint64_t small[3] = {3, 0, 2};
-static void do_sweep(void) { told |= cascade_first_difference(plain(3), small, 3, plain(3), small, 0).number; }
+static void do_sweep(void) { told |= cascade_first_difference(unmarked(3), small, 3, unmarked(3), small, 0).number; }
 static void do_differs(void) { told |= cascade_differs(headed, longest, 3072, headed, longest, 3069, 2).number; }
 static void do_fewer(void) { told |= cascade_fewer_gates(64, longest, 3072, 64, longest, 3069).number; }
-static void do_faults(void) { told |= cascade_fault_masks(plain(64), longest, 3072, plain(64), longest, 0, states, 64, large, 2048).number; }
+static void do_faults(void) { told |= cascade_fault_masks(unmarked(64), longest, 3072, unmarked(64), longest, 0, states, 64, large, 2048).number; }
 
 /* The bytes of a stack that a function touches. */
 static size_t touched(void (*function)(void))
@@ -430,6 +442,7 @@ int main(void)
 {
     fields();
     refusals();
+    marks();
     limits();
     file_numbers();
     counts();
@@ -496,27 +509,27 @@ int main(void)
     expect("read positive controls", words[0], 3);
     expect("read target", words[2], 2);
     uint8_t written[22] = {0};
-    struct cascade_write_answer write = cascade_write(plain(3), words, 3, written, 22);
+    struct cascade_write_answer write = cascade_write(unmarked(3), words, 3, written, 22);
     expect("write number", write.number, 0);
     expect("write bytes", write.written, 22);
     for (size_t i = 0; i < 22; i++) {
         expect("write byte", written[i], text[i]);
     }
     const uint64_t one_control[3] = {1, 0, 2};
-    struct cascade_state_answer first = cascade_first_difference(plain(3), toffoli, 3, plain(3), one_control, 3);
+    struct cascade_state_answer first = cascade_first_difference(unmarked(3), toffoli, 3, unmarked(3), one_control, 3);
     expect("first difference found", first.found, 1);
     expect("first difference", first.state, 1);
-    first = cascade_first_difference(plain(17), toffoli, 3, plain(17), toffoli, 3);
+    first = cascade_first_difference(unmarked(17), toffoli, 3, unmarked(17), toffoli, 3);
     expect("first difference too wide", first.number, 13);
-    struct cascade_differs_answer differs = cascade_differs(plain(3), toffoli, 3, plain(3), one_control, 3, 3);
+    struct cascade_differs_answer differs = cascade_differs(unmarked(3), toffoli, 3, unmarked(3), one_control, 3, 3);
     expect("differs", differs.differs, 0);
     struct cascade_fewer_answer fewer = cascade_fewer_gates(2, two, 6, 2, two, 3);
     expect("fewer second", fewer.second, 1);
     expect("fewer gates", fewer.gates, 1);
     const uint64_t failing[1] = {1};
     uint64_t masks[CASCADE_GATE_MASKS] = {9, 9};
-    REFUSED(cascade_fault_masks(plain(3), one_control, 3, plain(3), toffoli, 3, failing, 1, masks, CASCADE_GATE_MASKS - 1), 10, 0);
-    struct cascade_count_answer faults = cascade_fault_masks(plain(3), one_control, 3, plain(3), toffoli, 3, failing, 1, masks, CASCADE_GATE_MASKS);
+    REFUSED(cascade_fault_masks(unmarked(3), one_control, 3, unmarked(3), toffoli, 3, failing, 1, masks, CASCADE_GATE_MASKS - 1), 10, 0);
+    struct cascade_count_answer faults = cascade_fault_masks(unmarked(3), one_control, 3, unmarked(3), toffoli, 3, failing, 1, masks, CASCADE_GATE_MASKS);
     expect("fault gates", faults.gates, 1);
     expect("fault positive", masks[0], 2);
     expect("fault negative", masks[1], 0);

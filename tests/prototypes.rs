@@ -130,10 +130,10 @@ fn main() {
         let path = entry.expect("an entry").path();
         source(path.to_str().expect("a name"), &mut our_calls, &mut our_structs);
     }
-    for name in ["gate", "header"] {
-        source(&format!("crates/circuit/src/{name}.rt"), &mut Calls::new(), &mut our_structs);
-        let fields = our_structs.remove(name).expect("a record of circuit");
-        our_structs.insert(format!("cascade_{name}"), fields);
+    for record in ["gate", "header"] {
+        source(&format!("crates/circuit/src/{record}.rt"), &mut Calls::new(), &mut our_structs);
+        let fields = our_structs.remove(record).expect("a record of circuit");
+        our_structs.insert(format!("cascade_{record}"), fields);
     }
     assert_eq!(calls, our_calls, "the calls of the header, and of the crate");
     assert_eq!(structs, our_structs, "the structs of the header, and of the crate");

@@ -14,7 +14,9 @@ use lib.ListN.{length, length-append}
 use mathlib.Core.List.{List, [], ◌∷◌, ◌++◌}
 use lib.Bits.{bit_and, bit_or, bit_xor, differ, and_step, or_step, xor_step, and_zero_l, or_zero_l, or_disjoint, or_add_and, or_self, and_le_l, and_le_r}
 use Rattle.bits.specs.Digits.{bit, lines_in}
-use Rattle.bits.proofs.Bools.{and_parts, both, and_apart, either, same_test}
+use Rattle.bits.specs.Lists.{All}
+use Rattle.bits.proofs.Bools.{and_parts, both, and_apart, either, same_test, cond-true, cond-false}
+use Rattle.bits.proofs.Lists.{all_append, all_split}
 
 -- the higher digits are those of the half
 pub bit_suc : (x k : ℕ) → bit x (suc k) ≡ bit (x / 2) k
@@ -200,6 +202,24 @@ and_both m a b =
     bit-and _ _ k ∙ ap (λ (x : Bool). bit m k && x) (bit-or a b k)
     ∙ and-or_distrib_left (bit m k) (bit a k) (bit b k)
     ∙ sym (bit-or _ _ k ∙ ap₂ ◌||◌ (bit-and m a k) (bit-and m b k)))
+
+-- a property of all lines of a mask is one of each line below n where its digit is 1
+module _ (P : ℕ → Type 0) (x : ℕ) where
+  pub all_lines : (n : ℕ) → ((k : ℕ) → k < n → bit x k ≡ true → P k) → All P (lines_in x n)
+  unfolding lines_in
+  all_lines zero f = tt
+  all_lines (suc n) f =
+      all_append P (lines_in x n) _ (all_lines n (λ k l e. f k (omega arith) e))
+      (either (bit x n) (λ t. subst (All P) (sym (cond-true (bit x n) _ _ t)) (f n (omega arith) t, tt)) (λ t. subst (All P) (sym (cond-false (bit x n) _ _ t)) tt))
+
+  pub line_all : (n : ℕ) → All P (lines_in x n) → (k : ℕ) → k < n → bit x k ≡ true → P k
+  unfolding lines_in
+  line_all zero a k l e = absurd (omega arith)
+  line_all (suc n) a k l e =
+      let (b, c) = all_split P (lines_in x n) _ a in
+      either (eqb n k)
+      (λ t. let s : n ≡ k = eqb-true n k t in subst P s (subst (All P) (cond-true (bit x n) (n ∷ []) [] (ap (bit x) s ∙ e)) c).0)
+      (λ t. let d = eqb-false n k t in line_all n b k (omega arith) e)
 
 -- 0 has no set digit
 ones_none : ones 0 ≡ 0

@@ -39,6 +39,10 @@ module _ {A : Type 0} (P : A → Type 0) where
   all_append [] ys a b = b
   all_append (x ∷ xs) ys a b = (a.0, all_append xs ys a.1 b)
 
+  pub all_split : (xs ys : List A) → All P (xs ++ ys) → All P xs × All P ys
+  all_split [] ys a = (tt, a)
+  all_split (x ∷ xs) ys a = let (b, c) = all_split xs ys a.1 in ((a.0, b), c)
+
   -- a property that follows from it, and one of the elements of a mapped list
   pub all_implies : (Q : A → Type 0) → ((x : A) → P x → Q x) → (xs : List A) → All P xs → All Q xs
   all_implies Q h [] a = tt

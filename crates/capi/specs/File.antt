@@ -6,8 +6,8 @@ use Rattle.capi.specs.declared.file.CascadeReadAnswer.{CascadeReadAnswer}
 use Rattle.capi.specs.declared.file.CascadeWriteAnswer.{CascadeWriteAnswer}
 
 abbrev pub read_answer : Outcome ReadCounts → CascadeReadAnswer
-read_answer (served c) = record { number = 0; place = 0; lines = c.lines; gates = c.gates; taken = c.taken }
-read_answer (refused number place) = record { number = number; place = place; lines = 0; gates = 0; taken = 0 }
+read_answer (served c) = record { number = 0; place = 0; lines = c.header.lines; constants = c.header.constants; values = c.header.values; junk = c.header.junk; gates = c.gates; taken = c.taken }
+read_answer (refused number place) = record { number = number; place = place; lines = 0; constants = 0; values = 0; junk = 0; gates = 0; taken = 0 }
 
 abbrev pub write_answer : Outcome ℕ → CascadeWriteAnswer
 write_answer (served k) = record { number = 0; place = 0; written = k }

@@ -6,6 +6,7 @@ ghost use Rattle.checking.specs.Compare.{difference_outcome, differs_outcome};
 ghost use Rattle.capi.specs.Compare.{state_answer, differs_answer, fewer_answer};
 
 use circuit::gate::Gate;
+use circuit::header::Header;
 
 #[repr(C)]
 #[derive(Clone, Copy, Debug, PartialEq, Eq)]
@@ -35,14 +36,14 @@ pub struct CascadeFewerAnswer {
 
 #[unsafe(no_mangle)]
 pub extern "C" fn cascade_first_difference(
-    na: u64,
+    a_header: Header,
     a: &[u64],
-    nb: u64,
+    b_header: Header,
     b: &[u64],
 ) -> CascadeStateAnswer
-    ensures { result ≡ state_answer (difference_outcome na a.now nb b.now) }
+    ensures { result ≡ state_answer (difference_outcome a_header a.now b_header b.now) }
 {
-    match checking::compare::first_difference(na, a, nb, b) {
+    match checking::compare::first_difference(a_header, a, b_header, b) {
         Ok(Some(state)) => CascadeStateAnswer {
             number: 0,
             place: 0,
@@ -66,15 +67,15 @@ pub extern "C" fn cascade_first_difference(
 
 #[unsafe(no_mangle)]
 pub extern "C" fn cascade_differs(
-    na: u64,
+    a_header: Header,
     a: &[u64],
-    nb: u64,
+    b_header: Header,
     b: &[u64],
     state: u64,
 ) -> CascadeDiffersAnswer
-    ensures { result ≡ differs_answer (differs_outcome na a.now nb b.now state) }
+    ensures { result ≡ differs_answer (differs_outcome a_header a.now b_header b.now state) }
 {
-    match checking::compare::differs(na, a, nb, b, state) {
+    match checking::compare::differs(a_header, a, b_header, b, state) {
         Ok(differs) => CascadeDiffersAnswer {
             number: 0,
             place: 0,

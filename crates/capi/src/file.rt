@@ -5,12 +5,17 @@ ghost use Rattle.circuit.specs.Outcome.{Yields};
 ghost use Rattle.circuit.specs.File.{read_outcome, read_buffer, write_outcome, write_buffer};
 ghost use Rattle.capi.specs.File.{read_answer, write_answer};
 
+use circuit::header::Header;
+
 #[repr(C)]
 #[derive(Clone, Copy, Debug, PartialEq, Eq)]
 pub struct CascadeReadAnswer {
     pub number: u64,
     pub place: u64,
     pub lines: u64,
+    pub constants: u64,
+    pub values: u64,
+    pub junk: u64,
     pub gates: u64,
     pub taken: u64,
 }
@@ -31,7 +36,10 @@ pub extern "C" fn cascade_read(text: &[u8], out: &mut [u64]) -> CascadeReadAnswe
         Ok(counts) => CascadeReadAnswer {
             number: 0,
             place: 0,
-            lines: counts.lines,
+            lines: counts.header.lines,
+            constants: counts.header.constants,
+            values: counts.header.values,
+            junk: counts.header.junk,
             gates: counts.gates as u64,
             taken: counts.taken as u64,
         },
@@ -39,6 +47,9 @@ pub extern "C" fn cascade_read(text: &[u8], out: &mut [u64]) -> CascadeReadAnswe
             number: why.number(),
             place: why.place(),
             lines: 0,
+            constants: 0,
+            values: 0,
+            junk: 0,
             gates: 0,
             taken: 0,
         },
@@ -46,10 +57,14 @@ pub extern "C" fn cascade_read(text: &[u8], out: &mut [u64]) -> CascadeReadAnswe
 }
 
 #[unsafe(no_mangle)]
-pub extern "C" fn cascade_write(lines: u64, words: &[u64], out: &mut [u8]) -> CascadeWriteAnswer
-    ensures { Yields result out.new (write_answer (write_outcome lines words.now (length out.old))) (write_buffer lines words.now out.old) }
+pub extern "C" fn cascade_write(
+    header: Header,
+    words: &[u64],
+    out: &mut [u8],
+) -> CascadeWriteAnswer
+    ensures { Yields result out.new (write_answer (write_outcome header words.now (length out.old))) (write_buffer header words.now out.old) }
 {
-    match circuit::file::write(lines, words, out) {
+    match circuit::file::write(header, words, out) {
         Ok(written) => CascadeWriteAnswer {
             number: 0,
             place: 0,

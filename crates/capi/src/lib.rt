@@ -8,6 +8,7 @@ pub mod faults;
 pub mod file;
 pub mod inverse;
 pub mod miter;
+pub mod pair;
 pub mod reduce;
 pub mod run;
 pub mod sizes;

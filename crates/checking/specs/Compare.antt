@@ -1,16 +1,23 @@
--- Two cascades compared on states, and the one with fewer gates, by document 01.
-use Rattle.std.specs.Prelude.{◌≡◌, ℕ, zero, suc, ◌+◌, ◌^◌, ◌<◌, Bool, cond, not, List, [], Option, Some, None, ◌==◌, nat_le, nat_lt}
+-- Two cascades compared on permitted states and counted lines, by document 02; and the one with fewer gates, by document 01.
+use Rattle.std.specs.Prelude.{◌≡◌, ℕ, zero, suc, ◌+◌, ◌^◌, ◌<◌, Bool, cond, not, ◌&&◌, List, [], Option, Some, None, nat_le}
+use Rattle.bits.specs.Digits.{bit}
 use Rattle.circuit.specs.declared.gate.Gate.{Gate}
+use Rattle.circuit.specs.declared.header.Header.{Header}
+use Rattle.circuit.specs.Header.{permits, alike, Permitted, LineCounts}
 use Rattle.circuit.specs.Outcome.{Outcome, served, refused, demand, and_then}
 use Rattle.circuit.specs.declared.refusal.Refusal.{Refusal}
 use Rattle.circuit.specs.Refusal.{bad_state, too_wide, refusal_number, refusal_place}
-use Rattle.circuit.specs.Words.{gates_of, pair_outcome}
+use Rattle.circuit.specs.Words.{gates_of, pair_outcome, headed_pair_outcome}
 use Rattle.circuit.specs.declared.words.Counts.{Counts}
-use Rattle.circuit.specs.Run.{run, Equal, Differs}
+use Rattle.circuit.specs.Run.{run, EqualFor, DiffersFor}
 
--- whether two cascades give different outputs on x
-abbrev pub outputs_differ : List Gate → List Gate → ℕ → Bool
-outputs_differ a b x = not (run a x == run b x)
+-- whether a line that counts comes out differently on x
+abbrev pub outputs_differ : Header → List Gate → List Gate → ℕ → Bool
+outputs_differ h a b x = not (alike h (run a x) (run b x))
+
+-- every line that counts comes out alike on x
+abbrev pub Agree : Header → List Gate → List Gate → ℕ → Type 0
+Agree h a b x = (k : ℕ) → LineCounts h k → bit (run a x) k ≡ bit (run b x) k
 
 -- ---- the sweep
 
@@ -24,34 +31,34 @@ pub data Difference : Type 0 where
   lowest : ℕ → Difference
 
 -- the lowest of the k states from x on
-unfoldable pub lowest_from : List Gate → List Gate → ℕ → ℕ → Difference
-lowest_from a b x zero = none
-lowest_from a b x (suc k) = cond (outputs_differ a b x) (lowest x) (lowest_from a b (x + 1) k)
+unfoldable pub lowest_from : Header → List Gate → List Gate → ℕ → ℕ → Difference
+lowest_from h a b x zero = none
+lowest_from h a b x (suc k) = cond (permits h x && outputs_differ h a b x) (lowest x) (lowest_from h a b (x + 1) k)
 
--- 2, 11, 6, 7 for each, 8, 13
-unfoldable pub difference_outcome : ℕ → List ℕ → ℕ → List ℕ → Outcome Difference
-difference_outcome na a nb b =
-    and_then (pair_outcome na a nb b) (λ counts.
-    demand (nat_le na max_sweep_lines) too_wide 0 (served (lowest_from (gates_of a) (gates_of b) 0 (2 ^ na))))
+-- 2, 14, 11, 6, 7 for each, 8, 15, 13
+unfoldable pub difference_outcome : Header → List ℕ → Header → List ℕ → Outcome Difference
+difference_outcome ha a hb b =
+    and_then (headed_pair_outcome ha a hb b) (λ counts.
+    demand (nat_le ha.lines max_sweep_lines) too_wide 0 (served (lowest_from ha (gates_of a) (gates_of b) 0 (2 ^ ha.lines))))
 
--- what a served sweep says: all states agree; or this one differs and every lower one agrees
-abbrev pub Says : ℕ → List Gate → List Gate → Outcome Difference → Type 0
-Says n a b (served none) = Equal n a b
-Says n a b (served (lowest x)) = Differs n a b x × ((y : ℕ) → y < x → run a y ≡ run b y)
-Says n a b (refused number place) = Unit {0}
+-- what a served sweep says: the two are equal; or they differ on this state, and agree on every lower one that is permitted
+abbrev pub Says : Header → List Gate → List Gate → Outcome Difference → Type 0
+Says h a b (served none) = EqualFor h a b
+Says h a b (served (lowest x)) = DiffersFor h a b x × ((y : ℕ) → y < x → Permitted h y → Agree h a b y)
+Says h a b (refused number place) = Unit {0}
 
 -- what the call owes
-pub record Sweeps (na : ℕ) (a : List ℕ) (nb : ℕ) (b : List ℕ) (told : Outcome Difference) : Type 0 where
-  pub answer : told ≡ difference_outcome na a nb b
-  pub says : Says na (gates_of a) (gates_of b) told
+pub record Sweeps (ha : Header) (a : List ℕ) (hb : Header) (b : List ℕ) (told : Outcome Difference) : Type 0 where
+  pub answer : told ≡ difference_outcome ha a hb b
+  pub says : Says ha (gates_of a) (gates_of b) told
 
 -- ---- the input check
 
--- 2, 11, 6, 7 for each, 8, 9
-unfoldable pub differs_outcome : ℕ → List ℕ → ℕ → List ℕ → ℕ → Outcome Bool
-differs_outcome na a nb b x =
-    and_then (pair_outcome na a nb b) (λ counts.
-    demand (nat_lt x (2 ^ na)) bad_state 0 (served (outputs_differ (gates_of a) (gates_of b) x)))
+-- 2, 14, 11, 6, 7 for each, 8, 15, 9
+unfoldable pub differs_outcome : Header → List ℕ → Header → List ℕ → ℕ → Outcome Bool
+differs_outcome ha a hb b x =
+    and_then (headed_pair_outcome ha a hb b) (λ counts.
+    demand (permits ha x) bad_state 0 (served (outputs_differ ha (gates_of a) (gates_of b) x)))
 
 -- ---- the pick
 

@@ -2,19 +2,28 @@
 use Rattle.std.specs.Prelude.{◌≡◌, ℕ, ◌+◌, ◌-◌, ◌*◌, ◌^◌, ◌<◌, ◌≤◌, Bool, true, false, not, ◌↔◌, List, [], ◌∷◌, ◌++◌, map, length, take, drop, replicate, bit_or, slice_index}
 use Rattle.bits.specs.Digits.{bit}
 use Rattle.circuit.specs.declared.gate.Gate.{Gate}
+use Rattle.circuit.specs.declared.header.Header.{Header}
 use Rattle.circuit.specs.Gate.{max_lines, valid, fires, apply}
+use Rattle.circuit.specs.Header.{marks_good}
 use Rattle.circuit.specs.Outcome.{served, Untouched}
 use Rattle.circuit.specs.Words.{gates_of, gate_in, all_valid}
-use Rattle.circuit.specs.Run.{run, Differs}
-use Rattle.checking.specs.Compare.{Difference, none, lowest_from, Says}
+use Rattle.circuit.specs.Run.{run, DiffersFor}
+use Rattle.checking.specs.Compare.{Agree, Difference, none, lowest_from, Says}
 use Rattle.checking.specs.Faults.{is_free, missing, gate_faults, gate_masks, mask_where, fault_masks, fault_outcome, fault_buffer}
 use Rattle.checking.specs.RefusalLaws.{Every}
 
 -- ---- the sweep
 
--- a sweep that says what it found of every two cascades
-abbrev pub Sweeping : (ℕ → List Gate → List Gate → Difference) → Type 0
-Sweeping sweep = (n : ℕ) (a b : List Gate) → Says n a b (served (sweep n a b))
+-- a sweep that says what it found of every two cascades with the same header
+abbrev pub Sweeping : (Header → List Gate → List Gate → Difference) → Type 0
+Sweeping sweep = (h : Header) (a b : List Gate) → marks_good h ≡ true → all_valid h.lines a ≡ true → all_valid h.lines b ≡ true → Says h a b (served (sweep h a b))
+
+-- a header without its constants, and one without its junk lines
+abbrev pub without_constants : Header → Header
+without_constants h = record { lines = h.lines; constants = 0; values = 0; junk = h.junk }
+
+abbrev pub all_counted : Header → Header
+all_counted h = record { lines = h.lines; constants = h.constants; values = h.values; junk = 0 }
 
 -- ---- candidates and excluded lines
 
@@ -73,19 +82,24 @@ with_control true k g = record { positive = bit_or g.positive (2 ^ k); negative 
 with_control false k g = record { positive = g.positive; negative = bit_or g.negative (2 ^ k); target = g.target }
 
 pub record FaultLaws : Type 0 where
-  -- the sweep says what it found; one that says none untried, or starts at 1, does not
-  pub sweep : Sweeping (λ n a b. lowest_from a b 0 (2 ^ n))
-  pub untried : Sweeping (λ n a b. none) → ⊥
-  pub from_one : Sweeping (λ n a b. lowest_from a b 1 (2 ^ n - 1)) → ⊥
+  -- the sweep says what it found; one that says none untried, starts at 1, tries states that break a constant, or counts junk lines, does not
+  pub sweep : Sweeping (λ h a b. lowest_from h a b 0 (2 ^ h.lines))
+  pub untried : Sweeping (λ h a b. none) → ⊥
+  pub from_one : Sweeping (λ h a b. lowest_from h a b 1 (2 ^ h.lines - 1)) → ⊥
+  pub constants_ignored : Sweeping (λ h a b. lowest_from (without_constants h) a b 0 (2 ^ h.lines)) → ⊥
+  pub junk_counted : Sweeping (λ h a b. lowest_from (all_counted h) a b 0 (2 ^ h.lines)) → ⊥
+  -- nor has any sweep that does not look at the constants, or at which lines are junk
+  pub constants_unread : (sweep : Header → List Gate → List Gate → Difference) → ((h : Header) (a b : List Gate) → marks_good h ≡ true → sweep h a b ≡ sweep (without_constants h) a b) → Sweeping sweep → ⊥
+  pub junk_unread : (sweep : Header → List Gate → List Gate → Difference) → ((h : Header) (a b : List Gate) → marks_good h ≡ true → sweep h a b ≡ sweep (all_counted h) a b) → Sweeping sweep → ⊥
   -- a gate has two masks, and these are those of the candidates; a call that strikes nothing, or everything, is none
   pub two_masks : gate_masks ≡ 2
   pub masks : Masking fault_masks
   pub nothing_struck : Masking strikes_nothing → ⊥
   pub all_struck : Masking strikes_all → ⊥
   -- the call leaves them in its buffer, and all of it as it was where it is refused
-  pub masks_stand : (na : ℕ) (a : List ℕ) (nb : ℕ) (b states out : List ℕ) (k : ℕ) → fault_outcome na a nb b states (length out) ≡ served k
-      → MasksStand na (gates_of a) states k out (fault_buffer na a nb b states out)
-  pub masks_untouched : (na : ℕ) (a : List ℕ) (nb : ℕ) (b states out : List ℕ) → Untouched (fault_outcome na a nb b states (length out)) out (fault_buffer na a nb b states out)
+  pub masks_stand : (ha : Header) (a : List ℕ) (hb : Header) (b states out : List ℕ) (k : ℕ) → fault_outcome ha a hb b states (length out) ≡ served k
+      → MasksStand ha.lines (gates_of a) states k out (fault_buffer ha a hb b states out)
+  pub masks_untouched : (ha : Header) (a : List ℕ) (hb : Header) (b states out : List ℕ) → Untouched (fault_outcome ha a hb b states (length out)) out (fault_buffer ha a hb b states out)
   -- for any fault: where the pattern does not match on a state, the repair leaves that state as it was
   pub repair_leaves : (pattern : Gate → ℕ → Bool) (repair : Gate → Gate) (gs : List Gate) (i : ℕ) → i < length gs → Repairs pattern repair (gate_in gs i)
       → (x : ℕ) → pattern (gate_in gs i) (run (take i gs) x) ≡ false → run (repaired_at i repair gs) x ≡ run gs x
@@ -93,12 +107,12 @@ pub record FaultLaws : Type 0 where
   pub control_repairs : (positive : Bool) (k : ℕ) (g : Gate) → valid max_lines g ≡ true → k < max_lines → is_free g k ≡ true → Repairs (missing positive k) (with_control positive k) g
   pub control_valid : (n : ℕ) (positive : Bool) (k : ℕ) (g : Gate) → valid n g ≡ true → k < n → is_free g k ≡ true → valid n (with_control positive k g) ≡ true
   -- so for each line that is excluded and is neither target nor control, adding that control leaves some given state wrong
-  pub excluded : (n : ℕ) (suspect reference : List Gate) (xs : List ℕ) (i k : ℕ) (positive : Bool) → n ≤ max_lines → all_valid n suspect ≡ true
-      → ((j : ℕ) → j < length xs → Differs n suspect reference (slice_index xs j)) → i < length suspect → k < n → is_free (gate_in suspect i) k ≡ true
-      → (Candidate n suspect xs i positive k → ⊥)
-      → (j : ℕ) × (j < length xs) × Differs n (repaired_at i (with_control positive k) suspect) reference (slice_index xs j)
+  pub excluded : (h : Header) (suspect reference : List Gate) (xs : List ℕ) (i k : ℕ) (positive : Bool) → h.lines ≤ max_lines → all_valid h.lines suspect ≡ true
+      → Every (DiffersFor h suspect reference) xs → i < length suspect → k < h.lines → is_free (gate_in suspect i) k ≡ true
+      → (Candidate h.lines suspect xs i positive k → ⊥)
+      → (j : ℕ) × (j < length xs) × DiffersFor h (repaired_at i (with_control positive k) suspect) reference (slice_index xs j)
   -- no guilty gate is excluded: where the suspect with that control added to gate i agrees with the reference on every given state, the line stands in the buffer
-  pub guilty_stands : (na : ℕ) (a : List ℕ) (nb : ℕ) (b states out : List ℕ) (k : ℕ) → fault_outcome na a nb b states (length out) ≡ served k
-      → (i line : ℕ) (positive : Bool) → i < k → line < na → is_free (gate_in (gates_of a) i) line ≡ true
-      → Every (λ x. run (repaired_at i (with_control positive line) (gates_of a)) x ≡ run (gates_of b) x) states
-      → bit (slice_index (fault_buffer na a nb b states out) (mask_place positive i)) line ≡ true
+  pub guilty_stands : (ha : Header) (a : List ℕ) (hb : Header) (b states out : List ℕ) (k : ℕ) → fault_outcome ha a hb b states (length out) ≡ served k
+      → (i line : ℕ) (positive : Bool) → i < k → line < ha.lines → is_free (gate_in (gates_of a) i) line ≡ true
+      → Every (Agree ha (repaired_at i (with_control positive line) (gates_of a)) (gates_of b)) states
+      → bit (slice_index (fault_buffer ha a hb b states out) (mask_place positive i)) line ≡ true

@@ -1,12 +1,14 @@
--- Faults: the lines that may be a missing control of a gate of the suspect, by document 01. A line that stands is a candidate.
-use Rattle.std.specs.Prelude.{ℕ, zero, suc, ◌+◌, ◌*◌, ◌^◌, Bool, true, false, cond, not, ◌&&◌, List, [], ◌∷◌, ◌++◌, map, length, ◌==◌, nat_le, nat_lt}
+-- Faults: the lines that may be a missing control of a gate of the suspect, by document 01; over permitted states and counted lines, by document 02. A line that stands is a candidate.
+use Rattle.std.specs.Prelude.{ℕ, zero, suc, ◌+◌, ◌*◌, ◌^◌, Bool, true, false, cond, not, ◌&&◌, List, [], ◌∷◌, ◌++◌, map, length, ◌==◌, nat_le}
 use Rattle.std.specs.Bool.{xor}
 use Rattle.bits.specs.Digits.{bit}
 use Rattle.circuit.specs.declared.gate.Gate.{Gate}
+use Rattle.circuit.specs.declared.header.Header.{Header}
 use Rattle.circuit.specs.Gate.{fires}
+use Rattle.circuit.specs.Header.{permits}
 use Rattle.circuit.specs.Outcome.{Outcome, served, demand, and_then, written}
 use Rattle.circuit.specs.Refusal.{bad_state, agreeing_state, no_room}
-use Rattle.circuit.specs.Words.{gates_of, pair_outcome}
+use Rattle.circuit.specs.Words.{gates_of, headed_pair_outcome}
 use Rattle.circuit.specs.Run.{run}
 use Rattle.checking.specs.Compare.{outputs_differ}
 
@@ -61,17 +63,17 @@ unfoldable pub each_from : (ℕ → Bool) → ℕ → ℕ → List ℕ → Outco
 each_from test number i [] = served i
 each_from test number i (x ∷ xs) = demand (test x) number i (each_from test number (i + 1) xs)
 
--- 2, 11, 6, 7 for each, 8, 9 over the whole list, 12
-unfoldable pub fault_check : ℕ → List ℕ → ℕ → List ℕ → List ℕ → Outcome ℕ
-fault_check na a nb b xs =
-    and_then (pair_outcome na a nb b) (λ counts.
-    and_then (each_from (λ x. nat_lt x (2 ^ na)) bad_state 0 xs) (λ k.
-    and_then (each_from (outputs_differ (gates_of a) (gates_of b)) agreeing_state 0 xs) (λ m. served counts.first)))
+-- 2, 14, 11, 6, 7 for each, 8, 15, 9 over the whole list, 12
+unfoldable pub fault_check : Header → List ℕ → Header → List ℕ → List ℕ → Outcome ℕ
+fault_check ha a hb b xs =
+    and_then (headed_pair_outcome ha a hb b) (λ counts.
+    and_then (each_from (permits ha) bad_state 0 xs) (λ k.
+    and_then (each_from (outputs_differ ha (gates_of a) (gates_of b)) agreeing_state 0 xs) (λ m. served counts.first)))
 
 -- then 10
-unfoldable pub fault_outcome : ℕ → List ℕ → ℕ → List ℕ → List ℕ → ℕ → Outcome ℕ
-fault_outcome na a nb b xs room = and_then (fault_check na a nb b xs) (λ gates. demand (nat_le (gate_masks * gates) room) no_room 0 (served gates))
+unfoldable pub fault_outcome : Header → List ℕ → Header → List ℕ → List ℕ → ℕ → Outcome ℕ
+fault_outcome ha a hb b xs room = and_then (fault_check ha a hb b xs) (λ gates. demand (nat_le (gate_masks * gates) room) no_room 0 (served gates))
 
 -- the masks at the buffer's start
-unfoldable pub fault_buffer : ℕ → List ℕ → ℕ → List ℕ → List ℕ → List ℕ → List ℕ
-fault_buffer na a nb b xs out = written (fault_outcome na a nb b xs (length out)) (fault_masks na (gates_of a) xs) out
+unfoldable pub fault_buffer : Header → List ℕ → Header → List ℕ → List ℕ → List ℕ → List ℕ
+fault_buffer ha a hb b xs out = written (fault_outcome ha a hb b xs (length out)) (fault_masks ha.lines (gates_of a) xs) out

@@ -2,6 +2,7 @@
 use Rattle.std.specs.Prelude.{◌≡◌, ℕ, ◌+◌, ◌*◌, Bool, true, false, ◌&&◌, List, [], ◌∷◌, length, take, replicate, ◌==◌}
 use Rattle.bits.specs.Lists.{All}
 use Rattle.circuit.specs.declared.gate.Gate.{Gate}
+use Rattle.circuit.specs.Header.{unmarked}
 use Rattle.circuit.specs.Outcome.{Outcome, served, refused, and_then}
 use Rattle.circuit.specs.Words.{words_of}
 use Rattle.circuit.specs.Run.{run_outcome}
@@ -117,8 +118,8 @@ right (step n gates after) =
     found_with (length after) (step_outcome n (words_of gates)) && same (step_buffer n (words_of gates)) (filled after (length (words_of gates)))
 right (sizes n a b v c w) = served_totals v c w (miter_sizes n (words_of a) (words_of b))
 right (faults n suspect reference states masks) =
-    served_with (length suspect) (fault_outcome n (words_of suspect) n (words_of reference) states (length masks))
-    && same (fault_buffer n (words_of suspect) n (words_of reference) states (empty (length masks))) masks
+    served_with (length suspect) (fault_outcome (unmarked n) (words_of suspect) (unmarked n) (words_of reference) states (length masks))
+    && same (fault_buffer (unmarked n) (words_of suspect) (unmarked n) (words_of reference) states (empty (length masks))) masks
 right (step_none n gates) = found_none (step_outcome n (words_of gates)) && same (step_buffer n (words_of gates)) (words_of gates)
 
 abbrev pub RowsHold : List Row → Type 0

@@ -1,5 +1,6 @@
 -- What only the contracts of private functions cite.
 pub mod Emitter
 pub mod Emission
+pub mod Sums
 pub mod StepCode
 pub mod Narrowing

@@ -7,44 +7,53 @@ ghost use Rattle.checking.specs.Compare.{lowest_from, outputs_differ, Sweeps, Pi
 
 use crate::tested::Tested;
 use circuit::gate::Gate;
+use circuit::header::Header;
 use circuit::refusal::Refusal;
 
-// Whether two cascades, which were tested, give different outputs on a state.
-pub(crate) fn outputs_differ(a: Tested, b: Tested, state: u64) -> bool
-    ensures { result ≡ outputs_differ (gates_of a.entry.words.now) (gates_of b.entry.words.now) state }
+// Whether a line that counts comes out differently from two cascades, which were tested, on a state.
+pub(crate) fn outputs_differ(h: Header, a: Tested, b: Tested, state: u64) -> bool
+    ensures { result ≡ outputs_differ h (gates_of a.entry.words.now) (gates_of b.entry.words.now) state }
 {
-    circuit::run::run_tested(a.words, state) != circuit::run::run_tested(b.words, state)
+    !h.alike(
+        circuit::run::run_tested(a.words, state),
+        circuit::run::run_tested(b.words, state),
+    )
 }
 
-// The lowest of the states below `count` on which two cascades differ.
-fn lowest_difference(a: Tested, b: Tested, count: u64) -> Option<u64>
-    ensures { of_difference result ≡ lowest_from (gates_of a.entry.words.now) (gates_of b.entry.words.now) 0 count }
+// The lowest permitted state below `count` on which two cascades differ.
+fn lowest_difference(h: Header, a: Tested, b: Tested, count: u64) -> Option<u64>
+    ensures { of_difference result ≡ lowest_from h (gates_of a.entry.words.now) (gates_of b.entry.words.now) 0 count }
 {
-    (0..count).find(|x| outputs_differ(a, b, *x))
+    (0..count).find(|x| h.permits(*x) && outputs_differ(h, a, b, *x))
 }
 
-// The lowest state on which two cascades of at most 16 lines differ (01: sweep), or none; else what is wrong with the pair, or 13.
+// The lowest state on which two cascades of at most 16 lines differ (02: sweep), or none; else what is wrong with the pair, or 13.
 #[tactic(auto, unfolding(crate::specs::Compare::difference_outcome))]
-pub fn first_difference(na: u64, a: &[u64], nb: u64, b: &[u64]) -> Result<Option<u64>, Refusal>
-    ensures { Sweeps na a.now nb b.now (map_served of_difference (outcome_of result)) }
+pub fn first_difference(
+    ha: Header,
+    a: &[u64],
+    hb: Header,
+    b: &[u64],
+) -> Result<Option<u64>, Refusal>
+    ensures { Sweeps ha a.now hb b.now (map_served of_difference (outcome_of result)) }
 {
-    circuit::words::check_pair(na, a, nb, b)?;
-    if Gate::MAX_SWEEP_LINES < na {
+    circuit::words::check_headed_pair(ha, a, hb, b)?;
+    if Gate::MAX_SWEEP_LINES < ha.lines {
         return Err(Refusal::TooWide);
     }
-    Ok(lowest_difference(Tested { words: a }, Tested { words: b }, 1 << na))
+    Ok(lowest_difference(ha, Tested { words: a }, Tested { words: b }, 1 << ha.lines))
 }
 
-// Whether two cascades differ on a state (01: input check); else what is wrong with the pair, or 9.
+// Whether two cascades differ on a state (02: input check); else what is wrong with the pair, or 9.
 #[tactic(auto, unfolding(crate::specs::Compare::differs_outcome))]
-pub fn differs(na: u64, a: &[u64], nb: u64, b: &[u64], state: u64) -> Result<bool, Refusal>
-    ensures { outcome_of result ≡ differs_outcome na a.now nb b.now state }
+pub fn differs(ha: Header, a: &[u64], hb: Header, b: &[u64], state: u64) -> Result<bool, Refusal>
+    ensures { outcome_of result ≡ differs_outcome ha a.now hb b.now state }
 {
-    circuit::words::check_pair(na, a, nb, b)?;
-    if !circuit::gate::below(state, na) {
+    circuit::words::check_headed_pair(ha, a, hb, b)?;
+    if !ha.permits(state) {
         return Err(Refusal::BadState(0));
     }
-    Ok(outputs_differ(Tested { words: a }, Tested { words: b }, state))
+    Ok(outputs_differ(ha, Tested { words: a }, Tested { words: b }, state))
 }
 
 // Why `fewer_gates` is refused: what is wrong with the pair; or nothing.

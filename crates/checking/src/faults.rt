@@ -1,8 +1,9 @@
 // Faults: for each gate of a suspect the lines that may be a missing control.
 
-ghost use Rattle.std.specs.Prelude.{◌≡◌, ◌-◌, ◌*◌, ◌/◌, ◌^◌, ◌≤◌, true, not, [], length, nat_lt, position};
+ghost use Rattle.std.specs.Prelude.{◌≡◌, ◌-◌, ◌*◌, ◌/◌, ◌^◌, ◌≤◌, true, not, [], length, position};
 ghost use Rattle.bits.specs.Lists.{over};
 ghost use Rattle.circuit.specs.Gate.{max_lines, valid};
+ghost use Rattle.circuit.specs.Header.{permits};
 ghost use Rattle.circuit.specs.Outcome.{outcome_of, Yields};
 ghost use Rattle.circuit.specs.Words.{gates_of, all_valid};
 ghost use Rattle.checking.specs.Compare.{outputs_differ};
@@ -11,13 +12,14 @@ ghost use Rattle.checking.specs.private.Narrowing.{kept, narrowed, narrowed_by};
 
 use crate::tested::Tested;
 use circuit::gate::Gate;
+use circuit::header::Header;
 use circuit::refusal::Refusal;
 
 // The masks of a gate: of a missing positive control, then of a missing negative one.
 const MASKS: usize = 2;
 
 // The lines below n.
-fn lines_below(n: u64) -> u64
+pub(crate) fn lines_below(n: u64) -> u64
     requires { n ≤ max_lines }
     ensures { result ≡ 2 ^ n - 1 }
 {
@@ -95,39 +97,39 @@ fn narrow_all(gates: Tested, states: &[u64], out: &mut [u64])
     }
 }
 
-// The first state that is not below 2 ^ n.
-fn first_outside(n: u64, states: &[u64]) -> Option<usize>
-    ensures { result ≡ position (λ x. not (nat_lt x (2 ^ n))) states.now }
+// The first state that is not permitted.
+fn first_forbidden(h: Header, states: &[u64]) -> Option<usize>
+    ensures { result ≡ position (λ x. not (permits h x)) states.now }
 {
-    states.iter().position(|x| !circuit::gate::below(*x, n))
+    states.iter().position(|x| !h.permits(*x))
 }
 
 // The first state on which the cascades agree.
-fn first_agreeing(a: Tested, b: Tested, states: &[u64]) -> Option<usize>
-    ensures { result ≡ position (λ x. not (outputs_differ (gates_of a.entry.words.now) (gates_of b.entry.words.now) x)) states.now }
+fn first_agreeing(h: Header, a: Tested, b: Tested, states: &[u64]) -> Option<usize>
+    ensures { result ≡ position (λ x. not (outputs_differ h (gates_of a.entry.words.now) (gates_of b.entry.words.now) x)) states.now }
 {
     states
         .iter()
-        .position(|x| !crate::compare::outputs_differ(a, b, *x))
+        .position(|x| !crate::compare::outputs_differ(h, a, b, *x))
 }
 
 // The number of gates of the suspect; else what is wrong with the pair, 9 or 12.
 #[tactic(auto, unfolding(crate::specs::Faults::fault_check))]
 fn check_faults(
-    na: u64,
+    ha: Header,
     suspect: &[u64],
-    nb: u64,
+    hb: Header,
     reference: &[u64],
     states: &[u64],
 ) -> Result<usize, Refusal>
-    ensures { outcome_of result ≡ fault_check na suspect.now nb reference.now states.now }
+    ensures { outcome_of result ≡ fault_check ha suspect.now hb reference.now states.now }
 {
-    let counts = circuit::words::check_pair(na, suspect, nb, reference)?;
-    if let Some(i) = first_outside(na, states) {
+    let counts = circuit::words::check_headed_pair(ha, suspect, hb, reference)?;
+    if let Some(i) = first_forbidden(ha, states) {
         return Err(Refusal::BadState(i as u64));
     }
     let (a, b) = (Tested { words: suspect }, Tested { words: reference });
-    if let Some(i) = first_agreeing(a, b, states) {
+    if let Some(i) = first_agreeing(ha, a, b, states) {
         return Err(Refusal::AgreeingState(i as u64));
     }
     Ok(counts.first)
@@ -136,20 +138,20 @@ fn check_faults(
 // The number of gates of the suspect, whose masks stand at the buffer's start; else what is wrong with the pair, 9, 12 or 10.
 #[tactic(auto, unfolding(crate::specs::Faults::fault_outcome, crate::specs::Faults::fault_buffer))]
 pub fn fault_masks(
-    na: u64,
+    ha: Header,
     suspect: &[u64],
-    nb: u64,
+    hb: Header,
     reference: &[u64],
     states: &[u64],
     out: &mut [u64],
 ) -> Result<usize, Refusal>
-    ensures { Yields (outcome_of result) out.new (fault_outcome na suspect.now nb reference.now states.now (length out.old)) (fault_buffer na suspect.now nb reference.now states.now out.old) }
+    ensures { Yields (outcome_of result) out.new (fault_outcome ha suspect.now hb reference.now states.now (length out.old)) (fault_buffer ha suspect.now hb reference.now states.now out.old) }
 {
-    let gates = check_faults(na, suspect, nb, reference, states)?;
+    let gates = check_faults(ha, suspect, hb, reference, states)?;
     if out.len() < MASKS * gates {
         return Err(Refusal::NoRoom);
     }
-    start_masks(na, suspect, out);
+    start_masks(ha.lines, suspect, out);
     narrow_all(Tested { words: suspect }, states, out);
     Ok(gates)
 }

@@ -10,9 +10,11 @@ mod emission;
 mod emitter;
 pub mod faults;
 pub mod miter;
+pub mod pair;
 mod put;
 pub mod reduce;
 pub mod step;
+mod sums;
 mod tested;
 
 // Has no effect: its contract is the record of this crate's laws.

@@ -11,6 +11,10 @@ pub use Rattle.circuit.proofs.lemmas.words.Gates.{gates_length, gate_at_lem, gat
 pub use Rattle.circuit.proofs.lemmas.words.Gates.{valid_none, valid_parts, valid_both, valid_split, valid_append, valid_all_more, gate_valid, valid_next, valid_later}
 -- the tests of a caller's words
 pub use Rattle.circuit.proofs.lemmas.words.Tests.{lines_good, size_served, from_served, next_good, next_bad, none_left, gates_refused, gates_sized, check_lines, check_gates, check_served, served_check, check_refused, refused_check, words_cascade, cascade_count, cascade_words, words_wrong, pair_served, served_pair, pair_refused, pair_wrong}
+-- headers: their marks, the tests of a caller's header and words, and two runs compared
+pub use Rattle.circuit.proofs.lemmas.header.Marks.{marks_facts, marks_lines, lines_marks, permits_lines, lines_permit, permits_exactly, not_permitted, alike_lines, lines_alike, unlike_line, unmarked_good, unmarked_header, unmarked_permits, unmarked_state, unmarked_line, unmarked_alike, same_header, header_same}
+pub use Rattle.circuit.proofs.lemmas.header.Tests.{headed_lines, headed_marks, headed_words, headed_served, served_headed, headed_refused, refused_headed, headed_exactly, headed_wrong, unmarked_outcome, headed_pair_served, served_headed_pair, headed_pair_refused, headed_pair_wrong, unmarked_pair}
+pub use Rattle.circuit.proofs.lemmas.header.Runs.{equal_differs_for, differs_unlike, agrees_alike, unmarked_equal, unmarked_differs}
 -- a run and the inverse
 pub use Rattle.circuit.proofs.lemmas.run.Laws.{run_none, run_one, run_next, run_append, run_below, tested_run, equal_differs, run_refused, run_served, served_run}
 pub use Rattle.circuit.proofs.lemmas.run.Records.{records_words, records_served, served_records, records_refused, refused_records}
@@ -19,6 +23,7 @@ pub use Rattle.circuit.proofs.lemmas.inverse.Laws.{run_inverse, inverse_run, inv
 pub use Rattle.circuit.proofs.lemmas.file.Laws.{reader, read_as, read_served, served_read, read_refused, write_served, served_write, write_refused, refuses_all}
 pub use Rattle.circuit.proofs.lemmas.file.RoundTrip.{round_trip, idle_reading, idle_writing, read_leaves}
 pub use Rattle.circuit.proofs.lemmas.file.Controls.{controls_inside}
+pub use Rattle.circuit.proofs.lemmas.file.MarkLines.{no_mark_lines, mark_lines_few}
 pub use Rattle.circuit.proofs.lemmas.file.Lines.{whole, whole_one, whole_next, parts_none, parts_some, parts_cut, parts_one, parts_back, same_true, same_self, true_same}
 pub use Rattle.circuit.proofs.lemmas.file.Numbers.{is_digit_lem, digit_bounds}
 pub use Rattle.circuit.proofs.lemmas.file.put.Laws.{Written, copied, written_none, written_first, written_more, written_put, put_as, rest_length}

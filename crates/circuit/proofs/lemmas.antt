@@ -2,6 +2,7 @@
 pub mod Outcome
 pub mod file
 pub mod gate
+pub mod header
 pub mod inverse
 pub mod run
 pub mod words

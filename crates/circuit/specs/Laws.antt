@@ -1,14 +1,16 @@
--- What this crate proves of gates, of a caller's words, of cascades and of cascade files.
+-- What this crate proves of gates, of a caller's words, of headers, of cascades and of cascade files.
 use Rattle.std.specs.Prelude.{◌≡◌, ℕ, ◌*◌, ◌%◌, ◌^◌, ◌<◌, ◌≤◌, true, false, not, ◌&&◌, ◌||◌, ◌↔◌, List, ◌++◌, reverse, length, take, drop, ◌==◌, bit_or, bit_xor}
 use Rattle.std.specs.Bool.{xor}
 use Rattle.bits.specs.Digits.{bit, lines_in}
 use Rattle.bits.specs.Lists.{over}
 use Rattle.circuit.specs.declared.gate.Gate.{Gate}
+use Rattle.circuit.specs.declared.header.Header.{Header}
 use Rattle.circuit.specs.Gate.{max_lines, max_gates, not_gate, valid, fires, apply, missed, toggled, control_count, controls_of, all_met}
+use Rattle.circuit.specs.Header.{unmarked, marks_good, marked, permits, alike, MarksByLines, Permitted, LineCounts}
 use Rattle.circuit.specs.Outcome.{served, refused, Wrong, Fails, Untouched, Yields}
-use Rattle.circuit.specs.Words.{gates_of, words_of, all_valid, check_outcome, Cascade, pair_outcome, WordsRefused, GoodPair, PairRefused}
+use Rattle.circuit.specs.Words.{gates_of, words_of, all_valid, check_outcome, Cascade, pair_outcome, WordsRefused, GoodPair, PairRefused, headed_outcome, Headed, HeadedRefused, headed_pair_outcome, HeadedPair, HeadedPairRefused}
 use Rattle.circuit.specs.declared.words.Counts.{Counts}
-use Rattle.circuit.specs.Run.{run, run_tested, Equal, Differs, run_outcome, records_outcome}
+use Rattle.circuit.specs.Run.{run, run_tested, Equal, Differs, EqualFor, DiffersFor, run_outcome, records_outcome}
 use Rattle.circuit.specs.Refusal.{bad_state, no_room}
 use Rattle.circuit.specs.Inverse.{inverse, inverse_outcome, inverse_buffer}
 use Rattle.circuit.specs.FileLaws.{FileLaws}
@@ -104,8 +106,32 @@ pub record CascadeLaws : Type 0 where
   -- two cascades are equal exactly when they differ on no state
   pub equal_differs : (n : ℕ) (a b : List Gate) → Equal n a b ↔ ((x : ℕ) → Differs n a b x → ⊥)
 
+pub record HeaderLaws : Type 0 where
+  -- the tests by whole masks are those by lines
+  pub marks_lines : (h : Header) → (marks_good h ≡ true) ↔ MarksByLines h
+  pub permits_lines : (h : Header) (x : ℕ) → marks_good h ≡ true → (permits h x ≡ true) ↔ Permitted h x
+  pub alike_lines : (h : Header) (s t : ℕ) → s < 2 ^ h.lines → t < 2 ^ h.lines → (alike h s t ≡ true) ↔ ((k : ℕ) → LineCounts h k → bit s k ≡ bit t k)
+  -- the tests of a caller's header and words serve exactly the cascades with good marks, and refuse exactly by what is wrong
+  pub headed_served : (h : Header) (ws : List ℕ) (limit k : ℕ) → (headed_outcome h ws limit ≡ served k) ↔ Headed h ws limit k
+  pub headed_refused : (h : Header) (ws : List ℕ) (limit number place : ℕ) → (headed_outcome h ws limit ≡ refused number place) ↔ HeadedRefused h ws limit number place
+  pub pair_served : (ha : Header) (a : List ℕ) (hb : Header) (b : List ℕ) (c : Counts) → (headed_pair_outcome ha a hb b ≡ served c) ↔ HeadedPair ha a hb b c
+  pub pair_refused : (ha : Header) (a : List ℕ) (hb : Header) (b : List ℕ) (number place : ℕ)
+      → (headed_pair_outcome ha a hb b ≡ refused number place) ↔ HeadedPairRefused ha a hb b number place
+  -- two cascades are equal exactly when they differ on no state
+  pub equal_differs : (h : Header) (a b : List Gate) → EqualFor h a b ↔ ((x : ℕ) → DiffersFor h a b x → ⊥)
+  -- a header without marks has no other form, and with it tests, equality and difference are those of document 01
+  pub unmarked_good : (n : ℕ) → marks_good (unmarked n) ≡ true
+  pub unmarked_only : (h : Header) → marks_good h ≡ true → marked h ≡ false → h ≡ unmarked h.lines
+  pub unmarked_outcome : (n : ℕ) (ws : List ℕ) (limit : ℕ) → headed_outcome (unmarked n) ws limit ≡ check_outcome n ws limit
+  pub unmarked_pair : (na : ℕ) (a : List ℕ) (nb : ℕ) (b : List ℕ) → headed_pair_outcome (unmarked na) a (unmarked nb) b ≡ pair_outcome na a nb b
+  pub unmarked_permitted : (n x : ℕ) → Permitted (unmarked n) x ↔ (x < 2 ^ n)
+  pub unmarked_counts : (n k : ℕ) → LineCounts (unmarked n) k ↔ (k < n)
+  pub unmarked_equal : (n : ℕ) (a b : List Gate) → all_valid n a ≡ true → all_valid n b ≡ true → EqualFor (unmarked n) a b ↔ Equal n a b
+  pub unmarked_differs : (n : ℕ) (a b : List Gate) → all_valid n a ≡ true → all_valid n b ≡ true → (x : ℕ) → DiffersFor (unmarked n) a b x ↔ Differs n a b x
+
 pub record CircuitLaws : Type 0 where
   pub gate : GateLaws
   pub words : WordsLaws
+  pub headers : HeaderLaws
   pub cascades : CascadeLaws
   pub file : FileLaws

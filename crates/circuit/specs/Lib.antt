@@ -1,6 +1,7 @@
 pub mod Refusal
 pub mod Outcome
 pub mod Gate
+pub mod Header
 pub mod Words
 pub mod Run
 pub mod Inverse

@@ -1,7 +1,7 @@
--- The refusals of document 01 by number.
+-- The refusals of documents 01 and 02 by number.
 use Rattle.std.specs.Prelude.{ℕ}
 use Rattle.circuit.specs.declared.refusal.Refusal.{Refusal}
-use Rattle.circuit.specs.declared.refusal.Refusal.TheVariants.{WrongForm, BadLineCount, LineOutside, TargetControlled, NotRising, TooManyGates, NoGate, LineCountsDiffer, BadState, NoRoom, BadWordCount, AgreeingState, TooWide}
+use Rattle.circuit.specs.declared.refusal.Refusal.TheVariants.{WrongForm, BadLineCount, LineOutside, TargetControlled, NotRising, TooManyGates, NoGate, LineCountsDiffer, BadState, NoRoom, BadWordCount, AgreeingState, TooWide, BadMark, MarksDiffer}
 
 -- a line of the wrong form, a missing `end` or LF
 abbrev pub wrong_form : ℕ
@@ -35,7 +35,7 @@ no_gate = 7
 abbrev pub line_counts_differ : ℕ
 line_counts_differ = 8
 
--- a state of 2 ^ n or more
+-- a state of 2 ^ n or more, or that breaks a constant
 abbrev pub bad_state : ℕ
 bad_state = 9
 
@@ -55,6 +55,14 @@ agreeing_state = 12
 abbrev pub too_wide : ℕ
 too_wide = 13
 
+-- a mark on no line of the cascade, marks of a file that do not rise, or value 1 on a line that is no constant
+abbrev pub bad_mark : ℕ
+bad_mark = 14
+
+-- two cascades with different marks
+abbrev pub marks_differ : ℕ
+marks_differ = 15
+
 -- a refusal's number
 abbrev pub refusal_number : Refusal → ℕ
 refusal_number (WrongForm place) = wrong_form
@@ -70,6 +78,8 @@ refusal_number NoRoom = no_room
 refusal_number BadWordCount = bad_word_count
 refusal_number (AgreeingState place) = agreeing_state
 refusal_number TooWide = too_wide
+refusal_number (BadMark place) = bad_mark
+refusal_number MarksDiffer = marks_differ
 
 -- its place: the line of a file, the gate or the list index; else 0
 abbrev pub refusal_place : Refusal → ℕ
@@ -86,3 +96,5 @@ refusal_place NoRoom = 0
 refusal_place BadWordCount = 0
 refusal_place (AgreeingState place) = place
 refusal_place TooWide = 0
+refusal_place (BadMark place) = place
+refusal_place MarksDiffer = 0

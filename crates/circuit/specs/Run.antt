@@ -1,8 +1,11 @@
 -- A cascade on a state: the first gate acts first.
 use Rattle.std.specs.Prelude.{◌≡◌, ℕ, ◌^◌, ◌<◌, List, length, nat_le, nat_lt}
+use Rattle.bits.specs.Digits.{bit}
 use Rattle.bits.specs.Lists.{fold}
 use Rattle.circuit.specs.declared.gate.Gate.{Gate}
+use Rattle.circuit.specs.declared.header.Header.{Header}
 use Rattle.circuit.specs.Gate.{max_gates, apply, toggled}
+use Rattle.circuit.specs.Header.{Permitted, LineCounts}
 use Rattle.circuit.specs.Outcome.{Outcome, served, demand, and_then}
 use Rattle.circuit.specs.Refusal.{bad_line_count, too_many_gates, bad_state}
 use Rattle.circuit.specs.Words.{gates_of, line_count_good, valid_from, check_outcome}
@@ -23,6 +26,17 @@ Equal n a b = (x : ℕ) → x < 2 ^ n → run a x ≡ run b x
 pub record Differs (n : ℕ) (a b : List Gate) (x : ℕ) : Type 0 where
   pub state : x < 2 ^ n
   pub outputs : run a x ≡ run b x → ⊥
+
+-- by document 02, of two cascades with this header: on each state that honours the constants, every line that counts comes out alike
+abbrev pub EqualFor : Header → List Gate → List Gate → Type 0
+EqualFor h a b = (x : ℕ) → Permitted h x → (k : ℕ) → LineCounts h k → bit (run a x) k ≡ bit (run b x) k
+
+-- x is a state that honours the constants, and some line that counts comes out differently
+pub record DiffersFor (h : Header) (a b : List Gate) (x : ℕ) : Type 0 where
+  pub permitted : Permitted h x
+  pub line : ℕ
+  pub counts : LineCounts h line
+  pub outputs : bit (run a x) line ≡ bit (run b x) line → ⊥
 
 -- 2, 11, 6, 7, 9
 unfoldable pub run_outcome : ℕ → List ℕ → ℕ → Outcome ℕ

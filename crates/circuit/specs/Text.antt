@@ -1,6 +1,9 @@
--- The text of a cascade, by document 01.
-use Rattle.std.specs.Prelude.{ℕ, ◌+◌, ◌/◌, ◌%◌, cond, List, [], ◌∷◌, ◌++◌, nat_lt}
+-- The text of a cascade, by documents 01 and 02.
+use Rattle.std.specs.Prelude.{ℕ, ◌+◌, ◌/◌, ◌%◌, Bool, cond, List, [], ◌∷◌, ◌++◌, nat_lt}
+use Rattle.std.specs.List.{flat_map}
+use Rattle.bits.specs.Digits.{bit, lines_in}
 use Rattle.circuit.specs.declared.gate.Gate.{Gate}
+use Rattle.circuit.specs.declared.header.Header.{Header}
 use Rattle.circuit.specs.Gate.{Control, controls_of}
 
 -- tab, LF, `+`, `-`, and the digit of a number below 10
@@ -19,9 +22,15 @@ minus_sign = 45
 abbrev pub digit : ℕ → ℕ
 digit k = 48 + k
 
--- `lines`, `g`, `end`
+-- `lines`, `const`, `junk`, `g`, `end`
 abbrev pub lines_word : List ℕ
 lines_word = 108 ∷ 105 ∷ 110 ∷ 101 ∷ 115 ∷ []
+
+abbrev pub const_word : List ℕ
+const_word = 99 ∷ 111 ∷ 110 ∷ 115 ∷ 116 ∷ []
+
+abbrev pub junk_word : List ℕ
+junk_word = 106 ∷ 117 ∷ 110 ∷ 107 ∷ []
 
 abbrev pub gate_word : List ℕ
 gate_word = 103 ∷ []
@@ -47,8 +56,8 @@ abbrev pub gate_text : Gate → List ℕ
 gate_text g = gate_word ++ (tab ∷ (number_text g.target ++ controls_text (controls_of g)))
 
 -- lines, each with its LF
-abbrev pub header_line : ℕ → List ℕ
-header_line n = lines_word ++ (tab ∷ (number_text n ++ (line_feed ∷ [])))
+abbrev pub count_line : ℕ → List ℕ
+count_line n = lines_word ++ (tab ∷ (number_text n ++ (line_feed ∷ [])))
 
 abbrev pub gate_line : Gate → List ℕ
 gate_line g = gate_text g ++ (line_feed ∷ [])
@@ -60,6 +69,24 @@ unfoldable pub gate_lines : List Gate → List ℕ
 gate_lines [] = []
 gate_lines (g ∷ gs) = gate_line g ++ gate_lines gs
 
--- first `lines`, n; each gate; last `end`
-abbrev pub text_of : ℕ → List Gate → List ℕ
-text_of n gs = header_line n ++ (gate_lines gs ++ end_line)
+-- the line of a constant and its value, and that of a junk line
+abbrev pub const_line : ℕ → Bool → List ℕ
+const_line k value = const_word ++ (tab ∷ (number_text k ++ (tab ∷ digit (cond value 1 0) ∷ line_feed ∷ [])))
+
+abbrev pub junk_line : ℕ → List ℕ
+junk_line k = junk_word ++ (tab ∷ (number_text k ++ (line_feed ∷ [])))
+
+-- the constants of a header, and its junk lines, by rising line
+abbrev pub const_lines : Header → List ℕ
+const_lines h = flat_map (λ k. const_line k (bit h.values k)) (lines_in h.constants h.lines)
+
+abbrev pub junk_lines : Header → List ℕ
+junk_lines h = flat_map junk_line (lines_in h.junk h.lines)
+
+-- the lines before those of the gates: `lines`, n; each constant; each junk line
+abbrev pub header_lines : Header → List ℕ
+header_lines h = count_line h.lines ++ (const_lines h ++ junk_lines h)
+
+-- first the header's lines; each gate; last `end`
+abbrev pub text_of : Header → List Gate → List ℕ
+text_of h gs = header_lines h ++ (gate_lines gs ++ end_line)

@@ -4,8 +4,10 @@ use Rattle.bits.specs.Lists.{over}
 use Rattle.circuit.specs.declared.gate.Gate.{Gate}
 use Rattle.circuit.specs.declared.words.Counts.{Counts}
 use Rattle.circuit.specs.Gate.{max_lines, max_gates, not_gate, valid}
+use Rattle.circuit.specs.declared.header.Header.{Header}
+use Rattle.circuit.specs.Header.{marks_good, same_marks, MarksByLines}
 use Rattle.circuit.specs.Outcome.{Outcome, served, demand, and_then, Wrong, Fails}
-use Rattle.circuit.specs.Refusal.{bad_line_count, too_many_gates, no_gate, line_counts_differ, bad_word_count}
+use Rattle.circuit.specs.Refusal.{bad_line_count, too_many_gates, no_gate, line_counts_differ, bad_word_count, bad_mark, marks_differ}
 
 -- the gates, first to last
 unfoldable pub gates_of : List ℕ → List Gate
@@ -95,3 +97,46 @@ abbrev pub PairRefused : ℕ → List ℕ → ℕ → List ℕ → ℕ → ℕ �
 PairRefused na a nb b =
     Wrong (WordsRefused na a max_gates) (Cascade na a max_gates) (λ k.
     Wrong (WordsRefused nb b max_gates) (Cascade nb b max_gates) (λ m. Fails (na ≢ nb) line_counts_differ 0))
+
+-- ---- cascades with marks
+
+-- 2, 14, 11, 6, 7
+unfoldable pub headed_outcome : Header → List ℕ → ℕ → Outcome ℕ
+headed_outcome h ws limit =
+    demand (line_count_good h.lines) bad_line_count 0 (demand (marks_good h) bad_mark 0 (gates_outcome h.lines ws limit))
+
+-- the words of a cascade with this header, of k gates
+pub record Headed (h : Header) (ws : List ℕ) (limit k : ℕ) : Type 0 where
+  pub marks : marks_good h ≡ true
+  pub cascade : Cascade h.lines ws limit k
+
+-- what is wrong with a caller's header and words
+pub data HeadedRefused (h : Header) (ws : List ℕ) (limit : ℕ) : ℕ → ℕ → Type 0 where
+  bad_lines : (1 ≤ h.lines → h.lines ≤ max_lines → ⊥) → HeadedRefused h ws limit bad_line_count 0
+  bad_marks : 1 ≤ h.lines → h.lines ≤ max_lines → (MarksByLines h → ⊥) → HeadedRefused h ws limit bad_mark 0
+  bad_words : MarksByLines h → (number place : ℕ) → 1 ≤ h.lines → h.lines ≤ max_lines → WordsRefused h.lines ws limit number place → HeadedRefused h ws limit number place
+
+-- 2, 14, 11, 6, 7 for the first cascade, the same for the second, 8, 15
+unfoldable pub headed_pair_outcome : Header → List ℕ → Header → List ℕ → Outcome Counts
+headed_pair_outcome ha a hb b =
+    and_then (headed_outcome ha a max_gates) (λ k.
+    and_then (headed_outcome hb b max_gates) (λ m.
+    demand (ha.lines == hb.lines) line_counts_differ 0
+    (demand (same_marks ha hb) marks_differ 0 (served (record { first = k; second = m })))))
+
+-- two cascades with the same header, with their numbers of gates
+pub record HeadedPair (ha : Header) (a : List ℕ) (hb : Header) (b : List ℕ) (c : Counts) : Type 0 where
+  pub first_good : Headed ha a max_gates c.first
+  pub second_good : Headed hb b max_gates c.second
+  pub header : ha ≡ hb
+
+-- what two good cascades may not differ in
+pub data HeadersDiffer (ha hb : Header) : ℕ → ℕ → Type 0 where
+  other_lines : (ha.lines ≢ hb.lines) → HeadersDiffer ha hb line_counts_differ 0
+  other_marks : ha.lines ≡ hb.lines → (ha ≢ hb) → HeadersDiffer ha hb marks_differ 0
+
+-- what is wrong with two cascades: with the first, with the second where the first is good, or 8, or 15, where both are
+abbrev pub HeadedPairRefused : Header → List ℕ → Header → List ℕ → ℕ → ℕ → Type 0
+HeadedPairRefused ha a hb b =
+    Wrong (HeadedRefused ha a max_gates) (Headed ha a max_gates) (λ k.
+    Wrong (HeadedRefused hb b max_gates) (Headed hb b max_gates) (λ m. HeadersDiffer ha hb))

@@ -2,3 +2,4 @@
 pub mod Scan
 pub mod Fill
 pub mod Put
+pub mod Marks

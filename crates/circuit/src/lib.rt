@@ -5,6 +5,7 @@ ghost use Rattle.circuit.specs.Laws.{CircuitLaws};
 
 pub mod file;
 pub mod gate;
+pub mod header;
 pub mod inverse;
 pub mod refusal;
 pub mod run;

@@ -1,4 +1,4 @@
-// Why a call is refused: by document 01 a number and a place.
+// Why a call is refused: by documents 01 and 02 a number and a place.
 
 ghost use Rattle.std.specs.Prelude.{◌≡◌};
 ghost use Rattle.circuit.specs.Refusal.{refusal_number, refusal_place};
@@ -21,7 +21,7 @@ pub enum Refusal {
     NoGate(u64),
     // Two cascades have different line counts.
     LineCountsDiffer,
-    // A state has a bit above the lines.
+    // A state has a bit above the lines, or breaks a constant.
     BadState(u64),
     // The buffer is shorter than the answer.
     NoRoom,
@@ -31,6 +31,10 @@ pub enum Refusal {
     AgreeingState(u64),
     // A sweep has more than 16 lines.
     TooWide,
+    // A mark stands on no line of the cascade, or marks do not rise, or a line that is no constant has value 1.
+    BadMark(u64),
+    // Two cascades have different marks.
+    MarksDiffer,
 }
 
 impl Refusal {
@@ -51,6 +55,8 @@ impl Refusal {
             Refusal::BadWordCount => 11,
             Refusal::AgreeingState(_) => 12,
             Refusal::TooWide => 13,
+            Refusal::BadMark(_) => 14,
+            Refusal::MarksDiffer => 15,
         }
     }
 
@@ -66,7 +72,8 @@ impl Refusal {
             | Refusal::TooManyGates(place)
             | Refusal::NoGate(place)
             | Refusal::BadState(place)
-            | Refusal::AgreeingState(place) => place,
+            | Refusal::AgreeingState(place)
+            | Refusal::BadMark(place) => place,
             _ => 0,
         }
     }

@@ -3,9 +3,10 @@
 ghost use Rattle.std.specs.Prelude.{◌≡◌, ◌≤◌, length};
 ghost use Rattle.bits.specs.Lists.{over};
 ghost use Rattle.circuit.specs.Outcome.{outcome_of};
-ghost use Rattle.circuit.specs.Words.{gates_of, gate_at, gate_words, put_gate, line_count_good, valid_from, size_outcome, gates_outcome, check_outcome, pair_outcome};
+ghost use Rattle.circuit.specs.Words.{gates_of, gate_at, gate_words, put_gate, line_count_good, valid_from, size_outcome, gates_outcome, check_outcome, pair_outcome, headed_outcome, headed_pair_outcome};
 
 use crate::gate::Gate;
+use crate::header::Header;
 use crate::refusal::Refusal;
 
 // The numbers of gates of two cascades.
@@ -117,4 +118,37 @@ pub fn check_pair(na: u64, a: &[u64], nb: u64, b: &[u64]) -> Result<Counts, Refu
         return Err(Refusal::LineCountsDiffer);
     }
     Ok(Counts { first, second })
+}
+
+// The number of gates, at most `limit`, of a cascade with this header; else 2, 14, 11, 6 or 7. Not inlined, as above: inlined in it, writing without controls took 1.24 times as long as before.
+#[inline(never)]
+#[tactic(auto, unfolding(crate::specs::Words::headed_outcome))]
+pub fn check_headed(h: Header, words: &[u64], limit: usize) -> Result<usize, Refusal>
+    ensures { outcome_of result ≡ headed_outcome h words.now limit }
+{
+    if !line_count_good(h.lines) {
+        return Err(Refusal::BadLineCount);
+    }
+    if !h.marks_good() {
+        return Err(Refusal::BadMark(0));
+    }
+    check_gates(h.lines, words, limit)
+}
+
+// The numbers of gates of two cascades with the same header; else what is wrong with the first, with the second, 8 or 15.
+#[tactic(auto, unfolding(crate::specs::Words::headed_pair_outcome))]
+pub fn check_headed_pair(ha: Header, a: &[u64], hb: Header, b: &[u64]) -> Result<Counts, Refusal>
+    ensures { outcome_of result ≡ headed_pair_outcome ha a.now hb b.now }
+{
+    let counts = Counts {
+        first: check_headed(ha, a, Gate::MAX_GATES)?,
+        second: check_headed(hb, b, Gate::MAX_GATES)?,
+    };
+    if ha.lines != hb.lines {
+        return Err(Refusal::LineCountsDiffer);
+    }
+    if !ha.same_marks(hb) {
+        return Err(Refusal::MarksDiffer);
+    }
+    Ok(counts)
 }

@@ -3,6 +3,8 @@
 
 ghost use Rattle.std.specs.Prelude.{◌≤◌, length};
 
+use circuit::header::Header;
+
 // Lines, gates and bytes taken.
 fn print_read(rt: &impl Print, text: &[u8]) {
     let mut out = [0u64; 3072];
@@ -10,7 +12,11 @@ fn print_read(rt: &impl Print, text: &[u8]) {
         Ok(counts) => rows::print_row(
             rt,
             b"read ",
-            &[counts.lines, counts.gates as u64, counts.taken as u64],
+            &[
+                counts.header.lines,
+                counts.gates as u64,
+                counts.taken as u64,
+            ],
         ),
         Err(why) => rows::print_row(rt, b"refused ", &[why.number(), why.place()]),
     }
@@ -66,7 +72,7 @@ fn print_long(rt: &impl Print, gates: usize, last: &[u8]) {
 // The text of a cascade in a buffer of 32 bytes.
 fn print_write(rt: &impl Print, lines: u64, words: &[u64]) {
     let mut out = [0u8; 32];
-    match circuit::file::write(lines, words, &mut out) {
+    match circuit::file::write(Header::unmarked(lines), words, &mut out) {
         Ok(written) => {
             if written <= 32 {
                 let _ = rt.write_all(&out[0..written]);

@@ -1,5 +1,6 @@
 -- What is written for one input. Assumes nothing.
 use mathlib.Core.Path.{◌≡◌, refl, sym, ap, ap₂, subst, ◌∙◌}
+use mathlib.Core.Logic.{◌↔◌}
 use mathlib.Core.Bool.{Bool, true, false, cond, ◌&&◌}
 use mathlib.Core.List.{List, [], ◌∷◌}
 use mathlib.Core.Option.{Option, none, some}
@@ -8,23 +9,27 @@ use native.Mathlib.Nat.{le_trans}
 use native.Mathlib.Omega.{arith}
 use lib.Dec.{eqb, leb}
 use lib.ListN.{length, get_or}
-use borrow.Author.Tests.{le-leb, leb-true, ne_eqb, eq-eqb, eqb-true, eqb-false}
-use Rattle.bits.proofs.Bools.{either, and_parts, both, cond-true, cond-false}
+use borrow.Author.Tests.{le-leb, leb-true, eqb-true, eqb-false}
+use Rattle.bits.proofs.Bools.{either, refuted, and_parts, both, cond-true, cond-false}
 use Rattle.bits.specs.Digits.{bit}
 use Rattle.bits.proofs.Digits.{bit_first, bit_suc}
 use Rattle.circuit.specs.declared.gate.Gate.{Gate}
+use Rattle.circuit.specs.declared.header.Header.{Header}
+use Rattle.circuit.specs.Header.{permits, alike, Permitted}
 use Rattle.circuit.specs.Outcome.{Outcome, served, demand}
-use Rattle.circuit.specs.Refusal.{no_room}
-use Rattle.circuit.specs.Run.{run, Differs}
+use Rattle.circuit.specs.Refusal.{bad_state, no_room}
+use Rattle.circuit.specs.Run.{run, DiffersFor}
 use Rattle.circuit.specs.Text.{digit}
-use Rattle.circuit.proofs.Promises.{demand_met}
+use Rattle.circuit.proofs.Promises.{demand_met, permits_lines, lines_permit, differs_unlike}
+use Rattle.text.specs.declared.input.Outputs.{Outputs}
 use Rattle.text.specs.Dimacs.{then_read}
 use Rattle.text.specs.FileOutcome.{FileOutcome, answered, refused_at, refusal_text}
 use Rattle.text.specs.Compare.{file_words, CascadePair, cascades, files_of, differ_word}
 use Rattle.text.specs.Answers.{fit_outcome, WritesWhere}
 use Rattle.text.specs.TwoFiles.{TwoFiles, FilesRefused}
-use Rattle.text.specs.CheckInput.{max_checked, state_text, state_read, agree_word, outputs_text, checked_on, checked_files, checked, checked_text, check_text, InputRoomsFit, input_outcome, input_buffer}
+use Rattle.text.specs.CheckInput.{max_checked, state_text, state_read, agree_word, outputs, outputs_text, checked_on, checked_files, checked, checked_text, check_text, InputRoomsFit, input_outcome, input_buffer}
 use Rattle.text.specs.CheckInputLaws.{said_of, ChecksInput}
+use Rattle.text.proofs.FileOutcome.{both_met, both_failed}
 use Rattle.text.proofs.Writes.{two_tests, writes_where}
 use Rattle.text.proofs.Longest.{refused_few}
 use Rattle.text.proofs.Verdicts.{Judged, judged, judged_is}
@@ -91,32 +96,48 @@ unfolding check_text checked
 refused_told first second state number file place r =
     ap (λ (f : FileOutcome CascadePair). checked_text (checked_files f state)) (judged_is first second (refused_at number file place) r)
 
-module _ (first second : List ℕ) (n : ℕ) (a b : List Gate) (t : TwoFiles first second n a b) where
-  told_of : (state : List ℕ) → check_text first second state ≡ checked_text (checked_on n a b (state_read n state))
+module _ (first second : List ℕ) (h : Header) (a b : List Gate) (t : TwoFiles first second h a b) where
+  abbrev answer : Option ℕ → List ℕ
+  answer o = checked_text (checked_on h a b o)
+
+  told_of : (state : List ℕ) → check_text first second state ≡ answer (state_read h.lines state)
   unfolding check_text checked
-  told_of state = ap (λ (f : FileOutcome CascadePair). checked_text (checked_files f state)) (judged_is first second (answered (cascades n a b)) t)
+  told_of state = ap (λ (f : FileOutcome CascadePair). checked_text (checked_files f state)) (judged_is first second (answered (cascades h a b)) t)
 
-  module _ (x : ℕ) (h : x < 2 ^ n) where
-    outputs_are : check_text first second (state_text n x) ≡ outputs_text n (run a x) (run b x)
-    outputs_are = told_of (state_text n x) ∙ ap (λ (o : Option ℕ). checked_text (checked_on n a b o)) (state_back n x h)
+  module _ (x : ℕ) (p : Permitted h x) where
+    outputs_are : check_text first second (state_text h.lines x) ≡ outputs_text h (run a x) (run b x)
+    outputs_are =
+        told_of (state_text h.lines x)
+        ∙ ap answer (state_back h.lines x p.state)
+        ∙ ap checked_text (both_met (permits h x) _ _ (lines_permit h x t.first_good.marks p))
 
-    pub agree_told : run a x ≡ run b x → check_text first second (state_text n x) ≡ said_of agree_word n a b x
+    said_alike : alike h (run a x) (run b x) ≡ true → check_text first second (state_text h.lines x) ≡ said_of agree_word h.lines a b x
     unfolding outputs_text
-    agree_told e = outputs_are ∙ ap (λ (w : List ℕ). said_of w n a b x) (cond-true (eqb (run a x) (run b x)) _ _ (eq-eqb _ _ e))
+    said_alike e = outputs_are ∙ ap (λ (w : List ℕ). said_of w h.lines a b x) (cond-true (alike h (run a x) (run b x)) _ _ e)
 
-    told_apart : (run a x ≡ run b x → ⊥) → check_text first second (state_text n x) ≡ said_of differ_word n a b x
+    said_apart : alike h (run a x) (run b x) ≡ false → check_text first second (state_text h.lines x) ≡ said_of differ_word h.lines a b x
     unfolding outputs_text
-    told_apart e = outputs_are ∙ ap (λ (w : List ℕ). said_of w n a b x) (cond-false (eqb (run a x) (run b x)) _ _ (ne_eqb _ _ e))
+    said_apart e = outputs_are ∙ ap (λ (w : List ℕ). said_of w h.lines a b x) (cond-false (alike h (run a x) (run b x)) _ _ e)
 
-  pub differ_told : (x : ℕ) → Differs n a b x → check_text first second (state_text n x) ≡ said_of differ_word n a b x
-  differ_told x d = told_apart x d.state d.outputs
+  unlike : (x : ℕ) → DiffersFor h a b x ↔ (Permitted h x × (alike h (run a x) (run b x) ≡ false))
+  unlike = differs_unlike h a b t.first_good.gates t.second_good.gates
 
-  pub no_state : (state : List ℕ) → ((x : ℕ) → x < 2 ^ n → state ≡ state_text n x → ⊥) → check_text first second state ≡ refusal_text 9 0 0
-  no_state state h = told_of state ∙ by (state_read n state) refl
+  pub agree_told : (x : ℕ) → Permitted h x → (DiffersFor h a b x → ⊥) → check_text first second (state_text h.lines x) ≡ said_of agree_word h.lines a b x
+  agree_told x p same =
+      either (alike h (run a x) (run b x)) (said_alike x p) (λ e. absurd (same ((unlike x).1 (p, e))))
+
+  pub differ_told : (x : ℕ) → DiffersFor h a b x → check_text first second (state_text h.lines x) ≡ said_of differ_word h.lines a b x
+  differ_told x d = said_apart x d.permitted ((unlike x).0 d).1
+
+  pub no_state : (state : List ℕ) → ((x : ℕ) → Permitted h x → state ≡ state_text h.lines x → ⊥) → check_text first second state ≡ refusal_text 9 0 0
+  no_state state bad = told_of state ∙ by (state_read h.lines state) refl
     where
-      by : (o : Option ℕ) → state_read n state ≡ o → checked_text (checked_on n a b (state_read n state)) ≡ refusal_text 9 0 0
-      by (some x) e = let (l, s) = state_was n state x e in absurd (h x l s)
-      by none e = ap (λ (o : Option ℕ). checked_text (checked_on n a b o)) e
+      by : (o : Option ℕ) → state_read h.lines state ≡ o → answer (state_read h.lines state) ≡ refusal_text 9 0 0
+      by (some x) e =
+          let (l, s) = state_was h.lines state x e in
+          ap answer e
+          ∙ either (permits h x) (λ p. absurd (bad x (permits_lines h x p) s)) (λ p. ap checked_text (both_failed (permits h x) bad_state _ p))
+      by none e = ap answer e
 
 pub checks : ChecksInput check_text
 checks = record { refused_told = refused_told; no_state = no_state; differ_told = differ_told; agree_told = agree_told }
@@ -124,29 +145,39 @@ checks = record { refused_told = refused_told; no_state = no_state; differ_told 
 -- ---- any program that tells as much
 
 module _ (program : List ℕ → List ℕ → List ℕ → List ℕ) (other : List ℕ → List ℕ → List ℕ → List ℕ) (p : ChecksInput program) (q : ChecksInput other) (first second : List ℕ) where
-  module _ (n : ℕ) (a b : List Gate) (t : TwoFiles first second n a b) where
-    on_state : (x : ℕ) → x < 2 ^ n → program first second (state_text n x) ≡ other first second (state_text n x)
-    on_state x h =
-        either (eqb (run a x) (run b x))
+  module _ (h : Header) (a b : List Gate) (t : TwoFiles first second h a b) where
+    on_state : (x : ℕ) → Permitted h x → program first second (state_text h.lines x) ≡ other first second (state_text h.lines x)
+    on_state x allowed =
+        let unlike = differs_unlike h a b t.first_good.gates t.second_good.gates x in
+        either (alike h (run a x) (run b x))
         (λ u.
-        let e = eqb-true (run a x) (run b x) u in
-        p.agree_told first second n a b t x h e ∙ sym (q.agree_told first second n a b t x h e))
+        let same : DiffersFor h a b x → ⊥ = λ d. refuted (unlike.0 d).1 u in
+        p.agree_told first second h a b t x allowed same ∙ sym (q.agree_told first second h a b t x allowed same))
         (λ u.
-        let d : Differs n a b x = record { state = h; outputs = eqb-false (run a x) (run b x) u } in
-        p.differ_told first second n a b t x d ∙ sym (q.differ_told first second n a b t x d))
+        let d = unlike.1 (allowed, u) in
+        p.differ_told first second h a b t x d ∙ sym (q.differ_told first second h a b t x d))
 
-    on_text : (state : List ℕ) (o : Option ℕ) → state_read n state ≡ o → program first second state ≡ other first second state
+    none_such : (state : List ℕ) → ((x : ℕ) → Permitted h x → state ≡ state_text h.lines x → ⊥) → program first second state ≡ other first second state
+    none_such state bad = p.no_state first second h a b t state bad ∙ sym (q.no_state first second h a b t state bad)
+
+    on_text : (state : List ℕ) (o : Option ℕ) → state_read h.lines state ≡ o → program first second state ≡ other first second state
     on_text state (some x) e =
-        let (h, s) = state_was n state x e in
-        subst (λ (w : List ℕ). program first second w ≡ other first second w) (sym s) (on_state x h)
+        let (l, s) = state_was h.lines state x e in
+        either (permits h x)
+        (λ u. subst (λ (w : List ℕ). program first second w ≡ other first second w) (sym s) (on_state x (permits_lines h x u)))
+        (λ u.
+        none_such state (λ y allowed r.
+        let f : some x ≡ some y = sym e ∙ ap (state_read h.lines) r ∙ state_back h.lines y allowed.state in
+        let g : y ≡ x = cc in
+        refuted u (ap (permits h) (sym g) ∙ lines_permit h y t.first_good.marks allowed)))
     on_text state none e =
-        let bad : (x : ℕ) → x < 2 ^ n → state ≡ state_text n x → ⊥ =
-        λ x h s. let g = sym e ∙ ap (state_read n) s ∙ state_back n x h in let z : ◌≡◌ {A = ℕ} 0 1 = cc in omega arith
-        in
-        p.no_state first second n a b t state bad ∙ sym (q.no_state first second n a b t state bad)
+        none_such state (λ x allowed s.
+        let g = sym e ∙ ap (state_read h.lines) s ∙ state_back h.lines x allowed.state in
+        let z : ◌≡◌ {A = ℕ} 0 1 = cc in
+        omega arith)
 
   on_files : (state : List ℕ) (f : FileOutcome CascadePair) → Judged first second f → program first second state ≡ other first second state
-  on_files state (answered p) t = on_text p.lines p.first p.second t state (state_read p.lines state) refl
+  on_files state (answered p) t = on_text p.header p.first p.second t state (state_read p.header.lines state) refl
   on_files state (refused_at number file place) r = p.refused_told first second state number file place r ∙ sym (q.refused_told first second state number file place r)
 
 pub checks_only : (program : List ℕ → List ℕ → List ℕ → List ℕ) → ChecksInput program → (first second state : List ℕ)
@@ -155,12 +186,20 @@ checks_only program p first second state = on_files program check_text p checks 
 
 -- ---- how long
 
-on_few : (n : ℕ) (a b : List Gate) → n ≤ 64 → (o : Option ℕ) → length (checked_text (checked_on n a b o)) ≤ max_checked
-on_few n a b h (some x) = let p = parts n (run a x) (run b x) in omega (arith, p.sum, p.high)
-on_few n a b h none = omega (arith, refusal_few 9 0 0 (omega arith) (omega arith) (omega arith))
+abbrev Few : FileOutcome Outputs → Type 0
+Few c = length (checked_text c) ≤ max_checked
+
+on_few : (h : Header) (a b : List Gate) → h.lines ≤ 64 → (o : Option ℕ) → Few (checked_on h a b o)
+on_few h a b few (some x) =
+    either (permits h x)
+    (λ u.
+    let p = parts h (run a x) (run b x) in
+    subst Few (sym (both_met (permits h x) bad_state (answered (outputs h (run a x) (run b x))) u)) (omega (arith, p.sum, p.high)))
+    (λ u. subst Few (sym (both_failed (permits h x) bad_state (answered (outputs h (run a x) (run b x))) u)) (omega (arith, refusal_few 9 0 0 (omega arith) (omega arith) (omega arith))))
+on_few h a b few none = omega (arith, refusal_few 9 0 0 (omega arith) (omega arith) (omega arith))
 
 files_few : (first second state : List ℕ) (f : FileOutcome CascadePair) → Judged first second f → length (checked_text (checked_files f state)) ≤ max_checked
-files_few first second state (answered p) t = on_few p.lines p.first p.second t.first_good.lines_high (state_read p.lines state)
+files_few first second state (answered p) t = on_few p.header p.first p.second t.first_good.lines_high (state_read p.header.lines state)
 files_few first second state (refused_at number file place) f = let (x, y, z) = refused_few first second number file place f in omega (arith, refusal_few number file place x y z)
 
 pub text_fits : (first second state : List ℕ) → length (check_text first second state) ≤ max_checked

@@ -9,8 +9,10 @@ use Rattle.bits.specs.Lists.{All}
 use Rattle.bits.proofs.Bools.{none_xor, table₃}
 use Rattle.bits.proofs.Lists.{all_append, all_map}
 use Rattle.circuit.specs.declared.gate.Gate.{Gate}
+use Rattle.circuit.specs.declared.header.Header.{Header}
 use Rattle.checking.specs.Clauses.{Clause, OR, XOR}
-use Rattle.checking.specs.Satisfaction.{value, holds, satisfies, LiteralsWithin, clause_literals, ClausesWithin, Satisfying, Tells}
+use Rattle.checking.specs.Satisfaction.{value, holds, satisfies, LiteralsWithin, clause_literals, ClausesWithin, Satisfying}
+use Rattle.checking.specs.PairTold.{TellsFor}
 use Rattle.checking.proofs.Promises.{odd_true, holds_or, holds_xor, value_neg, satisfies_append, neg_within, satisfies_none, satisfies_next}
 use Rattle.text.specs.Plain.{negations, plain_clause, plain_clauses, IsOr, AllOr}
 
@@ -98,13 +100,13 @@ plain_or (c ∷ cs) = all_append IsOr (plain_clause c) (plain_clauses cs) (claus
 
 -- ---- so they tell the same
 
-module _ (n variables : ℕ) (cs : List Clause) (a b : List Gate) (t : Tells n variables cs a b) where
+module _ (h : Header) (variables : ℕ) (cs : List Clause) (a b : List Gate) (t : TellsFor h variables cs a b) where
   satisfying : (σ : List Bool) → Satisfying variables (plain_clauses cs) σ ↔ Satisfying variables cs σ
   satisfying σ =
       let e = plain_satisfied σ variables cs t.within in
       ((λ s. record { whole = s.whole; satisfied = sym e ∙ s.satisfied }), (λ s. record { whole = s.whole; satisfied = e ∙ s.satisfied }))
 
-  pub plain_tells : Tells n variables (plain_clauses cs) a b
+  pub plain_tells : TellsFor h variables (plain_clauses cs) a b
   plain_tells =
       record {
         equal = ((λ same σ s. t.equal.0 same σ ((satisfying σ).0 s)), (λ unsat. t.equal.1 (λ σ s. unsat σ ((satisfying σ).1 s))));

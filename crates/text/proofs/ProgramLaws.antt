@@ -40,7 +40,7 @@ text_written : (input : List ℕ) → RightText input (tomiter_text input)
 text_written input = go (verdict input) refl
   where
     go : (w : FileOutcome Formula) → verdict input ≡ w → RightText input (tomiter_text input)
-    go (answered l) e = let (n, a, b, f) = listed_fits input l e in clauses n a b f (text_starts input n a b f) (text_told input n a b f)
+    go (answered l) e = let (h, a, b, f) = listed_fits input l e in clauses h a b f (text_starts input h a b f) (text_told input h a b f)
     go (refused_at number file place) e =
         let f = (refused_exactly input number file place).0 e in
         refusal number file place f (refused_text input number file place f)
@@ -60,7 +60,7 @@ pub program_only : (program : List ℕ → List ℕ) → ProgramLaws program →
 program_only program laws built input = go (laws.writes input)
   where
     go : RightText input (program input) → program input ≡ tomiter_text input
-    go (clauses n a b f s t) = built input n a b f ∙ sym (as_built input n a b f)
+    go (clauses h a b f s t) = built input h a b f ∙ sym (as_built input h a b f)
     go (refusal number file place f e) = e ∙ sym (refused_text input number file place f)
 
 -- ---- the call
@@ -77,15 +77,15 @@ bytes_tell input out told last e l k s starts =
     let (t, q) = demanded (leb (length (tomiter_text input)) (length out)) no_room 0 (served (length (tomiter_text input))) k (sym e ∙ s) in
     let long : length (tomiter_text input) ≡ k = cc in
     let same : take k last ≡ tomiter_text input = ap (take k) (l ∙ (call input out).leaves k (sym e ∙ s)) ∙ take_at (tomiter_text input) _ k long in
-    let (n, a, b, f) = text_fitting input (subst StartsProblem same starts) in
+    let (h, a, b, f) = text_fitting input (subst StartsProblem same starts) in
     record {
-      lines = n;
+      header = h;
       first = a;
       second = b;
       first_good = f.first;
       second_good = f.second;
       files = f.files;
-      told = subst (λ (text : List ℕ). TextTells text n a b) (sym same) (text_told input n a b f);
+      told = subst (λ (text : List ℕ). TextTells text h a b) (sym same) (text_told input h a b f);
     }
 
 pub answers : (input out : List ℕ) (told : Outcome ℕ) (last : List ℕ) → Yields told last (tomiter_outcome input (length out)) (tomiter_buffer input out) → WritesText input out told last

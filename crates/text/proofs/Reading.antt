@@ -16,7 +16,7 @@ use Rattle.circuit.specs.File.{parted_by, is_digit, same}
 use Rattle.circuit.proofs.Promises.{parts_none, parts_some, parts_cut, parts_one, same_self, same_true, is_digit_lem}
 use Rattle.checking.specs.Clauses.{Clause, OR, XOR}
 use Rattle.checking.specs.Satisfaction.{variable_of, LiteralsWithin, ClausesWithin}
-use Rattle.text.specs.Dimacs.{blank, xor_sign, problem_word, cnf_word, decimal_within, decimal, literal_text, literals_text, clause_text, clauses_text, header_text, dimacs_of, both_read, then_read, digits_read, number_read, signed_read, literal_read, literals_read, clause_read, lines_read, header, header_read, headed, read_lines, dimacs_read}
+use Rattle.text.specs.Dimacs.{blank, xor_sign, problem_word, cnf_word, decimal_within, decimal, literal_text, literals_text, body_text, clause_text, clauses_text, header_text, dimacs_of, both_read, then_read, digits_read, number_read, signed_read, literal_read, literals_read, body_read, clause_read, lines_read, problem, header_read, over_problem, read_lines, dimacs_read}
 use Rattle.text.proofs.Decimal.{within_short, within_long}
 
 -- ---- digits
@@ -152,6 +152,10 @@ literal_back (pos zero) h = absurd (omega arith)
 literal_back (pos (suc i)) h = lead_literal (decimal (suc i)) (decimal_lead (suc i) h) ∙ ap (signed_read false) (number_back (suc i))
 literal_back (negsuc i) h = ap (signed_read true) (number_back (suc i))
 
+literal_some : (l : ℤ) → 1 ≤ variable_of l → literal_text l ≡ [] → ⊥
+unfolding literal_read
+literal_some l h e = let f : none ≡ some l = sym (ap literal_read e) ∙ literal_back l h in let z : ◌≡◌ {A = ℕ} 0 1 = cc in omega arith
+
 literal_free : (s : ℕ) (l : ℤ) → is_digit s ≡ false → eqb minus_sign s ≡ false → free s (literal_text l) ≡ true
 unfolding free
 literal_free s (pos v) n m = decimal_free s v n
@@ -164,46 +168,80 @@ unfolding literals_read
 literals_more f [] h = absurd (h refl)
 literals_more f (g ∷ fs) h = refl
 
--- a clause's line without its LF and its `x`
-abbrev pub body_text : List ℤ → List ℕ
-body_text ls = literals_text ls ++ (48 ∷ [])
+zero_read : literals_read ((48 ∷ []) ∷ []) ≡ some []
+unfolding literals_read
+zero_read = cond-true (same (48 ∷ []) (48 ∷ [])) (some []) none (same_self (48 ∷ []))
 
-pub body_next : (l : ℤ) (ls : List ℤ) → body_text (l ∷ ls) ≡ literal_text l ++ (blank ∷ body_text ls)
+-- literals and `0`
+abbrev pub ended_text : List ℤ → List ℕ
+ended_text ls = literals_text ls ++ (48 ∷ [])
+
+pub ended_next : (l : ℤ) (ls : List ℤ) → ended_text (l ∷ ls) ≡ literal_text l ++ (blank ∷ ended_text ls)
 unfolding literals_text
-body_next l ls =
+ended_next l ls =
     append_assoc (literal_text l ++ (blank ∷ [])) (literals_text ls) (48 ∷ []) ∙ append_assoc (literal_text l) (blank ∷ []) (literals_text ls ++ (48 ∷ []))
 
-literals_back : (v : ℕ) (ls : List ℤ) → LiteralsWithin v ls → literals_read (parted_by blank (body_text ls)) ≡ some ls
-unfolding literals_text literals_read free
-literals_back v [] w = ap literals_read (parts_one blank (48 ∷ []) refl) ∙ cond-true (same (48 ∷ []) (48 ∷ [])) (some []) none (same_self (48 ∷ []))
+ended_parts : (l : ℤ) (ls : List ℤ) → parted_by blank (ended_text (l ∷ ls)) ≡ literal_text l ∷ parted_by blank (ended_text ls)
+ended_parts l ls = ap (parted_by blank) (ended_next l ls) ∙ parts_cut blank (literal_text l) (ended_text ls) (literal_free blank l refl refl)
+
+literals_back : (v : ℕ) (ls : List ℤ) → LiteralsWithin v ls → literals_read (parted_by blank (ended_text ls)) ≡ some ls
+unfolding literals_text free
+literals_back v [] w = ap literals_read (parts_one blank (48 ∷ []) refl) ∙ zero_read
 literals_back v (l ∷ ls) w =
-    ap (λ (t : List ℕ). literals_read (parted_by blank t)) (body_next l ls)
-    ∙ ap literals_read (parts_cut blank (literal_text l) (body_text ls) (literal_free blank l refl refl))
-    ∙ literals_more (literal_text l) (parted_by blank (body_text ls)) (parts_some blank (body_text ls))
+    ap literals_read (ended_parts l ls)
+    ∙ literals_more (literal_text l) (parted_by blank (ended_text ls)) (parts_some blank (ended_text ls))
     ∙ ap₂ (both_read ◌∷◌) (literal_back l w.0.0) (literals_back v ls w.1)
 
-body_free : (s : ℕ) (ls : List ℤ) → is_digit s ≡ false → eqb minus_sign s ≡ false → eqb blank s ≡ false → free s (body_text ls) ≡ true
+ended_free : (s : ℕ) (ls : List ℤ) → is_digit s ≡ false → eqb minus_sign s ≡ false → eqb blank s ≡ false → free s (ended_text ls) ≡ true
 unfolding literals_text free
-body_free s [] n m b = digits_free s (48 ∷ []) n (one_digit 0 (omega arith))
-body_free s (l ∷ ls) n m b =
-    ap (free s) (body_next l ls) ∙ free_append s (literal_text l) (blank ∷ body_text ls) (literal_free s l n m) (both (ap not b) (body_free s ls n m b))
+ended_free s [] n m b = digits_free s (48 ∷ []) n (one_digit 0 (omega arith))
+ended_free s (l ∷ ls) n m b =
+    ap (free s) (ended_next l ls) ∙ free_append s (literal_text l) (blank ∷ ended_text ls) (literal_free s l n m) (both (ap not b) (ended_free s ls n m b))
+
+-- a clause's line without its LF and its `x`
+abbrev pub body_line : List ℤ → List ℕ
+body_line ls = body_text ls ++ (48 ∷ [])
+
+body_more : (f : List ℕ) (fs : List (List ℕ)) → (f ≡ [] → ⊥) → (fs ≡ [] → ⊥) → body_read (f ∷ fs) ≡ literals_read (f ∷ fs)
+unfolding body_read
+body_more f [] e h = absurd (h refl)
+body_more f (g ∷ []) e h = cond-false (same f []) (literals_read (g ∷ [])) (literals_read (f ∷ g ∷ [])) (not_held _ (λ t. e (same_true f [] t)))
+body_more f (g ∷ k ∷ fs) e h = refl
+
+body_back : (v : ℕ) (ls : List ℤ) → LiteralsWithin v ls → body_read (parted_by blank (body_line ls)) ≡ some ls
+unfolding body_read free
+body_back v [] w =
+    ap body_read (parts_cut blank [] (48 ∷ []) refl ∙ ap (λ (fs : List (List ℕ)). [] ∷ fs) (parts_one blank (48 ∷ []) refl))
+    ∙ cond-true (same [] []) (literals_read ((48 ∷ []) ∷ [])) (literals_read ([] ∷ (48 ∷ []) ∷ [])) (same_self [])
+    ∙ zero_read
+body_back v (l ∷ ls) w =
+    ap body_read (ended_parts l ls)
+    ∙ body_more (literal_text l) (parted_by blank (ended_text ls)) (literal_some l w.0.0) (parts_some blank (ended_text ls))
+    ∙ sym (ap literals_read (ended_parts l ls))
+    ∙ literals_back v (l ∷ ls) w
+
+body_free : (s : ℕ) (ls : List ℤ) → is_digit s ≡ false → eqb minus_sign s ≡ false → eqb blank s ≡ false → free s (body_line ls) ≡ true
+unfolding literals_text free
+body_free s [] n m b = both (ap not b) (ended_free s [] n m b)
+body_free s (l ∷ ls) n m b = ended_free s (l ∷ ls) n m b
 
 -- the first byte is no `x`
-or_read : (line : List ℕ) → free xor_sign line ≡ true → clause_read line ≡ then_read OR (literals_read (parted_by blank line))
-unfolding clause_read literals_read free
-or_read [] p =
-    sym (ap (λ (fs : List (List ℕ)). then_read OR (literals_read fs)) (parts_none blank)
-    ∙ ap (then_read OR) (cond-false (same [] (48 ∷ [])) (some []) none (not_held _ (λ e. mathlib.Core.List.cons≢nil (sym (same_true [] (48 ∷ []) e))))))
+or_read : (line : List ℕ) → free xor_sign line ≡ true → clause_read line ≡ then_read OR (body_read (parted_by blank line))
+unfolding clause_read body_read free
+or_read [] p = sym (ap (λ (fs : List (List ℕ)). then_read OR (body_read fs)) (parts_none blank))
 or_read (b ∷ bs) p = let (x, y) = and_parts (not (eqb b xor_sign)) (free xor_sign bs) p in cond-false (eqb b xor_sign) _ _ (not-true (eqb b xor_sign) x)
 
 -- a clause's line without its LF
 abbrev pub line_text : Clause → List ℕ
-line_text (OR ls) = body_text ls
-line_text (XOR ls) = xor_sign ∷ body_text ls
+line_text (OR ls) = body_line ls
+line_text (XOR ls) = xor_sign ∷ body_line ls
+
+body_closed : (ls : List ℤ) (r : List ℕ) → clause_text (OR ls) ++ r ≡ body_line ls ++ (line_feed ∷ r)
+body_closed ls r = append_assoc (body_text ls) (48 ∷ line_feed ∷ []) r ∙ sym (append_assoc (body_text ls) (48 ∷ []) (line_feed ∷ r))
 
 pub line_closed : (c : Clause) (r : List ℕ) → clause_text c ++ r ≡ line_text c ++ (line_feed ∷ r)
-line_closed (OR ls) r = append_assoc (literals_text ls) (48 ∷ line_feed ∷ []) r ∙ sym (append_assoc (literals_text ls) (48 ∷ []) (line_feed ∷ r))
-line_closed (XOR ls) r = ap (λ (l : List ℕ). xor_sign ∷ l) (append_assoc (literals_text ls) (48 ∷ line_feed ∷ []) r ∙ sym (append_assoc (literals_text ls) (48 ∷ []) (line_feed ∷ r)))
+line_closed (OR ls) r = body_closed ls r
+line_closed (XOR ls) r = ap (λ (l : List ℕ). xor_sign ∷ l) (body_closed ls r)
 
 line_free : (c : Clause) → free line_feed (line_text c) ≡ true
 unfolding free
@@ -212,8 +250,8 @@ line_free (XOR ls) = body_free line_feed ls refl refl refl
 
 clause_back : (v : ℕ) (c : Clause) → LiteralsWithin v (Rattle.checking.specs.Satisfaction.clause_literals c) → clause_read (line_text c) ≡ some c
 unfolding clause_read
-clause_back v (OR ls) w = or_read (body_text ls) (body_free xor_sign ls refl refl refl) ∙ ap (then_read OR) (literals_back v ls w)
-clause_back v (XOR ls) w = ap (then_read XOR) (literals_back v ls w)
+clause_back v (OR ls) w = or_read (body_line ls) (body_free xor_sign ls refl refl refl) ∙ ap (then_read OR) (body_back v ls w)
+clause_back v (XOR ls) w = ap (then_read XOR) (body_back v ls w)
 
 -- ---- the clauses
 
@@ -257,13 +295,13 @@ header_parts v m =
     ∙ ap (λ (fs : List (List ℕ)). problem_word ∷ cnf_word ∷ fs)
     (parts_cut blank (decimal v) (decimal m) (decimal_free blank v refl) ∙ ap (λ (fs : List (List ℕ)). decimal v ∷ fs) (parts_one blank (decimal m) (decimal_free blank m refl)))
 
-header_back : (v m : ℕ) → header_read (parted_by blank (header_line v m)) ≡ some (header v m)
+header_back : (v m : ℕ) → header_read (parted_by blank (header_line v m)) ≡ some (problem v m)
 unfolding header_read
 header_back v m =
     ap header_read (header_parts v m)
     ∙ cond-true (same problem_word problem_word) _ _ (same_self problem_word)
     ∙ cond-true (same cnf_word cnf_word) _ _ (same_self cnf_word)
-    ∙ ap₂ (both_read header) (number_back v) (number_back m)
+    ∙ ap₂ (both_read problem) (number_back v) (number_back m)
 
 -- ---- the whole text
 
@@ -272,4 +310,4 @@ unfolding dimacs_of dimacs_read read_lines
 text_back v cs w =
     ap (λ (t : List ℕ). read_lines (parted_by line_feed t)) (header_closed v (length cs) (clauses_text cs))
     ∙ ap read_lines (parts_cut line_feed (header_line v (length cs)) (clauses_text cs) (header_free v (length cs)))
-    ∙ ap₂ (both_read headed) (header_back v (length cs)) (clauses_back v cs w)
+    ∙ ap₂ (both_read over_problem) (header_back v (length cs)) (clauses_back v cs w)

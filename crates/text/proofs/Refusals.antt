@@ -3,24 +3,25 @@ use mathlib.Core.Path.{◌≡◌, refl, sym, ap, subst, ◌∙◌}
 use mathlib.Core.Logic.{◌↔◌}
 use mathlib.Core.List.{List, ◌++◌}
 use Prim.Native.Nat.{ℕ, ◌≤◌, ◌<◌}
-use lib.Dec.{eqb, leb}
+use lib.Dec.{leb}
 use lib.ListN.{length, drop, take-append-drop}
-use borrow.Author.Tests.{eqb-true, eqb-false, ne_eqb, eq-eqb, leb-true, leb-false, lt-leb}
+use borrow.Author.Tests.{leb-true, leb-false, lt-leb}
 use Rattle.bits.proofs.Bools.{either}
 use Rattle.circuit.specs.declared.gate.Gate.{Gate}
+use Rattle.circuit.specs.declared.header.Header.{Header}
 use Rattle.circuit.specs.Outcome.{Outcome, served, refused}
 use Rattle.circuit.specs.Text.{text_of}
 use Rattle.circuit.specs.File.{Reading, reading}
 use Rattle.circuit.specs.FileLaws.{FileCascade}
 use Rattle.circuit.proofs.Promises.{reader}
-use Rattle.checking.specs.Miter.{miter_gates}
-use Rattle.checking.specs.Clauses.{clauses_of}
+use Rattle.checking.specs.Pair.{pair_clauses}
 use Rattle.checking.specs.Stored.{stored}
 use Rattle.text.specs.FileOutcome.{refused_at}
 use Rattle.text.specs.Tomiter.{max_input, max_words, list_verdict, pair_verdict, second_verdict, verdict}
 use Rattle.text.specs.WholeFile.{whole_file}
-use Rattle.text.specs.TextLaws.{ProgramRefused, too_long, first_file, in_second_file, lines_differ, list_long}
+use Rattle.text.specs.TextLaws.{ProgramRefused, too_long, first_file, in_second_file, lines_differ, other_marks, list_long}
 use Rattle.text.proofs.FileOutcome.{not_refused, same_at, both_met, both_failed}
+use Rattle.text.proofs.Pairs.{by_headers, headers_met, lines_apart, marks_apart}
 use Rattle.text.proofs.Telling.{after_first, after_second}
 use Rattle.text.proofs.WholeFile.{WholeJudged, whole_judged, whole_refused}
 use Rattle.text.proofs.list.Laws.{input_long, first_bad, first_good, verdict_refused, verdict_served}
@@ -31,47 +32,48 @@ told : (input : List ℕ) (number file place : ℕ) → ProgramRefused input num
 unfolding pair_verdict list_verdict
 told input _ _ _ (too_long h) = input_long input h
 told input _ _ _ (first_file number place h f) = first_bad input h number place ((reader.read_refused input number place).1 f)
-told input _ _ _ (in_second_file n a rest number place h good e w) =
-    after_first input n a rest h good e ∙ verdict_refused n a rest number place ((whole_refused rest number place).1 w)
-told input _ _ _ (lines_differ n a m b h good-a good-b e ne) =
-    after_first input n a (text_of m b) h good-a e ∙ after_second n a m b good-b ∙ both_failed (eqb n m) _ _ (ne_eqb n m ne)
-told input _ _ _ (list_long n a b h good-a good-b e l) =
-    after_first input n a (text_of n b) h good-a e
-    ∙ after_second n a n b good-b
-    ∙ both_met (eqb n n) _ _ (eq-eqb n n refl)
-    ∙ both_failed (leb (length (stored (clauses_of n (miter_gates a b)))) max_words) _ _ (lt-leb _ _ l)
+told input _ _ _ (in_second_file h a rest number place s good e w) =
+    after_first input h a rest s good e ∙ verdict_refused h a rest number place ((whole_refused rest number place).1 w)
+told input _ _ _ (lines_differ h a k b s good-a good-b e l) =
+    after_first input h a (text_of k b) s good-a e ∙ after_second h a k b good-b ∙ lines_apart h k _ l
+told input _ _ _ (other_marks h a k b s good-a good-b e l m) =
+    after_first input h a (text_of k b) s good-a e ∙ after_second h a k b good-b ∙ marks_apart h k _ l m
+told input _ _ _ (list_long h a b s good-a good-b e l) =
+    after_first input h a (text_of h b) s good-a e
+    ∙ after_second h a h b good-b
+    ∙ headers_met h h _ refl
+    ∙ both_failed (leb (length (stored (pair_clauses h a b))) max_words) _ _ (lt-leb _ _ l)
 
 -- ---- and only that
 
 module _ (input : List ℕ) (number file place : ℕ) (short : length input ≤ max_input) where
-  module _ (n : ℕ) (a : List Gate) (good-a : FileCascade n a) where
-    list_found : (b : List Gate) → FileCascade n b → input ≡ text_of n a ++ text_of n b → list_verdict n (miter_gates a b) ≡ refused_at number file place
+  module _ (h : Header) (a : List Gate) (good-a : FileCascade h a) where
+    list_found : (b : List Gate) → FileCascade h b → input ≡ text_of h a ++ text_of h b → list_verdict h a b ≡ refused_at number file place
         → ProgramRefused input number file place
     unfolding list_verdict
     list_found b good-b e v =
-        either (leb (length (stored (clauses_of n (miter_gates a b)))) max_words)
-        (λ t. absurd (not_refused (sym v ∙ both_met (leb (length (stored (clauses_of n (miter_gates a b)))) max_words) _ _ t)))
+        either (leb (length (stored (pair_clauses h a b))) max_words)
+        (λ t. absurd (not_refused (sym v ∙ both_met (leb (length (stored (pair_clauses h a b))) max_words) _ _ t)))
         (λ t.
-        same_at (ProgramRefused input) (sym (both_failed (leb (length (stored (clauses_of n (miter_gates a b)))) max_words) _ _ t) ∙ v)
-        (list_long n a b short good-a good-b e (leb-false _ _ t)))
+        same_at (ProgramRefused input) (sym (both_failed (leb (length (stored (pair_clauses h a b))) max_words) _ _ t) ∙ v)
+        (list_long h a b short good-a good-b e (leb-false _ _ t)))
 
-    pair_found : (m : ℕ) (b : List Gate) → FileCascade m b → input ≡ text_of n a ++ text_of m b → pair_verdict n a m b ≡ refused_at number file place
+    pair_found : (k : Header) (b : List Gate) → FileCascade k b → input ≡ text_of h a ++ text_of k b → pair_verdict h a k b ≡ refused_at number file place
         → ProgramRefused input number file place
     unfolding pair_verdict
-    pair_found m b good-b e v =
-        either (eqb n m)
-        (λ t.
-        let s : m ≡ n = sym (eqb-true n m t) in
-        list_found b (subst (λ (k : ℕ). FileCascade k b) s good-b) (e ∙ ap (λ (k : ℕ). text_of n a ++ text_of k b) s) (sym (both_met (eqb n m) _ _ t) ∙ v))
-        (λ t.
-        same_at (ProgramRefused input) (sym (both_failed (eqb n m) _ _ t) ∙ v) (lines_differ n a m b short good-a good-b e (eqb-false n m t)))
+    pair_found k b good-b e v =
+        by_headers h k
+        (λ s.
+        list_found b (subst (λ (x : Header). FileCascade x b) (sym s) good-b) (e ∙ ap (λ (x : Header). text_of h a ++ text_of x b) (sym s)) (sym (headers_met h k _ s) ∙ v))
+        (λ l. same_at (ProgramRefused input) (sym (lines_apart h k _ l) ∙ v) (lines_differ h a k b short good-a good-b e l))
+        (λ l m. same_at (ProgramRefused input) (sym (marks_apart h k _ l m) ∙ v) (other_marks h a k b short good-a good-b e l m))
 
-    second_found : (rest : List ℕ) → input ≡ text_of n a ++ rest → (o : Outcome Reading) → whole_file rest ≡ o → WholeJudged rest o → second_verdict n a rest ≡ refused_at number file place
+    second_found : (rest : List ℕ) → input ≡ text_of h a ++ rest → (o : Outcome Reading) → whole_file rest ≡ o → WholeJudged rest o → second_verdict h a rest ≡ refused_at number file place
         → ProgramRefused input number file place
     second_found rest e (refused k p) r w v =
-        same_at (ProgramRefused input) (sym (verdict_refused n a rest k p r) ∙ v) (in_second_file n a rest k p short good-a e w)
+        same_at (ProgramRefused input) (sym (verdict_refused h a rest k p r) ∙ v) (in_second_file h a rest k p short good-a e w)
     second_found rest e (served d) r (good-b, text-b) v =
-        pair_found d.lines d.gates good-b (e ∙ ap (λ (l : List ℕ). text_of n a ++ l) text-b) (sym (verdict_served n a rest d r) ∙ v)
+        pair_found d.header d.gates good-b (e ∙ ap (λ (l : List ℕ). text_of h a ++ l) text-b) (sym (verdict_served h a rest d r) ∙ v)
 
   first_found : (o : Outcome Reading) → reading input ≡ o → verdict input ≡ refused_at number file place → ProgramRefused input number file place
   first_found (refused k p) r v =
@@ -79,7 +81,7 @@ module _ (input : List ℕ) (number file place : ℕ) (short : length input ≤ 
   first_found (served c) r v =
       let (good, text) = reader.read_text input c r in
       let rest : List ℕ = drop c.taken input in
-      second_found c.lines c.gates good rest (sym (take-append-drop c.taken input) ∙ ap (λ (l : List ℕ). l ++ rest) text) (whole_file rest) refl (whole_judged rest)
+      second_found c.header c.gates good rest (sym (take-append-drop c.taken input) ∙ ap (λ (l : List ℕ). l ++ rest) text) (whole_file rest) refl (whole_judged rest)
       (sym (first_good input short c r) ∙ v)
 
 found : (input : List ℕ) (number file place : ℕ) → verdict input ≡ refused_at number file place → ProgramRefused input number file place

@@ -1,36 +1,38 @@
 -- No text is longer than `max_text`. Assumes nothing.
 use mathlib.Core.Path.{◌≡◌, refl, sym, ap, subst}
+use mathlib.Core.Bool.{Bool}
 use mathlib.Core.List.{List, [], ◌∷◌, ◌++◌}
-use Prim.Native.Nat.{ℕ, suc, ◌*◌, ◌≤◌, ◌<◌}
+use Prim.Native.Nat.{ℕ, suc, ◌+◌, ◌*◌, ◌≤◌, ◌<◌}
 use native.Mathlib.Nat.{le_trans}
 use native.Mathlib.Omega.{arith}
-use lib.Dec.{eqb, leb}
+use lib.Dec.{leb}
 use lib.IntN.{ℤ, pos, negsuc}
 use lib.ListN.{length, drop, length-append}
-use borrow.Author.Tests.{eqb-true, leb-true}
+use borrow.Author.Tests.{leb-true}
 use Rattle.bits.proofs.Bools.{either}
 use Rattle.circuit.specs.declared.gate.Gate.{Gate}
+use Rattle.circuit.specs.declared.header.Header.{Header}
 use Rattle.circuit.specs.Outcome.{Outcome, served, refused, before, then, Fails, fails}
 use Rattle.circuit.specs.Refusal.{wrong_form}
 use Rattle.circuit.specs.Text.{line_feed}
-use Rattle.circuit.specs.File.{Line, Reading, reading}
-use Rattle.circuit.specs.FileLaws.{FileCascade, HeaderOffence, no_lines, no_number, outside, ControlsOffence, form, value, later, LineOffence, no_gate_line, many, target_form, target_value, controls, controlled, controls_not_rising, FileRefused, on_header_line, later_line}
+use Rattle.circuit.specs.File.{Line, Reading, reading, line_after_end}
+use Rattle.circuit.specs.FileLaws.{FileCascade, CountOffence, no_lines, no_number, outside, MarkOffence, no_mark_line, beyond, mark_not_rising, mark_no_end, ControlsOffence, form, value, later, LineOffence, no_gate_line, many, target_form, target_value, controls, controlled, controls_not_rising, FileRefused, on_count_line, on_mark_line, later_line}
 use Rattle.circuit.specs.FileLaws as laws
-use Rattle.circuit.proofs.Promises.{reader}
-use Rattle.checking.specs.Miter.{miter_gates}
-use Rattle.checking.specs.Clauses.{Clause, OR, XOR, clauses_of, max_variables}
+use Rattle.circuit.proofs.Promises.{reader, mark_lines_few}
+use Rattle.checking.specs.Pair.{pair_clauses}
+use Rattle.checking.specs.Clauses.{Clause, OR, XOR, max_variables}
 use Rattle.checking.specs.Satisfaction.{variable_of, LiteralsWithin, clause_literals, ClausesWithin}
 use Rattle.checking.specs.Stored.{stored_clause, stored}
-use Rattle.checking.proofs.Promises.{clause_laws, stored_next}
-use Rattle.text.specs.Dimacs.{blank, decimal, literal_text, literals_text, closing, clause_text, clauses_text, header_text, dimacs_of}
+use Rattle.checking.proofs.Promises.{stored_next}
+use Rattle.text.specs.Dimacs.{blank, decimal, literal_text, literals_text, body_text, closing, clause_text, clauses_text, header_text, dimacs_of}
 use Rattle.text.specs.Formula.{Formula}
-use Rattle.text.specs.WholeFile.{line_after_end, whole_file, WholeRefused}
+use Rattle.text.specs.WholeFile.{whole_file, WholeRefused}
 use Rattle.text.specs.FileOutcome.{FileOutcome, answered, refused_at, of_file}
 use Rattle.text.specs.Tomiter.{max_input, max_words, max_text, list_verdict, pair_verdict, second_verdict, verdict, verdict_text, tomiter_text, tomiter_outcome}
 use Rattle.text.proofs.Decimal.{decimal_few}
 use Rattle.text.proofs.FileOutcome.{both_met, both_failed}
 use Rattle.text.proofs.WholeFile.{WholeJudged, whole_judged}
-use Rattle.text.proofs.Pairs.{Listable, listable}
+use Rattle.text.proofs.Pairs.{by_headers, headers_met, lines_apart, marks_apart, Listable, listable, list_within, variables_few}
 use Rattle.text.proofs.answer.Laws.{fit_fits, refusal_few}
 
 -- ---- the text of a clause list
@@ -49,9 +51,14 @@ literals_few v [] h w = omega arith
 literals_few v (l ∷ ls) h w =
     omega (arith, literal_few v l h w.0.1, literals_few v ls h w.1, length-append (literal_text l ++ (blank ∷ [])) (literals_text ls), length-append (literal_text l) (blank ∷ []))
 
+-- the blank of no literals is one byte
+pub body_few : (v : ℕ) (ls : List ℤ) → v ≤ max_variables → LiteralsWithin v ls → length (body_text ls) ≤ 6 * length ls + 1
+body_few v [] h w = omega arith
+body_few v (l ∷ ls) h w = omega (arith, literals_few v (l ∷ ls) h w)
+
 clause_few : (v : ℕ) (c : Clause) → v ≤ max_variables → LiteralsWithin v (clause_literals c) → length (clause_text c) ≤ 6 * length (stored_clause c)
-clause_few v (OR ls) h w = omega (arith, literals_few v ls h w, length-append (literals_text ls) closing)
-clause_few v (XOR ls) h w = omega (arith, literals_few v ls h w, length-append (literals_text ls) closing)
+clause_few v (OR ls) h w = omega (arith, body_few v ls h w, length-append (body_text ls) closing)
+clause_few v (XOR ls) h w = omega (arith, body_few v ls h w, length-append (body_text ls) closing)
 
 clauses_few : (v : ℕ) (cs : List Clause) → v ≤ max_variables → ClausesWithin v cs → length (clauses_text cs) ≤ 6 * length (stored cs)
 unfolding clauses_text
@@ -86,11 +93,17 @@ small_text (refused_at number file place) (a, b, c) =
 
 -- ---- the numbers and places of refused files
 
-header_number : (l : Line) (number : ℕ) → HeaderOffence l number → number < 100
+header_number : (l : Line) (number : ℕ) → CountOffence l number → number < 100
 header_number l _ (no_lines _) = omega arith
 header_number l _ (no_number _ _ _ _) = omega arith
 header_number l _ (outside _ _ _ _ _ _) = omega arith
-header_number l _ (laws.HeaderOffence.no_end _ _ _ _ _ _ _ _) = omega arith
+header_number l _ (laws.CountOffence.no_end _ _ _ _ _ _ _ _) = omega arith
+
+mark_number : (constant : Bool) (n mask : ℕ) (l : Line) (number : ℕ) → MarkOffence constant n mask l number → number < 100
+mark_number constant n mask l _ (no_mark_line _ _ _ _) = omega arith
+mark_number constant n mask l _ (beyond _ _ _ _ _ _) = omega arith
+mark_number constant n mask l _ (mark_not_rising _ _ _ _ _ _ _ _ _) = omega arith
+mark_number constant n mask l _ (mark_no_end _ _ _ _ _ _ _ _) = omega arith
 
 controls_number : (n : ℕ) (fs : List (List ℕ)) (number : ℕ) → ControlsOffence n fs number → number < 100
 controls_number n _ _ (form _ _ _) = omega arith
@@ -108,8 +121,11 @@ line_number n i count l _ (controlled _ _ _ _ _ _) = omega arith
 line_number n i count l _ (controls_not_rising _ _ _ _ _ _ _) = omega arith
 
 pub refused_small : (text : List ℕ) (number place : ℕ) → FileRefused text number place → (number < 100) × (place < 10000)
-refused_small text _ _ (on_header_line number o) = (header_number _ number o, omega arith)
-refused_small text _ _ (later_line n gs rest good starts number o) = (line_number n _ _ _ number o, omega (arith, good.few))
+refused_small text _ _ (on_count_line number o) = (header_number _ number o, omega arith)
+refused_small text _ _ (on_mark_line h rest good starts constant opened number o) =
+    (mark_number constant h.lines _ _ number o, omega (arith, good.lines_high, mark_lines_few h good.marks))
+refused_small text _ _ (later_line h gs rest good starts closed number o) =
+    (line_number h.lines _ _ _ number o, omega (arith, good.few, good.lines_high, mark_lines_few h good.marks))
 
 -- the number and place of the one thing that is wrong
 failed_is : {Bad : Type 0} (m p number place : ℕ) → Fails Bad m p number place → (number ≡ m) × (place ≡ p)
@@ -117,41 +133,40 @@ failed_is m p _ _ (fails b) = (refl, refl)
 
 pub whole_few : (text : List ℕ) (number place : ℕ) → WholeRefused text number place → (number < 100) × (place < 10000)
 whole_few text number place (before f) = refused_small text number place f
-whole_few text number place (then c read w) = let (a, b) = failed_is wrong_form (line_after_end c) number place w in (omega arith, omega (arith, read.good.few))
+whole_few text number place (then c read w) = let (a, b) = failed_is wrong_form (line_after_end c) number place w in (omega arith, omega (arith, read.good.few, read.good.lines_high, mark_lines_few c.header read.good.marks))
 
 -- ---- every verdict
 
-list_small : (n : ℕ) (gs : List Gate) → Listable n gs → Small (list_verdict n gs)
+list_small : (h : Header) (a b : List Gate) → Listable h a b → Small (list_verdict h a b)
 unfolding list_verdict
-list_small n gs g =
-    either (leb (length (stored (clauses_of n gs))) max_words)
+list_small h a b l =
+    either (leb (length (stored (pair_clauses h a b))) max_words)
     (λ t.
-    subst Small (sym (both_met (leb (length (stored (clauses_of n gs))) max_words) _ _ t))
-    (omega (arith, clause_laws.variables_few n gs, g.lines, g.few), (clause_laws.list_tells n gs g.lines g.valid).within, leb-true _ _ t))
-    (λ t. subst Small (sym (both_failed (leb (length (stored (clauses_of n gs))) max_words) _ _ t)) (omega arith, omega arith, omega arith))
+    subst Small (sym (both_met (leb (length (stored (pair_clauses h a b))) max_words) _ _ t))
+    (variables_few h a b l, list_within h a b l, leb-true _ _ t))
+    (λ t. subst Small (sym (both_failed (leb (length (stored (pair_clauses h a b))) max_words) _ _ t)) (omega arith, omega arith, omega arith))
 
-pair_small : (na : ℕ) (a : List Gate) (nb : ℕ) (b : List Gate) → FileCascade na a → FileCascade nb b → Small (pair_verdict na a nb b)
+pair_small : (h : Header) (a : List Gate) (k : Header) (b : List Gate) → FileCascade h a → FileCascade k b → Small (pair_verdict h a k b)
 unfolding pair_verdict
-pair_small na a nb b x y =
-    either (eqb na nb)
-    (λ t.
-    subst Small (sym (both_met (eqb na nb) _ _ t))
-    (list_small na (miter_gates a b) (listable na a b x (subst (λ (n : ℕ). FileCascade n b) (sym (eqb-true na nb t)) y))))
-    (λ t. subst Small (sym (both_failed (eqb na nb) _ _ t)) (omega arith, omega arith, omega arith))
+pair_small h a k b x y =
+    by_headers h k
+    (λ s. subst Small (sym (headers_met h k _ s)) (list_small h a b (listable h a b x (subst (λ (z : Header). FileCascade z b) (sym s) y))))
+    (λ l. subst Small (sym (lines_apart h k _ l)) (omega arith, omega arith, omega arith))
+    (λ l m. subst Small (sym (marks_apart h k _ l m)) (omega arith, omega arith, omega arith))
 
 -- a file's refusal is small, and so is what follows
-file_small : (file : ℕ) (text : List ℕ) (more : Reading → FileOutcome Formula) → file < 10 → ((c : Reading) → reading text ≡ served c → FileCascade c.lines c.gates → Small (more c))
+file_small : (file : ℕ) (text : List ℕ) (more : Reading → FileOutcome Formula) → file < 10 → ((c : Reading) → reading text ≡ served c → FileCascade c.header c.gates → Small (more c))
     → (o : Outcome Reading) → reading text ≡ o → Small (of_file file o more)
 file_small file text more h f (served c) e = f c e (reader.read_text text c e).0
 file_small file text more h f (refused number place) e =
     let (a, b) = refused_small text number place ((reader.read_refused text number place).0 e) in (a, h, b)
 
-second_small : (n : ℕ) (gs : List Gate) (text : List ℕ) → FileCascade n gs → Small (second_verdict n gs text)
+second_small : (h : Header) (gs : List Gate) (text : List ℕ) → FileCascade h gs → Small (second_verdict h gs text)
 unfolding second_verdict
-second_small n gs text x = by (whole_file text) (whole_judged text)
+second_small h gs text x = by (whole_file text) (whole_judged text)
   where
-    by : (o : Outcome Reading) → WholeJudged text o → Small (of_file 2 o (λ c. pair_verdict n gs c.lines c.gates))
-    by (served c) w = pair_small n gs c.lines c.gates x w.0
+    by : (o : Outcome Reading) → WholeJudged text o → Small (of_file 2 o (λ c. pair_verdict h gs c.header c.gates))
+    by (served c) w = pair_small h gs c.header c.gates x w.0
     by (refused number place) w = let (a, b) = whole_few text number place w in (a, omega arith, b)
 
 verdict_small : (input : List ℕ) → Small (verdict input)
@@ -160,7 +175,7 @@ verdict_small input =
     either (leb (length input) max_input)
     (λ t.
     subst Small (sym (both_met (leb (length input) max_input) _ _ t))
-    (file_small 1 input _ (omega arith) (λ c e x. second_small c.lines c.gates (drop c.taken input) x) (reading input) refl))
+    (file_small 1 input _ (omega arith) (λ c e x. second_small c.header c.gates (drop c.taken input) x) (reading input) refl))
     (λ t. subst Small (sym (both_failed (leb (length input) max_input) _ _ t)) (omega arith, omega arith, omega arith))
 
 pub text_fits : (input : List ℕ) → length (tomiter_text input) ≤ max_text

@@ -13,9 +13,9 @@ use Rattle.circuit.specs.Text.{line_feed, minus_sign, digit}
 use Rattle.circuit.specs.File.{parted_by, is_digit, same}
 use Rattle.circuit.proofs.Promises.{whole, whole_one, whole_next, parts_back, same_true, digit_bounds}
 use Rattle.checking.specs.Clauses.{Clause, OR, XOR}
-use Rattle.text.specs.Dimacs.{blank, xor_sign, problem_word, cnf_word, decimal, literal_text, literals_text, clauses_text, header_text, both_read, then_read, digits_read, number_read, signed_read, literal_read, literals_read, clause_read, lines_read, Dimacs, Header, header, header_read, headed, read_lines, dimacs_read}
+use Rattle.text.specs.Dimacs.{blank, xor_sign, problem_word, cnf_word, decimal, literal_text, literals_text, clauses_text, header_text, both_read, then_read, digits_read, number_read, signed_read, literal_read, literals_read, body_read, clause_read, lines_read, Dimacs, Problem, problem, header_read, over_problem, read_lines, dimacs_read}
 use Rattle.text.proofs.Decimal.{decimal_short, decimal_long}
-use Rattle.text.proofs.Reading.{body_text, body_next, line_text, line_closed, header_line, header_closed}
+use Rattle.text.proofs.Reading.{ended_text, ended_next, body_line, line_text, line_closed, header_line, header_closed}
 
 -- nothing was read
 nothing : {A : Type 0} {a : A} → none ≡ some a → ⊥
@@ -107,16 +107,39 @@ literal_was (b ∷ bs) l e =
 
 -- ---- a clause
 
-literals_were : (fs : List (List ℕ)) (ls : List ℤ) → literals_read fs ≡ some ls → whole blank fs ≡ body_text ls
-unfolding literals_read literals_text
-literals_were [] ls e = absurd (nothing e)
-literals_were (f ∷ []) ls e =
+last_was : (f : List ℕ) (ls : List ℤ) → literals_read (f ∷ []) ≡ some ls → (f ≡ 48 ∷ []) × ([] ≡ ls)
+unfolding literals_read
+last_was f ls e =
     let (t, r) = was_true (same f (48 ∷ [])) (some []) ls e in
     let n : [] ≡ ls = cc in
-    whole_one blank f ∙ same_true f (48 ∷ []) t ∙ ap body_text n
+    (same_true f (48 ∷ []) t, n)
+
+literals_were : (fs : List (List ℕ)) (ls : List ℤ) → literals_read fs ≡ some ls → whole blank fs ≡ ended_text ls
+unfolding literals_read literals_text
+literals_were [] ls e = absurd (nothing e)
+literals_were (f ∷ []) ls e = let (z, n) = last_was f ls e in whole_one blank f ∙ z ∙ ap ended_text n
 literals_were (f ∷ g ∷ fs) ls e =
     let (l, ms, a, b, is) = both_were ◌∷◌ (literal_read f) (literals_read (g ∷ fs)) ls e in
-    next_was blank f g fs (literal_was f l a) (literals_were (g ∷ fs) ms b) ∙ sym (body_next l ms) ∙ ap body_text is
+    next_was blank f g fs (literal_was f l a) (literals_were (g ∷ fs) ms b) ∙ sym (ended_next l ms) ∙ ap ended_text is
+
+-- with one literal at least
+some_were : (f g : List ℕ) (fs : List (List ℕ)) (ls : List ℤ) → literals_read (f ∷ g ∷ fs) ≡ some ls → whole blank (f ∷ g ∷ fs) ≡ body_line ls
+unfolding literals_read
+some_were f g fs ls e =
+    let (l, ms, a, b, is) = both_were ◌∷◌ (literal_read f) (literals_read (g ∷ fs)) ls e in
+    literals_were (f ∷ g ∷ fs) ls e ∙ sym (ap ended_text is) ∙ ap body_line is
+
+body_were : (fs : List (List ℕ)) (ls : List ℤ) → body_read fs ≡ some ls → whole blank fs ≡ body_line ls
+unfolding body_read
+body_were [] ls e = absurd (nothing e)
+body_were (f ∷ []) ls e = absurd (nothing e)
+body_were (f ∷ g ∷ []) ls e =
+    either (same f [])
+    (λ t.
+    let (z, n) = last_was g ls (sym (cond-true (same f []) _ _ t) ∙ e) in
+    next_was blank f g [] (same_true f [] t) (whole_one blank g ∙ z) ∙ ap body_line n)
+    (λ t. some_were f g [] ls (sym (cond-false (same f []) _ _ t) ∙ e))
+body_were (f ∷ g ∷ h ∷ fs) ls e = some_were f g (h ∷ fs) ls e
 
 clause_was : (line : List ℕ) (c : Clause) → clause_read line ≡ some c → line ≡ line_text c
 unfolding clause_read
@@ -124,11 +147,11 @@ clause_was [] c e = absurd (nothing e)
 clause_was (b ∷ bs) c e =
     either (eqb b xor_sign)
     (λ t.
-    let (ls, r, is) = then_was XOR (literals_read (parted_by blank bs)) c (sym (cond-true (eqb b xor_sign) _ _ t) ∙ e) in
-    ap₂ (λ (x : ℕ) (y : List ℕ). x ∷ y) (eqb-true b xor_sign t) (sym (parts_back blank bs) ∙ literals_were (parted_by blank bs) ls r) ∙ ap line_text is)
+    let (ls, r, is) = then_was XOR (body_read (parted_by blank bs)) c (sym (cond-true (eqb b xor_sign) _ _ t) ∙ e) in
+    ap₂ (λ (x : ℕ) (y : List ℕ). x ∷ y) (eqb-true b xor_sign t) (sym (parts_back blank bs) ∙ body_were (parted_by blank bs) ls r) ∙ ap line_text is)
     (λ t.
-    let (ls, r, is) = then_was OR (literals_read (parted_by blank (b ∷ bs))) c (sym (cond-false (eqb b xor_sign) _ _ t) ∙ e) in
-    sym (parts_back blank (b ∷ bs)) ∙ literals_were (parted_by blank (b ∷ bs)) ls r ∙ ap line_text is)
+    let (ls, r, is) = then_was OR (body_read (parted_by blank (b ∷ bs))) c (sym (cond-false (eqb b xor_sign) _ _ t) ∙ e) in
+    sym (parts_back blank (b ∷ bs)) ∙ body_were (parted_by blank (b ∷ bs)) ls r ∙ ap line_text is)
 
 -- ---- the clauses
 
@@ -145,7 +168,7 @@ lines_were (l ∷ k ∷ ls) cs e =
 
 -- ---- the header
 
-header_was : (fs : List (List ℕ)) (h : Header) → header_read fs ≡ some h → whole blank fs ≡ header_line h.variables h.count
+header_was : (fs : List (List ℕ)) (h : Problem) → header_read fs ≡ some h → whole blank fs ≡ header_line h.variables h.count
 unfolding header_read
 header_was [] h e = absurd (nothing e)
 header_was (p ∷ []) h e = absurd (nothing e)
@@ -154,9 +177,9 @@ header_was (p ∷ c ∷ v ∷ []) h e = absurd (nothing e)
 header_was (p ∷ c ∷ v ∷ m ∷ []) h e =
     let (s, d) = was_true (same p problem_word) _ h e in
     let (t, f) = was_true (same c cnf_word) _ h d in
-    let (x, y, a, b, is) = both_were header (number_read v) (number_read m) h f in
+    let (x, y, a, b, is) = both_were problem (number_read v) (number_read m) h f in
     next_was blank p c (v ∷ m ∷ []) (same_true p problem_word s) (next_was blank c v (m ∷ []) (same_true c cnf_word t) (next_was blank v m [] (number_was v x a) (whole_one blank m ∙ number_was m y b)))
-    ∙ ap (λ (k : Header). header_line k.variables k.count) is
+    ∙ ap (λ (k : Problem). header_line k.variables k.count) is
 header_was (p ∷ c ∷ v ∷ m ∷ f ∷ fs) h e = absurd (nothing e)
 
 -- ---- the whole text
@@ -164,9 +187,9 @@ header_was (p ∷ c ∷ v ∷ m ∷ f ∷ fs) h e = absurd (nothing e)
 read_were : (ls : List (List ℕ)) (d : Dimacs) → read_lines ls ≡ some d → whole line_feed ls ≡ header_text d.variables d.count ++ clauses_text d.clauses
 unfolding read_lines lines_read
 read_were [] d e = absurd (nothing e)
-read_were (l ∷ []) d e = let (h, cs, a, b, is) = both_were headed (header_read (parted_by blank l)) none d e in absurd (nothing b)
+read_were (l ∷ []) d e = let (h, cs, a, b, is) = both_were over_problem (header_read (parted_by blank l)) none d e in absurd (nothing b)
 read_were (l ∷ k ∷ ls) d e =
-    let (h, cs, a, b, is) = both_were headed (header_read (parted_by blank l)) (lines_read (k ∷ ls)) d e in
+    let (h, cs, a, b, is) = both_were over_problem (header_read (parted_by blank l)) (lines_read (k ∷ ls)) d e in
     next_was line_feed l k ls (sym (parts_back blank l) ∙ header_was (parted_by blank l) h a) (lines_were (k ∷ ls) cs b)
     ∙ sym (header_closed h.variables h.count (clauses_text cs))
     ∙ ap (λ (x : Dimacs). header_text x.variables x.count ++ clauses_text x.clauses) is

@@ -10,19 +10,20 @@ use lib.ListN.{length, length-append}
 use lib.Seq.{take_all}
 use borrow.Author.Tests.{eqb-true, eqb-false, eq-eqb, ne_eqb}
 use Rattle.circuit.specs.declared.gate.Gate.{Gate}
+use Rattle.circuit.specs.declared.header.Header.{Header}
 use Rattle.circuit.specs.Outcome.{Outcome, served, refused}
 use Rattle.circuit.specs.Refusal.{wrong_form}
 use Rattle.circuit.specs.Text.{text_of}
-use Rattle.circuit.specs.File.{Reading, reading}
+use Rattle.circuit.specs.File.{Reading, reading, line_after_end}
 use Rattle.circuit.specs.FileLaws.{FileCascade, ReadAs}
 use Rattle.circuit.proofs.Promises.{reader, read_as, demand_met, demand_failed, demanded, then_served, then_refused, then_both, wrong_refused, fails_refused}
-use Rattle.text.specs.WholeFile.{line_after_end, whole_file, WholeRefused}
+use Rattle.text.specs.WholeFile.{whole_file, WholeRefused}
 
 -- what was read is inside the text
 pub taken_within : (text : List ℕ) (c : Reading) → reading text ≡ served c → c.taken ≤ length text
 taken_within text c e =
     let g = (read_as text c).0 e in
-    omega (arith, g.bytes, ap length g.starts, length-append (text_of c.lines c.gates) g.rest)
+    omega (arith, g.bytes, ap length g.starts, length-append (text_of c.header c.gates) g.rest)
 
 -- ---- by what its reading gives
 
@@ -43,7 +44,7 @@ module _ (text : List ℕ) where
 -- ---- by what it is
 
 abbrev pub WholeJudged : List ℕ → Outcome Reading → Type 0
-WholeJudged text (served c) = (FileCascade c.lines c.gates) × (text ≡ text_of c.lines c.gates)
+WholeJudged text (served c) = (FileCascade c.header c.gates) × (text ≡ text_of c.header c.gates)
 WholeJudged text (refused number place) = WholeRefused text number place
 
 -- it is refused exactly for what is wrong with it
@@ -55,7 +56,7 @@ whole_refused text =
   where
     left : (c : Reading) → ReadAs text c → (eqb c.taken (length text) ≡ false) ↔ (c.taken < length text)
     left c g =
-        let inside : c.taken ≤ length text = omega (arith, g.bytes, ap length g.starts, length-append (text_of c.lines c.gates) g.rest) in
+        let inside : c.taken ≤ length text = omega (arith, g.bytes, ap length g.starts, length-append (text_of c.header c.gates) g.rest) in
         ((λ e. let ne = eqb-false c.taken (length text) e in omega arith), (λ h. ne_eqb c.taken (length text) (λ e. omega arith)))
 
 whole_by : (text : List ℕ) (o : Outcome Reading) → whole_file text ≡ o → WholeJudged text o
@@ -72,9 +73,9 @@ pub whole_judged : (text : List ℕ) → WholeJudged text (whole_file text)
 whole_judged text = whole_by text (whole_file text) refl
 
 -- a file is read as what is said of it
-module _ (text : List ℕ) (n : ℕ) (a : List Gate) (good : FileCascade n a) where
+module _ (text : List ℕ) (h : Header) (a : List Gate) (good : FileCascade h a) where
   abbrev pub whole : Reading
-  whole = record { lines = n; gates = a; taken = length (text_of n a) }
+  whole = record { header = h; gates = a; taken = length (text_of h a) }
 
-  pub whole_is : text ≡ text_of n a → whole_file text ≡ served whole
-  whole_is e = whole_good text whole (ap reading (e ∙ sym (append-nil (text_of n a))) ∙ reader.text_read n a [] good) (sym (ap length e))
+  pub whole_is : text ≡ text_of h a → whole_file text ≡ served whole
+  whole_is e = whole_good text whole (ap reading (e ∙ sym (append-nil (text_of h a))) ∙ reader.text_read h a [] good) (sym (ap length e))

@@ -1,35 +1,36 @@
--- What the bytes that a call of `tomiter` leaves say of the two cascades of its input. No definition of the miter or of the clause list stands below it.
+-- What the bytes that a call of `tomiter` leaves say of the two cascades of its input. No definition of a clause list stands below it.
 use Rattle.std.specs.Prelude.{◌≡◌, List, ◌∷◌, ◌++◌, ℕ, length, take}
 use Rattle.std.proofs.Math.Option.{some}
 use Rattle.circuit.specs.declared.gate.Gate.{Gate}
+use Rattle.circuit.specs.declared.header.Header.{Header}
 use Rattle.circuit.specs.Outcome.{Outcome, served}
 use Rattle.circuit.specs.Text.{text_of}
 use Rattle.circuit.specs.FileLaws.{FileCascade}
-use Rattle.checking.specs.Satisfaction.{Tells}
+use Rattle.checking.specs.PairTold.{TellsFor}
 use Rattle.text.specs.Dimacs.{blank, problem_word, cnf_word, Dimacs, dimacs_read}
 
 -- the text starts `p cnf`, so that it is no refusal
 abbrev pub StartsProblem : List ℕ → Type 0
 StartsProblem text = take 5 text ≡ problem_word ++ (blank ∷ cnf_word)
 
--- what is read from the text tells on which states two cascades differ
-pub record TextTells (text : List ℕ) (n : ℕ) (a b : List Gate) : Type 0 where
+-- what is read from the text tells on which states two cascades with the header h differ
+pub record TextTells (text : List ℕ) (h : Header) (a b : List Gate) : Type 0 where
   pub read : Dimacs
   pub is_read : dimacs_read text ≡ some read
   -- the header has the number of the clauses
   pub counted : read.count ≡ length read.clauses
   -- the cascades are equal exactly when no assignment satisfies the clauses; each state on which they differ is spelled by exactly one, and no other by any
-  pub tells : Tells n read.variables read.clauses a b
+  pub tells : TellsFor h read.variables read.clauses a b
 
--- the input is the files of two cascades on n lines, and the text tells on which states they differ
+-- the input is the files of two cascades with the same header, and the text tells on which states they differ
 pub record FilesTold (input text : List ℕ) : Type 0 where
-  pub lines : ℕ
+  pub header : Header
   pub first : List Gate
   pub second : List Gate
-  pub first_good : FileCascade lines first
-  pub second_good : FileCascade lines second
-  pub files : input ≡ text_of lines first ++ text_of lines second
-  pub told : TextTells text lines first second
+  pub first_good : FileCascade header first
+  pub second_good : FileCascade header second
+  pub files : input ≡ text_of header first ++ text_of header second
+  pub told : TextTells text header first second
 
 -- where a call is served with k bytes, and the first k bytes of its buffer start `p cnf`, they tell on which states the cascades of its input differ
 abbrev pub BytesTell : List ℕ → Outcome ℕ → List ℕ → Type 0

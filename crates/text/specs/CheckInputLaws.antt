@@ -3,9 +3,11 @@ use Rattle.std.specs.Prelude.{◌≡◌, cond, List, [], ◌∷◌, ◌++◌, �
 use Rattle.std.proofs.Math.Option.{some}
 use Rattle.bits.specs.Digits.{bit}
 use Rattle.circuit.specs.declared.gate.Gate.{Gate}
+use Rattle.circuit.specs.declared.header.Header.{Header}
+use Rattle.circuit.specs.Header.{Permitted}
 use Rattle.circuit.specs.Outcome.{served}
 use Rattle.circuit.specs.Refusal.{bad_state}
-use Rattle.circuit.specs.Run.{run, Differs}
+use Rattle.circuit.specs.Run.{run, DiffersFor}
 use Rattle.circuit.specs.Text.{tab, line_feed, digit}
 use Rattle.text.specs.FileOutcome.{refusal_text}
 use Rattle.text.specs.Answers.{WritesWhere}
@@ -23,14 +25,14 @@ pub record ChecksInput (program : List ℕ → List ℕ → List ℕ → List �
   -- what is wrong with the files
   pub refused_told : (first second state : List ℕ) (number file place : ℕ) → FilesRefused first second number file place
       → program first second state ≡ refusal_text number file place
-  -- 9 for a text that spells no state
-  pub no_state : (first second : List ℕ) (n : ℕ) (a b : List Gate) → TwoFiles first second n a b → (state : List ℕ) → ((x : ℕ) → x < 2 ^ n → state ≡ state_text n x → ⊥)
+  -- 9 for a text that spells no state that honours the constants
+  pub no_state : (first second : List ℕ) (h : Header) (a b : List Gate) → TwoFiles first second h a b → (state : List ℕ) → ((x : ℕ) → Permitted h x → state ≡ state_text h.lines x → ⊥)
       → program first second state ≡ refusal_text bad_state 0 0
   -- `differ` where the cascades differ on the input, else `agree`
-  pub differ_told : (first second : List ℕ) (n : ℕ) (a b : List Gate) → TwoFiles first second n a b → (x : ℕ) → Differs n a b x
-      → program first second (state_text n x) ≡ said_of differ_word n a b x
-  pub agree_told : (first second : List ℕ) (n : ℕ) (a b : List Gate) → TwoFiles first second n a b → (x : ℕ) → x < 2 ^ n → run a x ≡ run b x
-      → program first second (state_text n x) ≡ said_of agree_word n a b x
+  pub differ_told : (first second : List ℕ) (h : Header) (a b : List Gate) → TwoFiles first second h a b → (x : ℕ) → DiffersFor h a b x
+      → program first second (state_text h.lines x) ≡ said_of differ_word h.lines a b x
+  pub agree_told : (first second : List ℕ) (h : Header) (a b : List Gate) → TwoFiles first second h a b → (x : ℕ) → Permitted h x → (DiffersFor h a b x → ⊥)
+      → program first second (state_text h.lines x) ≡ said_of agree_word h.lines a b x
 
 pub record CheckInputLaws : Type 0 where
   -- a state's text has a character for each line, line 0 first: 1 where the line is 1, else 0

@@ -1,19 +1,20 @@
 -- Two cascade files compared: from their bytes to the bytes that are written.
 use Rattle.std.specs.Prelude.{cond, List, [], ◌∷◌, ◌++◌, ℕ, ◌*◌, ◌^◌, ◌≤◌, ◌==◌, nat_le, length}
 use Rattle.circuit.specs.declared.gate.Gate.{Gate}
+use Rattle.circuit.specs.declared.header.Header.{Header}
 use Rattle.circuit.specs.Gate.{max_gates, max_miter_gates}
+use Rattle.circuit.specs.Header.{marked, same_marks}
 use Rattle.circuit.specs.Outcome.{Outcome, demand, written}
-use Rattle.circuit.specs.Refusal.{line_counts_differ, no_room}
+use Rattle.circuit.specs.Refusal.{line_counts_differ, marks_differ, no_room}
 use Rattle.circuit.specs.Run.{run}
 use Rattle.circuit.specs.Text.{tab, line_feed}
 use Rattle.checking.specs.Miter.{miter_gates}
 use Rattle.checking.specs.Reduce.{reduce_gates}
 use Rattle.checking.specs.Compare.{max_sweep_lines, Difference, none, lowest, lowest_from}
-use Rattle.checking.specs.Clauses.{clauses_of}
 use Rattle.checking.specs.Stored.{stored}
 use Rattle.text.specs.Answers.{fit_outcome}
 use Rattle.text.specs.Dimacs.{dimacs_of}
-use Rattle.text.specs.Formula.{Formula, formula_of}
+use Rattle.text.specs.Formula.{Formula, formula_of, pair_formula}
 use Rattle.text.specs.FileOutcome.{FileOutcome, answered, of_both, of_file, further, numbers_text, answer_text}
 use Rattle.text.specs.Plain.{plain_clauses}
 use Rattle.text.specs.WholeFile.{whole_file}
@@ -38,25 +39,27 @@ max_compared = 4194322
 
 -- ---- the files
 
--- two cascades on n lines
+-- two cascades with the same header
 pub record CascadePair : Type 0 where
-  pub lines : ℕ
+  pub header : Header
   pub first : List Gate
   pub second : List Gate
 
-abbrev pub cascades : ℕ → List Gate → List Gate → CascadePair
-cascades n a b = record { lines = n; first = a; second = b }
+abbrev pub cascades : Header → List Gate → List Gate → CascadePair
+cascades h a b = record { header = h; first = a; second = b }
 
--- the second file beside the first one's cascade: its own refusal, then 8
-unfoldable pub second_file : ℕ → List Gate → List ℕ → FileOutcome CascadePair
-second_file n gs second = of_file 2 (whole_file second) (λ d. of_both (n == d.lines) line_counts_differ (answered (cascades n gs d.gates)))
+-- the second file beside the first one's cascade: its own refusal, then 8, 15
+unfoldable pub second_file : Header → List Gate → List ℕ → FileOutcome CascadePair
+second_file h gs second =
+    of_file 2 (whole_file second) (λ d.
+    of_both (h.lines == d.header.lines) line_counts_differ (of_both (same_marks h d.header) marks_differ (answered (cascades h gs d.gates))))
 
 -- more than 262,144 bytes: 10; the first file; the second one
 unfoldable pub files_of : List ℕ → List ℕ → FileOutcome CascadePair
 files_of first second =
     of_both (nat_le (length first) max_file) no_room
     (of_both (nat_le (length second) max_file) no_room
-    (of_file 1 (whole_file first) (λ c. second_file c.lines c.gates second)))
+    (of_file 1 (whole_file first) (λ c. second_file c.header c.gates second)))
 
 -- ---- the comparison
 
@@ -75,18 +78,26 @@ abbrev pub swept_as : List Gate → List Gate → Difference → Comparison
 swept_as a b none = swept
 swept_as a b (lowest x) = differ_on x (run a x) (run b x)
 
--- a clause list of more than 262,144 words: 10
-unfoldable pub list_as : ℕ → List Gate → FileOutcome Comparison
-list_as n gs = of_both (nat_le (length (stored (clauses_of n gs))) max_list) no_room (answered (unsolved (formula_of n gs)))
+-- the gates that the full reduction of one cascade leaves
+abbrev pub alone : List Gate → List Gate
+alone gs = (reduce_gates gs).left
 
--- the reduction decides where it leaves no gate; else the sweep, up to 16 lines; else the clauses of the gates left are for a solver
-unfoldable pub compared : ℕ → List Gate → List Gate → FileOutcome Comparison
-compared n a b =
+-- the clauses for a solver: where there are marks, of both cascades, each reduced alone; else of the gates that the reduction of the miter leaves
+unfoldable pub left_formula : Header → List Gate → List Gate → Formula
+left_formula h a b = cond (marked h) (pair_formula h (alone a) (alone b)) (formula_of h.lines (gates_left a b))
+
+-- a clause list of more than 262,144 words: 10
+unfoldable pub list_as : Formula → FileOutcome Comparison
+list_as f = of_both (nat_le (length (stored f.clauses)) max_list) no_room (answered (unsolved f))
+
+-- the reduction decides where it leaves no gate of the miter; else the sweep, up to 16 lines; else the clauses are for a solver
+unfoldable pub compared : Header → List Gate → List Gate → FileOutcome Comparison
+compared h a b =
     cond (length (gates_left a b) == 0) (answered reduced)
-    (cond (nat_le n max_sweep_lines) (answered (swept_as a b (lowest_from a b 0 (2 ^ n)))) (list_as n (gates_left a b)))
+    (cond (nat_le h.lines max_sweep_lines) (answered (swept_as a b (lowest_from h a b 0 (2 ^ h.lines)))) (list_as (left_formula h a b)))
 
 abbrev pub compared_files : FileOutcome CascadePair → FileOutcome Comparison
-compared_files files = further files (λ p. compared p.lines p.first p.second)
+compared_files files = further files (λ p. compared p.header p.first p.second)
 
 unfoldable pub comparison : List ℕ → List ℕ → FileOutcome Comparison
 comparison first second = compared_files (files_of first second)

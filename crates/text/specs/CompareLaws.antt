@@ -2,13 +2,16 @@
 use Rattle.std.specs.Prelude.{◌≡◌, Bool, List, [], ◌∷◌, ◌++◌, ℕ, ◌≤◌, ◌<◌, ℤ, neg_ℤ, length}
 use Rattle.std.proofs.Math.Option.{some}
 use Rattle.circuit.specs.declared.gate.Gate.{Gate}
+use Rattle.circuit.specs.declared.header.Header.{Header}
 use Rattle.circuit.specs.Outcome.{served}
+use Rattle.circuit.specs.Header.{unmarked}
 use Rattle.circuit.specs.Refusal.{no_room}
-use Rattle.circuit.specs.Run.{run, Equal, Differs}
-use Rattle.circuit.specs.Text.{line_feed}
+use Rattle.circuit.specs.Run.{run, EqualFor, DiffersFor}
+use Rattle.circuit.specs.Text.{line_feed, text_of}
 use Rattle.circuit.specs.File.{fields_of}
 use Rattle.checking.specs.Compare.{max_sweep_lines}
-use Rattle.checking.specs.Clauses.{Clause, OR, XOR, clauses_of, variables_of}
+use Rattle.checking.specs.FaultLaws.{without_constants, all_counted}
+use Rattle.checking.specs.Clauses.{Clause, OR, XOR}
 use Rattle.checking.specs.Satisfaction.{satisfies, ClausesWithin}
 use Rattle.checking.specs.Stored.{stored}
 use Rattle.text.specs.Answers.{WritesWhere}
@@ -16,7 +19,8 @@ use Rattle.text.specs.Dimacs.{decimal, Dimacs, dimacs_of, dimacs_read}
 use Rattle.text.specs.Plain.{plain_clause, plain_clauses, AllOr}
 use Rattle.text.specs.FileOutcome.{refusal_text}
 use Rattle.text.specs.BytesTell.{TextTells}
-use Rattle.text.specs.Compare.{max_list, max_compared, gates_left, reduction_word, sweep_word, differ_word, equal_text, differ_text, compare_text, Rooms, RoomsFit, compare_outcome, compare_buffer}
+use Rattle.text.specs.Formula.{formula_of}
+use Rattle.text.specs.Compare.{max_list, max_compared, gates_left, left_formula, reduction_word, sweep_word, differ_word, equal_text, differ_text, compare_text, Rooms, RoomsFit, compare_outcome, compare_buffer}
 use Rattle.text.specs.Rows.{FilesHold, files_rows}
 use Rattle.text.specs.TwoFiles.{TwoFiles, FilesRefused}
 
@@ -24,21 +28,21 @@ use Rattle.text.specs.TwoFiles.{TwoFiles, FilesRefused}
 pub data MayWrite (first second text : List ℕ) : Type 0 where
   -- a refusal: what is wrong with the files first
   refuses : (number file place : ℕ) → text ≡ refusal_text number file place → FilesRefused first second number file place → MayWrite first second text
-  -- and of two good ones, 10 for more than 16 lines, gates that the reduction leaves, and a clause list of these of more than 262,144 words
-  overflows : (n : ℕ) (a b : List Gate) → TwoFiles first second n a b → text ≡ refusal_text no_room 0 0 → (gates_left a b ≡ [] → ⊥) → max_sweep_lines < n
-      → max_list < length (stored (clauses_of n (gates_left a b))) → MayWrite first second text
+  -- and of two good ones, 10 for more than 16 lines, gates that the reduction of the miter leaves, and a clause list for a solver of more than 262,144 words
+  overflows : (h : Header) (a b : List Gate) → TwoFiles first second h a b → text ≡ refusal_text no_room 0 0 → (gates_left a b ≡ [] → ⊥) → max_sweep_lines < h.lines
+      → max_list < length (stored (left_formula h a b).clauses) → MayWrite first second text
   -- equal cascades, of whose miter the full reduction leaves no gate
-  reduces : (n : ℕ) (a b : List Gate) → TwoFiles first second n a b → text ≡ equal_text reduction_word → gates_left a b ≡ [] → Equal n a b → MayWrite first second text
+  reduces : (h : Header) (a b : List Gate) → TwoFiles first second h a b → text ≡ equal_text reduction_word → gates_left a b ≡ [] → EqualFor h a b → MayWrite first second text
   -- equal cascades of at most 16 lines
-  sweeps : (n : ℕ) (a b : List Gate) → TwoFiles first second n a b → text ≡ equal_text sweep_word → (gates_left a b ≡ [] → ⊥) → n ≤ max_sweep_lines → Equal n a b
+  sweeps : (h : Header) (a b : List Gate) → TwoFiles first second h a b → text ≡ equal_text sweep_word → (gates_left a b ≡ [] → ⊥) → h.lines ≤ max_sweep_lines → EqualFor h a b
       → MayWrite first second text
   -- a state on which the cascades differ, the lowest, and their outputs on it
-  differs : (n : ℕ) (a b : List Gate) → TwoFiles first second n a b → (x : ℕ) → text ≡ differ_text x (run a x) (run b x) → (gates_left a b ≡ [] → ⊥) → n ≤ max_sweep_lines
-      → Differs n a b x → ((y : ℕ) → y < x → run a y ≡ run b y) → MayWrite first second text
-  -- the clauses of the gates that the reduction leaves, each XOR in its place as ORs, which tell on which states the given cascades differ: no assignment satisfies them exactly where the cascades are equal, and each differing state is spelled by exactly one
-  asks : (n : ℕ) (a b : List Gate) → TwoFiles first second n a b → text ≡ dimacs_of (variables_of n (gates_left a b)) (plain_clauses (clauses_of n (gates_left a b)))
-      → (tells : TextTells text n a b) → AllOr tells.read.clauses → (gates_left a b ≡ [] → ⊥)
-      → max_sweep_lines < n → length (stored (clauses_of n (gates_left a b))) ≤ max_list → MayWrite first second text
+  differs : (h : Header) (a b : List Gate) → TwoFiles first second h a b → (x : ℕ) → text ≡ differ_text x (run a x) (run b x) → (gates_left a b ≡ [] → ⊥) → h.lines ≤ max_sweep_lines
+      → DiffersFor h a b x → ((y : ℕ) → y < x → DiffersFor h a b y → ⊥) → MayWrite first second text
+  -- the clauses for a solver, each XOR in its place as ORs, which tell on which states the given cascades differ: no assignment satisfies them exactly where the cascades are equal, and each differing state is spelled by exactly one
+  asks : (h : Header) (a b : List Gate) → TwoFiles first second h a b → text ≡ dimacs_of (left_formula h a b).variables (plain_clauses (left_formula h a b).clauses)
+      → (tells : TextTells text h a b) → AllOr tells.read.clauses → (gates_left a b ≡ [] → ⊥)
+      → max_sweep_lines < h.lines → length (stored (left_formula h a b).clauses) ≤ max_list → MayWrite first second text
 
 -- a program that compares two files, by what it writes
 abbrev pub Compares : (List ℕ → List ℕ → List ℕ) → Type 0
@@ -64,16 +68,23 @@ pub record CompareLaws : Type 0 where
   pub refused_told : (program : List ℕ → List ℕ → List ℕ) (first second : List ℕ) (number file place : ℕ) → FilesRefused first second number file place
       → Compares program → program first second ≡ refusal_text number file place
   -- it says `equal` of equal cascades alone
-  pub equal_true : (program : List ℕ → List ℕ → List ℕ) (first second word : List ℕ) (n : ℕ) (a b : List Gate) → TwoFiles first second n a b
-      → program first second ≡ equal_text word → Compares program → Equal n a b
+  pub equal_true : (program : List ℕ → List ℕ → List ℕ) (first second word : List ℕ) (h : Header) (a b : List Gate) → TwoFiles first second h a b
+      → program first second ≡ equal_text word → Compares program → EqualFor h a b
   -- and `differ` with the lowest state on which they differ and what each gives on it
-  pub differ_true : (program : List ℕ → List ℕ → List ℕ) (first second : List ℕ) (n : ℕ) (a b : List Gate) (x y z : ℕ) → TwoFiles first second n a b
-      → program first second ≡ differ_text x y z → Compares program → Differs n a b x × ((w : ℕ) → w < x → run a w ≡ run b w) × (y ≡ run a x) × (z ≡ run b x)
+  pub differ_true : (program : List ℕ → List ℕ → List ℕ) (first second : List ℕ) (h : Header) (a b : List Gate) (x y z : ℕ) → TwoFiles first second h a b
+      → program first second ≡ differ_text x y z → Compares program → DiffersFor h a b x × ((w : ℕ) → w < x → DiffersFor h a b w → ⊥) × (y ≡ run a x) × (z ≡ run b x)
   -- it is no program that calls the cascades of all good files equal, or that always asks a solver of these
-  pub always_equal : (program : List ℕ → List ℕ → List ℕ) → ((first second : List ℕ) (n : ℕ) (a b : List Gate) → TwoFiles first second n a b → (word : List ℕ) × (program first second ≡ equal_text word))
+  pub always_equal : (program : List ℕ → List ℕ → List ℕ) → ((first second : List ℕ) (h : Header) (a b : List Gate) → TwoFiles first second h a b → (word : List ℕ) × (program first second ≡ equal_text word))
       → Compares program → ⊥
-  pub always_asks : (program : List ℕ → List ℕ → List ℕ) → ((first second : List ℕ) (n : ℕ) (a b : List Gate) → TwoFiles first second n a b → (d : Dimacs) × (dimacs_read (program first second) ≡ some d))
+  pub always_asks : (program : List ℕ → List ℕ → List ℕ) → ((first second : List ℕ) (h : Header) (a b : List Gate) → TwoFiles first second h a b → (d : Dimacs) × (dimacs_read (program first second) ≡ some d))
       → Compares program → ⊥
+  -- nor one that takes no notice of the junk lines, or of the constants
+  pub junk_counted : (program : List ℕ → List ℕ → List ℕ)
+      → ((h : Header) (a b : List Gate) → program (text_of h a) (text_of h b) ≡ program (text_of (all_counted h) a) (text_of (all_counted h) b)) → Compares program → ⊥
+  pub constants_ignored : (program : List ℕ → List ℕ → List ℕ)
+      → ((h : Header) (a b : List Gate) → program (text_of h a) (text_of h b) ≡ program (text_of (without_constants h) a) (text_of (without_constants h) b)) → Compares program → ⊥
+  -- without marks the clauses for a solver are those of the gates that the reduction of the miter leaves, as by document 01
+  pub unmarked_left : (n : ℕ) (a b : List Gate) → left_formula (unmarked n) a b ≡ formula_of n (gates_left a b)
   -- the call writes the text exactly where the rooms and the buffer are long enough
   pub call : (first second : List ℕ) (lent : Rooms) (out : List ℕ) → WritesWhere (RoomsFit lent × (length (compare_text first second) ≤ length out))
       (compare_outcome first second lent (length out)) (compare_text first second) out (compare_buffer first second lent out)

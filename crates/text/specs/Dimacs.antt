@@ -39,14 +39,19 @@ unfoldable pub literals_text : List ℤ → List ℕ
 literals_text [] = []
 literals_text (l ∷ ls) = (literal_text l ++ (blank ∷ [])) ++ literals_text ls
 
--- `0` and the LF, which close a clause
+-- a clause's literals, each followed by a blank; the blank alone where there are none, since ` 0` closes a clause
+abbrev pub body_text : List ℤ → List ℕ
+body_text [] = blank ∷ []
+body_text (l ∷ ls) = literals_text (l ∷ ls)
+
+-- `0` and the LF, which end a clause
 abbrev pub closing : List ℕ
 closing = 48 ∷ line_feed ∷ []
 
 -- a clause a line
 abbrev pub clause_text : Clause → List ℕ
-clause_text (OR ls) = literals_text ls ++ closing
-clause_text (XOR ls) = xor_sign ∷ (literals_text ls ++ closing)
+clause_text (OR ls) = body_text ls ++ closing
+clause_text (XOR ls) = xor_sign ∷ (body_text ls ++ closing)
 
 unfoldable pub clauses_text : List Clause → List ℕ
 clauses_text [] = []
@@ -102,11 +107,18 @@ literals_read [] = none
 literals_read (f ∷ []) = cond (same f (48 ∷ [])) (some []) none
 literals_read (f ∷ g ∷ fs) = both_read ◌∷◌ (literal_read f) (literals_read (g ∷ fs))
 
+-- a clause's fields: literals, one at least, and `0`; or an empty one and `0`
+unfoldable pub body_read : List (List ℕ) → Option (List ℤ)
+body_read [] = none
+body_read (f ∷ []) = none
+body_read (f ∷ g ∷ []) = cond (same f []) (literals_read (g ∷ [])) (literals_read (f ∷ g ∷ []))
+body_read (f ∷ g ∷ h ∷ fs) = literals_read (f ∷ g ∷ h ∷ fs)
+
 -- a line's clause: an XOR after `x`, else an OR
 unfoldable pub clause_read : List ℕ → Option Clause
 clause_read [] = none
 clause_read (b ∷ bs) =
-    cond (b == xor_sign) (then_read XOR (literals_read (parted_by blank bs))) (then_read OR (literals_read (parted_by blank (b ∷ bs))))
+    cond (b == xor_sign) (then_read XOR (body_read (parted_by blank bs))) (then_read OR (body_read (parted_by blank (b ∷ bs))))
 
 -- the clauses of lines that an LF ends; what follows the last LF is empty
 unfoldable pub lines_read : List (List ℕ) → Option (List Clause)
@@ -121,28 +133,28 @@ pub record Dimacs : Type 0 where
   pub clauses : List Clause
 
 -- the header's counts, by its fields
-pub record Header : Type 0 where
+pub record Problem : Type 0 where
   pub variables : ℕ
   pub count : ℕ
 
-abbrev pub header : ℕ → ℕ → Header
-header variables count = record { variables = variables; count = count }
+abbrev pub problem : ℕ → ℕ → Problem
+problem variables count = record { variables = variables; count = count }
 
-unfoldable pub header_read : List (List ℕ) → Option Header
+unfoldable pub header_read : List (List ℕ) → Option Problem
 header_read [] = none
 header_read (p ∷ []) = none
 header_read (p ∷ c ∷ []) = none
 header_read (p ∷ c ∷ v ∷ []) = none
-header_read (p ∷ c ∷ v ∷ m ∷ []) = cond (same p problem_word) (cond (same c cnf_word) (both_read header (number_read v) (number_read m)) none) none
+header_read (p ∷ c ∷ v ∷ m ∷ []) = cond (same p problem_word) (cond (same c cnf_word) (both_read problem (number_read v) (number_read m)) none) none
 header_read (p ∷ c ∷ v ∷ m ∷ f ∷ fs) = none
 
-abbrev pub headed : Header → List Clause → Dimacs
-headed h cs = record { variables = h.variables; count = h.count; clauses = cs }
+abbrev pub over_problem : Problem → List Clause → Dimacs
+over_problem p cs = record { variables = p.variables; count = p.count; clauses = cs }
 
 -- a header and clauses
 unfoldable pub read_lines : List (List ℕ) → Option Dimacs
 read_lines [] = none
-read_lines (l ∷ ls) = both_read headed (header_read (parted_by blank l)) (lines_read ls)
+read_lines (l ∷ ls) = both_read over_problem (header_read (parted_by blank l)) (lines_read ls)
 
 unfoldable pub dimacs_read : List ℕ → Option Dimacs
 dimacs_read text = read_lines (parted_by line_feed text)

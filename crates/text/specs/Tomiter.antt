@@ -1,15 +1,16 @@
--- The program's whole job, by document 01: from the bytes of two cascade files to the bytes that it writes.
+-- The program's whole job, by documents 01 and 02: from the bytes of two cascade files to the bytes that it writes.
 use Rattle.std.specs.Prelude.{◌≡◌, List, ℕ, ◌==◌, nat_le, length, drop}
 use Rattle.circuit.specs.declared.gate.Gate.{Gate}
+use Rattle.circuit.specs.declared.header.Header.{Header}
+use Rattle.circuit.specs.Header.{same_marks}
 use Rattle.circuit.specs.Outcome.{Outcome}
-use Rattle.circuit.specs.Refusal.{line_counts_differ, no_room}
+use Rattle.circuit.specs.Refusal.{line_counts_differ, marks_differ, no_room}
 use Rattle.circuit.specs.File.{reading}
-use Rattle.checking.specs.Miter.{miter_gates}
-use Rattle.checking.specs.Clauses.{clauses_of}
+use Rattle.checking.specs.Pair.{pair_clauses}
 use Rattle.checking.specs.Stored.{stored}
 use Rattle.text.specs.Answers.{fit_outcome, fit_buffer}
 use Rattle.text.specs.Dimacs.{dimacs_of}
-use Rattle.text.specs.Formula.{Formula, formula_of}
+use Rattle.text.specs.Formula.{Formula, pair_formula}
 use Rattle.text.specs.FileOutcome.{FileOutcome, answered, of_both, of_file, answer_text}
 use Rattle.text.specs.BytesTell.{BytesTell}
 use Rattle.text.specs.WholeFile.{whole_file}
@@ -25,23 +26,23 @@ max_words = 16384
 abbrev pub max_text : ℕ
 max_text = 98321
 
--- the clause list of the miter, as it is built: 10
-unfoldable pub list_verdict : ℕ → List Gate → FileOutcome Formula
-list_verdict n gs = of_both (nat_le (length (stored (clauses_of n gs))) max_words) no_room (answered (formula_of n gs))
+-- the clause list of two cascades: 10
+unfoldable pub list_verdict : Header → List Gate → List Gate → FileOutcome Formula
+list_verdict h a b = of_both (nat_le (length (stored (pair_clauses h a b))) max_words) no_room (answered (pair_formula h a b))
 
--- two cascades: 8
-unfoldable pub pair_verdict : ℕ → List Gate → ℕ → List Gate → FileOutcome Formula
-pair_verdict na a nb b = of_both (na == nb) line_counts_differ (list_verdict na (miter_gates a b))
+-- two cascades: 8, 15
+unfoldable pub pair_verdict : Header → List Gate → Header → List Gate → FileOutcome Formula
+pair_verdict ha a hb b = of_both (ha.lines == hb.lines) line_counts_differ (of_both (same_marks ha hb) marks_differ (list_verdict ha a b))
 
 -- the second file, to its last byte
-unfoldable pub second_verdict : ℕ → List Gate → List ℕ → FileOutcome Formula
-second_verdict n gs text = of_file 2 (whole_file text) (λ c. pair_verdict n gs c.lines c.gates)
+unfoldable pub second_verdict : Header → List Gate → List ℕ → FileOutcome Formula
+second_verdict h gs text = of_file 2 (whole_file text) (λ c. pair_verdict h gs c.header c.gates)
 
 -- more than 65,536 bytes: 10; the first file; the second one, from where the first one's reading stops
 unfoldable pub verdict : List ℕ → FileOutcome Formula
 verdict input =
     of_both (nat_le (length input) max_input) no_room
-    (of_file 1 (reading input) (λ c. second_verdict c.lines c.gates (drop c.taken input)))
+    (of_file 1 (reading input) (λ c. second_verdict c.header c.gates (drop c.taken input)))
 
 abbrev pub verdict_text : FileOutcome Formula → List ℕ
 verdict_text v = answer_text (λ f. dimacs_of f.variables f.clauses) v

@@ -1,18 +1,19 @@
 -- Two cascade files, each to its last byte: what they are where both are good, and what is wrong with them otherwise.
 use Rattle.std.specs.Prelude.{◌≡◌, List, ℕ, ◌≤◌, ◌<◌, length}
 use Rattle.circuit.specs.declared.gate.Gate.{Gate}
-use Rattle.circuit.specs.Refusal.{line_counts_differ, no_room}
+use Rattle.circuit.specs.declared.header.Header.{Header}
+use Rattle.circuit.specs.Refusal.{line_counts_differ, marks_differ, no_room}
 use Rattle.circuit.specs.Text.{text_of}
 use Rattle.circuit.specs.FileLaws.{FileCascade}
 use Rattle.text.specs.WholeFile.{WholeRefused}
 use Rattle.text.specs.Compare.{max_file}
 
--- each file is that of a cascade on n lines, to its last byte, and is not too long
-pub record TwoFiles (first second : List ℕ) (n : ℕ) (a b : List Gate) : Type 0 where
-  pub first_good : FileCascade n a
-  pub second_good : FileCascade n b
-  pub first_text : first ≡ text_of n a
-  pub second_text : second ≡ text_of n b
+-- each file is that of a cascade with the header h, to its last byte, and is not too long
+pub record TwoFiles (first second : List ℕ) (h : Header) (a b : List Gate) : Type 0 where
+  pub first_good : FileCascade h a
+  pub second_good : FileCascade h b
+  pub first_text : first ≡ text_of h a
+  pub second_text : second ≡ text_of h b
   pub first_bytes : length first ≤ max_file
   pub second_bytes : length second ≤ max_file
 
@@ -24,8 +25,10 @@ pub data FilesRefused (first second : List ℕ) : ℕ → ℕ → ℕ → Type 0
   -- the first file
   first_file : (number place : ℕ) → length first ≤ max_file → length second ≤ max_file → WholeRefused first number place → FilesRefused first second number 1 place
   -- the second one, after a first that is good
-  in_second_file : (n : ℕ) (a : List Gate) (number place : ℕ) → length first ≤ max_file → length second ≤ max_file → FileCascade n a → first ≡ text_of n a
+  in_second_file : (h : Header) (a : List Gate) (number place : ℕ) → length first ≤ max_file → length second ≤ max_file → FileCascade h a → first ≡ text_of h a
       → WholeRefused second number place → FilesRefused first second number 2 place
-  -- line counts that differ
-  lines_differ : (n : ℕ) (a : List Gate) (m : ℕ) (b : List Gate) → length first ≤ max_file → length second ≤ max_file → FileCascade n a → first ≡ text_of n a
-      → FileCascade m b → second ≡ text_of m b → (n ≡ m → ⊥) → FilesRefused first second line_counts_differ 0 0
+  -- line counts that differ, and then marks
+  lines_differ : (ha : Header) (a : List Gate) (hb : Header) (b : List Gate) → length first ≤ max_file → length second ≤ max_file → FileCascade ha a → first ≡ text_of ha a
+      → FileCascade hb b → second ≡ text_of hb b → (ha.lines ≡ hb.lines → ⊥) → FilesRefused first second line_counts_differ 0 0
+  other_marks : (ha : Header) (a : List Gate) (hb : Header) (b : List Gate) → length first ≤ max_file → length second ≤ max_file → FileCascade ha a → first ≡ text_of ha a
+      → FileCascade hb b → second ≡ text_of hb b → ha.lines ≡ hb.lines → (ha ≡ hb → ⊥) → FilesRefused first second marks_differ 0 0

@@ -1,13 +1,9 @@
 -- A cascade file, to its last byte.
-use Rattle.std.specs.Prelude.{List, ℕ, ◌+◌, ◌<◌, ◌==◌, length}
+use Rattle.std.specs.Prelude.{List, ℕ, ◌<◌, ◌==◌, length}
 use Rattle.circuit.specs.Outcome.{Outcome, served, demand, and_then, Wrong, Fails}
 use Rattle.circuit.specs.Refusal.{wrong_form}
-use Rattle.circuit.specs.File.{Reading, reading}
+use Rattle.circuit.specs.File.{Reading, reading, line_after_end}
 use Rattle.circuit.specs.FileLaws.{FileRefused, ReadAs}
-
--- the line index after its `end`, by what was read: the header, its gates and `end` stand before
-abbrev pub line_after_end : Reading → ℕ
-line_after_end c = length c.gates + 2
 
 -- its own refusal, then 1 for bytes after its `end`, at the line index after that
 unfoldable pub whole_file : List ℕ → Outcome Reading

@@ -1,13 +1,16 @@
 // Two cascades compared: by the reduction of their miter, by the sweep, or by clauses for a solver.
 
-ghost use Rattle.std.specs.Prelude.{◌*◌, ◌^◌, ◌≤◌, length, take};
+ghost use Rattle.std.specs.Prelude.{◌≡◌, ◌*◌, ◌^◌, ◌≤◌, length, take};
+ghost use Rattle.circuit.specs.Outcome.{outcome_of};
 ghost use Rattle.circuit.specs.Words.{gates_of};
 ghost use Rattle.checking.specs.Reduce.{reduce_gates};
 ghost use Rattle.checking.specs.Compare.{max_sweep_lines, lowest_from};
-ghost use Rattle.text.specs.Compare.{max_list, file_words, miter_words, gates_left, swept_as, list_as, compared, comparison};
-ghost use Rattle.text.specs.private.Comparing.{MiterWords, MiterCascade, LeftIn, SaysCompared, SaysAny};
+ghost use Rattle.text.specs.Compare.{max_list, file_words, miter_words, gates_left, alone, swept_as, list_as, compared, comparison};
+ghost use Rattle.text.specs.Formula.{formula_of, pair_formula};
+ghost use Rattle.text.specs.FileOutcome.{answer_of};
+ghost use Rattle.text.specs.private.Comparing.{MiterWords, MiterCascade, LeftIn, listed_as, SaysCompared, SaysAny};
 
-use crate::pair::PairRead;
+use crate::pair::{CascadeRead, PairRead};
 use crate::refused::{File, FileRefusal};
 use checking::clauses::{ClauseWord, Totals};
 use circuit::gate::Gate;
@@ -37,25 +40,26 @@ fn reduce_gates(n: u64, gates: usize, room: &mut [u64]) -> usize
 // The gates that the full reduction of the miter leaves, at the room's start; how many.
 fn reduce_miter(pair: PairRead, room: &mut [u64]) -> usize
     requires { miter_words ≤ length room.old }
-    ensures { LeftIn pair.entry.first.lines result room.new (gates_left (gates_of pair.entry.first.words.now) (gates_of pair.entry.second.words.now)) }
+    ensures { LeftIn pair.entry.first.header.lines result room.new (gates_left (gates_of pair.entry.first.words.now) (gates_of pair.entry.second.words.now)) }
 {
     let PairRead { first, second } = pair;
-    match checking::miter::miter(first.lines, first.words, second.lines, second.words, room) {
-        Ok(gates) => reduce_gates(first.lines, gates, room),
+    let (n, m) = (first.header.lines, second.header.lines);
+    match checking::miter::miter(n, first.words, m, second.words, room) {
+        Ok(gates) => reduce_gates(n, gates, room),
         Err(_) => 0,
     }
 }
 
 // Two cascades of at most 16 lines, by the lowest state on which they differ.
 fn sweep(pair: PairRead) -> Compared
-    requires { pair.first.lines ≤ max_sweep_lines }
-    ensures { SaysAny result (swept_as (gates_of pair.entry.first.words.now) (gates_of pair.entry.second.words.now) (lowest_from (gates_of pair.entry.first.words.now) (gates_of pair.entry.second.words.now) 0 (2 ^ pair.entry.first.lines))) }
+    requires { pair.first.header.lines ≤ max_sweep_lines }
+    ensures { SaysAny result (swept_as (gates_of pair.entry.first.words.now) (gates_of pair.entry.second.words.now) (lowest_from pair.entry.first.header (gates_of pair.entry.first.words.now) (gates_of pair.entry.second.words.now) 0 (2 ^ pair.entry.first.header.lines))) }
 {
     let PairRead { first, second } = pair;
     match checking::compare::first_difference(
-        first.lines,
+        first.header,
         first.words,
-        second.lines,
+        second.header,
         second.words,
     ) {
         Ok(Some(state)) => Compared::Differ {
@@ -69,20 +73,53 @@ fn sweep(pair: PairRead) -> Compared
     }
 }
 
-// The clause list of gates, in the room; else 10.
-fn list_gates(n: u64, words: &[u64], clauses: &mut [ClauseWord]) -> Result<Compared, FileRefusal>
-    requires miter_cascade { MiterCascade n words.now }
-    requires clause_room { max_list ≤ length clauses.old }
-    ensures { SaysCompared result clauses.new (list_as n (gates_of words.now)) }
+// The totals of a clause list that was emitted, where it is no longer than one may be; else 10.
+fn listed(emitted: Result<Totals, Refusal>) -> Result<Compared, FileRefusal>
+    ensures { answer_of result ≡ listed_as (outcome_of emitted) }
 {
-    let totals = File::Both.of(checking::clauses::emit(n, words, clauses))?;
+    let totals = File::Both.of(emitted)?;
     if (crate::MAX_LIST as u64) < totals.words {
         return Err(FileRefusal::both(Refusal::NoRoom));
     }
     Ok(Compared::Clauses(totals))
 }
 
-// Compares two cascades; the miter and what the reduction leaves of it stand in `room`.
+// The clause list of gates; else 10.
+fn list_gates(n: u64, words: &[u64], clauses: &mut [ClauseWord]) -> Result<Compared, FileRefusal>
+    requires miter_cascade { MiterCascade n words.now }
+    requires clause_room { max_list ≤ length clauses.old }
+    ensures { SaysCompared result clauses.new (list_as (formula_of n (gates_of words.now))) }
+{
+    listed(checking::clauses::emit(n, words, clauses))
+}
+
+// The gates that the full reduction of a cascade leaves, at the room's start; how many.
+fn reduce_alone(cascade: CascadeRead, room: &mut [u64]) -> usize
+    requires { file_words ≤ length room.old }
+    ensures { LeftIn cascade.entry.header.lines result room.new (alone (gates_of cascade.entry.words.now)) }
+{
+    let gates = crate::put::put(room, cascade.words) / Gate::WORDS;
+    reduce_gates(cascade.header.lines, gates, room)
+}
+
+// The clause list of two cascades, each reduced alone in its part of `room`; else 10.
+fn list_alone(
+    pair: PairRead,
+    room: &mut [u64],
+    clauses: &mut [ClauseWord],
+) -> Result<Compared, FileRefusal>
+    requires miter_room { miter_words ≤ length room.old }
+    requires clause_room { max_list ≤ length clauses.old }
+    ensures { SaysCompared result clauses.new (list_as (pair_formula pair.entry.first.header (alone (gates_of pair.entry.first.words.now)) (alone (gates_of pair.entry.second.words.now)))) }
+{
+    let PairRead { first, second } = pair;
+    let (a, b) = room.split_at_mut(crate::FILE_WORDS);
+    let i = Gate::WORDS * reduce_alone(first, a);
+    let j = Gate::WORDS * reduce_alone(second, b);
+    listed(checking::pair::emit(first.header, &a[..i], second.header, &b[..j], clauses))
+}
+
+// Compares two cascades; the miter and what the reduction leaves of it, or of each alone, stand in `room`.
 fn compare_pair(
     pair: PairRead,
     room: &mut [u64],
@@ -90,18 +127,21 @@ fn compare_pair(
 ) -> Result<Compared, FileRefusal>
     requires miter_room { miter_words ≤ length room.old }
     requires clause_room { max_list ≤ length clauses.old }
-    ensures { SaysCompared result clauses.new (compared pair.entry.first.lines (gates_of pair.entry.first.words.now) (gates_of pair.entry.second.words.now)) }
+    ensures { SaysCompared result clauses.new (compared pair.entry.first.header (gates_of pair.entry.first.words.now) (gates_of pair.entry.second.words.now)) }
 {
     let left = reduce_miter(pair, room);
     if left == 0 {
         return Ok(Compared::Reduction);
     }
-    let lines = pair.first.lines;
-    if lines <= Gate::MAX_SWEEP_LINES {
+    let header = pair.first.header;
+    if header.lines <= Gate::MAX_SWEEP_LINES {
         return Ok(sweep(pair));
     }
+    if header.marked() {
+        return list_alone(pair, room, clauses);
+    }
     let end = Gate::WORDS * left;
-    list_gates(lines, &room[..end], clauses)
+    list_gates(header.lines, &room[..end], clauses)
 }
 
 // Compares two files.

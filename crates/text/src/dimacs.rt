@@ -2,7 +2,7 @@
 
 ghost use Rattle.std.specs.Prelude.{◌≡◌, [], ◌∷◌, ◌++◌, ◌+◌, ◌≤◌, length};
 ghost use Rattle.bits.specs.Lists.{Put};
-ghost use Rattle.text.specs.Dimacs.{blank, literal_text, literals_text, closing, header_text};
+ghost use Rattle.text.specs.Dimacs.{blank, literal_text, literals_text, body_text, closing, header_text};
 ghost use Rattle.text.specs.private.Words.{record_text};
 
 use checking::clauses::ClauseWord;
@@ -42,9 +42,12 @@ fn put_literals(out: &mut [u8], literals: &[ClauseWord]) -> usize
 
 // Writes literals and what closes their clause.
 pub(crate) fn put_closed(out: &mut [u8], literals: &[ClauseWord]) -> usize
-    requires { length (literals_text literals.now) + 2 ≤ length out.old }
-    ensures { Put result out.new (literals_text literals.now ++ closing) out.old }
+    requires { length (body_text literals.now) + 2 ≤ length out.old }
+    ensures { Put result out.new (body_text literals.now ++ closing) out.old }
 {
+    if literals.is_empty() {
+        return crate::put::put(out, b" 0\n");
+    }
     let at = put_literals(out, literals);
     at + crate::put::put(&mut out[at..], b"0\n")
 }

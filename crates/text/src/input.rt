@@ -14,12 +14,13 @@ ghost use Rattle.text.specs.private.Checking.{of_state, CheckedReady, SaysChecke
 
 use crate::pair::PairRead;
 use crate::refused::FileRefusal;
+use circuit::header::Header;
 use circuit::refusal::Refusal;
 
-// The lines of two cascades, and their outputs on a state.
+// The header of two cascades, and their outputs on a state.
 #[derive(Clone, Copy, Debug, PartialEq, Eq)]
 pub(crate) struct Outputs {
-    pub lines: u64,
+    pub header: Header,
     pub first: u64,
     pub second: u64,
 }
@@ -66,11 +67,11 @@ fn put_output(out: &mut [u8], n: u64, x: u64) -> usize
 }
 
 // Writes whether two outputs differ.
-fn put_verdict(out: &mut [u8], first: u64, second: u64) -> usize
+fn put_verdict(out: &mut [u8], agree: bool) -> usize
     requires { 6 ≤ length out.old }
-    ensures { Put result out.new (cond (first == second) agree_word differ_word) out.old }
+    ensures { Put result out.new (cond agree agree_word differ_word) out.old }
 {
-    if first == second {
+    if agree {
         return crate::put::put(out, b"agree");
     }
     crate::put::put(out, b"differ")
@@ -78,11 +79,12 @@ fn put_verdict(out: &mut [u8], first: u64, second: u64) -> usize
 
 // Writes the same and both outputs, each after a tab, and an LF.
 #[tactic(auto, using(crate::proofs::input::Laws::parts, crate::proofs::input::Laws::state_long))]
-fn put_checked(out: &mut [u8], n: u64, first: u64, second: u64) -> usize
-    requires { length (outputs_text n first second) ≤ length out.old }
-    ensures { Put result out.new (outputs_text n first second) out.old }
+fn put_checked(out: &mut [u8], h: Header, first: u64, second: u64) -> usize
+    requires { length (outputs_text h first second) ≤ length out.old }
+    ensures { Put result out.new (outputs_text h first second) out.old }
 {
-    let mut at = put_verdict(out, first, second);
+    let n = h.lines;
+    let mut at = put_verdict(out, h.alike(first, second));
     at += put_output(&mut out[at..], n, first);
     at += put_output(&mut out[at..], n, second);
     at + crate::put::put(&mut out[at..], b"\n")
@@ -90,28 +92,33 @@ fn put_checked(out: &mut [u8], n: u64, first: u64, second: u64) -> usize
 
 // Writes the same where it fits. The numbers stay apart, as the definition of the text has them.
 #[tactic(auto, unfolding(crate::specs::Answers::fit_outcome, crate::specs::Answers::fit_buffer))]
-fn fit_outputs(out: &mut [u8], n: u64, first: u64, second: u64) -> Result<usize, Refusal>
-    requires { n ≤ max_lines }
-    ensures { Yields (outcome_of result) out.new (fit_outcome (outputs_text n first second) (length out.old)) (fit_buffer (outputs_text n first second) out.old) }
+fn fit_outputs(out: &mut [u8], h: Header, first: u64, second: u64) -> Result<usize, Refusal>
+    requires { h.lines ≤ max_lines }
+    ensures { Yields (outcome_of result) out.new (fit_outcome (outputs_text h first second) (length out.old)) (fit_buffer (outputs_text h first second) out.old) }
 {
-    let size = 2 * n + 8 + (first != second) as u64;
+    let size = 2 * h.lines + 8 + !h.alike(first, second) as u64;
     if (out.len() as u64) < size {
         return Err(Refusal::NoRoom);
     }
-    Ok(put_checked(out, n, first, second))
+    Ok(put_checked(out, h, first, second))
 }
 
 // The outputs of two cascades on the state that a text spells; else 9.
 fn check_pair(pair: PairRead, state: &[u8]) -> Result<Outputs, FileRefusal>
-    ensures { SaysChecked result (checked_on pair.entry.first.lines (gates_of pair.entry.first.words.now) (gates_of pair.entry.second.words.now) (state_read pair.entry.first.lines state.now)) }
+    ensures { SaysChecked result (checked_on pair.entry.first.header (gates_of pair.entry.first.words.now) (gates_of pair.entry.second.words.now) (state_read pair.entry.first.header.lines state.now)) }
 {
     let PairRead { first, second } = pair;
-    match read_state(first.lines, state) {
-        Some(x) => Ok(Outputs {
-            lines: first.lines,
-            first: circuit::run::run_tested(first.words, x),
-            second: circuit::run::run_tested(second.words, x),
-        }),
+    match read_state(first.header.lines, state) {
+        Some(x) => {
+            if !first.header.permits(x) {
+                return Err(FileRefusal::both(Refusal::BadState(0)));
+            }
+            Ok(Outputs {
+                header: first.header,
+                first: circuit::run::run_tested(first.words, x),
+                second: circuit::run::run_tested(second.words, x),
+            })
+        }
         None => Err(FileRefusal::both(Refusal::BadState(0))),
     }
 }
@@ -141,7 +148,7 @@ pub(crate) fn fit_checked(
     ensures { Yields (outcome_of result) out.new (fit_outcome (checked_text (answer_of answer)) (length out.old)) (fit_buffer (checked_text (answer_of answer)) out.old) }
 {
     match answer {
-        Ok(outputs) => fit_outputs(out, outputs.lines, outputs.first, outputs.second),
+        Ok(outputs) => fit_outputs(out, outputs.header, outputs.first, outputs.second),
         Err(r) => crate::answer::fit_refusal(out, r),
     }
 }

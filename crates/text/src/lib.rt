@@ -60,7 +60,7 @@ pub fn tomiter(input: &[u8], out: &mut [u8]) -> Result<usize, Refusal>
 
 // The rooms are slices, whose lengths the functions inside require: with arrays in their place (`first_chunk_mut`) the proofs of the part that is returned and of the rooms that a refusal leaves did not close.
 // Compares the cascades of two files and writes the verdict, or clauses for a solver, at the start of `out`; else 10.
-// The words of the cascades, of their miter and of its clauses stand in the rooms that follow; what these hold afterwards is no answer, and where one is too short they are as they were.
+// The words of the cascades, of their miter and of the clauses stand in the rooms that follow; what these hold afterwards is no answer, and where one is too short they are as they were.
 #[tactic(auto, unfolding(crate::specs::Compare::compare_outcome, crate::specs::Compare::compare_buffer))]
 pub fn compare(
     first: &[u8],

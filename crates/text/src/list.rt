@@ -1,4 +1,4 @@
-// From the bytes of two cascade files to the clause list of their miter.
+// From the bytes of two cascade files to their clause list.
 
 ghost use Rattle.std.specs.Prelude.{◌≡◌, length};
 ghost use Rattle.circuit.specs.Words.{gates_of};
@@ -10,23 +10,20 @@ use crate::refused::{File, FileRefusal};
 use checking::clauses::{ClauseWord, Totals};
 use circuit::refusal::Refusal;
 
-// The clause list of two cascades; else 8 or 10.
+// The clause list of two cascades; else 8, 15 or 10.
 fn list_pair(
     first: CascadeRead,
     second: CascadeRead,
     clauses: &mut [ClauseWord],
 ) -> Result<Totals, FileRefusal>
     requires { length clauses.old ≡ max_words }
-    ensures { Delivers result clauses.new (pair_verdict first.entry.lines (gates_of first.entry.words.now) second.entry.lines (gates_of second.entry.words.now)) }
+    ensures { Delivers result clauses.new (pair_verdict first.entry.header (gates_of first.entry.words.now) second.entry.header (gates_of second.entry.words.now)) }
 {
-    let mut room = [0u64; crate::MITER_WORDS];
-    File::Both.of(checking::check::check(
-        first.lines,
+    File::Both.of(checking::pair::emit(
+        first.header,
         first.words,
-        second.lines,
+        second.header,
         second.words,
-        &[],
-        &mut room,
         clauses,
     ))
 }

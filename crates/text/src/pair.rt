@@ -2,18 +2,27 @@
 
 ghost use Rattle.std.specs.Prelude.{◌≡◌, ◌/◌, ◌≤◌, length};
 ghost use Rattle.circuit.specs.Gate.{max_gates};
-ghost use Rattle.circuit.specs.Words.{Cascade};
+ghost use Rattle.circuit.specs.Words.{Headed};
+ghost use Rattle.circuit.specs.File.{mark_lines};
 
 use crate::refused::{File, FileRefusal};
 use circuit::gate::Gate;
+use circuit::header::Header;
 use circuit::refusal::Refusal;
+
+// The number of mark lines of a header.
+fn mark_lines(h: Header) -> u64
+    ensures { (result ≡ mark_lines h) × (result ≤ 128) }
+{
+    circuit::gate::count(h.constants) + circuit::gate::count(h.junk)
+}
 
 // A cascade that was read, whose words stand in a lent room.
 #[derive(Clone, Copy)]
 pub(crate) struct CascadeRead<'a> {
-    pub lines: u64,
+    pub header: Header,
     pub words: &'a [u64],
-    ghost cascade: { Cascade lines words.now max_gates (length words.now / 3) },
+    ghost cascade: { Headed header words.now max_gates (length words.now / 3) },
 }
 
 // The same, and the bytes that it took.
@@ -23,12 +32,12 @@ pub(crate) struct StartRead<'a> {
     pub taken: usize,
 }
 
-// The cascades of two files, on as many lines.
+// The cascades of two files, with the same header.
 #[derive(Clone, Copy)]
 pub(crate) struct PairRead<'a> {
     pub first: CascadeRead<'a>,
     pub second: CascadeRead<'a>,
-    ghost same_lines: { first.lines ≡ second.lines },
+    ghost same_header: { first.header ≡ second.header },
 }
 
 impl<'a> StartRead<'a> {
@@ -46,7 +55,7 @@ impl<'a> StartRead<'a> {
         let counts = circuit::file::read(text, room)?;
         Ok(StartRead {
             cascade: CascadeRead {
-                lines: counts.lines,
+                header: counts.header,
                 words: &room[..Gate::WORDS * counts.gates],
             },
             taken: counts.taken,
@@ -69,7 +78,8 @@ impl<'a> CascadeRead<'a> {
         let start = StartRead::read(text, room)?;
         if start.taken != text.len() {
             let gates = start.cascade.words.len() / Gate::WORDS;
-            return Err(Refusal::WrongForm(gates as u64 + 2));
+            let before = mark_lines(start.cascade.header) + gates as u64;
+            return Err(Refusal::WrongForm(before + 2));
         }
         Ok(start.cascade)
     }
@@ -101,8 +111,11 @@ impl<'a> PairRead<'a> {
         }
         let first = File::First.of(CascadeRead::read(first, a))?;
         let second = File::Second.of(CascadeRead::read(second, b))?;
-        if first.lines != second.lines {
+        if first.header.lines != second.header.lines {
             return Err(FileRefusal::both(Refusal::LineCountsDiffer));
+        }
+        if !first.header.same_marks(second.header) {
+            return Err(FileRefusal::both(Refusal::MarksDiffer));
         }
         Ok(PairRead { first, second })
     }

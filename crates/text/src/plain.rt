@@ -5,7 +5,7 @@ ghost use Rattle.bits.specs.Lists.{Put};
 ghost use Rattle.checking.specs.Clauses.{OR, XOR, max_variables};
 ghost use Rattle.checking.specs.Satisfaction.{variable_of, LiteralsWithin};
 ghost use Rattle.checking.specs.Stored.{word_limit};
-ghost use Rattle.text.specs.Dimacs.{decimal, literal_text, literals_text, closing, clauses_text, header_text};
+ghost use Rattle.text.specs.Dimacs.{decimal, literal_text, body_text, closing, clauses_text, header_text};
 ghost use Rattle.text.specs.Plain.{plain_clause, plain_clauses};
 ghost use Rattle.text.specs.Compare.{max_list};
 ghost use Rattle.text.specs.private.Words.{plain_record, Plainable, StoresList, plain_sizes, stored_in};
@@ -49,8 +49,11 @@ fn both_size(literal: ClauseWord) -> usize
 fn closed_size(literals: &[ClauseWord]) -> usize
     requires few_literals { length literals.now ≤ max_list }
     requires literals_within { LiteralsWithin max_variables literals.now }
-    ensures { result ≡ length (literals_text literals.now ++ closing) }
+    ensures { result ≡ length (body_text literals.now ++ closing) }
 {
+    if literals.is_empty() {
+        return 3;
+    }
     let mut size = 2;
     for literal in literals {
         size += literal_size(*literal) + 1;

@@ -5,10 +5,13 @@ use Rattle.checking.proofs.lemmas.reduce.Relation.{reduce_laws}
 use Rattle.checking.proofs.lemmas.StandIns.{stand_in_laws}
 use Rattle.checking.proofs.lemmas.clauses.Laws.{clause_laws}
 use Rattle.checking.proofs.lemmas.EqualityLaws.{equality_laws}
+use Rattle.checking.proofs.lemmas.pair.Laws.{pair_laws}
 use Rattle.checking.proofs.lemmas.clauses.Answers.{emit_laws}
+use Rattle.checking.proofs.lemmas.pair_emission.Laws.{pair_emit_laws}
 use Rattle.checking.proofs.lemmas.Rows.{row_laws}
 use Rattle.checking.proofs.lemmas.faults.Refusals.{refusal_laws}
 use Rattle.checking.proofs.lemmas.faults.StandIns.{fault_laws}
+use Rattle.checking.proofs.lemmas.faults.Unmarked.{unmarked_laws}
 use Rattle.checking.proofs.laws.Goals as goal
 
 pub returns : goal.returns
@@ -20,8 +23,11 @@ returns c =
       stand_ins = stand_in_laws;
       clauses = clause_laws;
       equality = equality_laws;
+      pairs = pair_laws;
       emission = emit_laws;
+      pair_emission = pair_emit_laws;
       rows = row_laws;
       refusals = refusal_laws;
       faults = fault_laws;
+      unmarked = unmarked_laws;
     }

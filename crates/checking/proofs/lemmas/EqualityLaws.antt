@@ -1,18 +1,15 @@
 -- Demand 3 of an emitter of any clause list; so the stand-ins have it not. Assumes nothing.
-use Rattle.std.proofs.Common.{◌≡◌, ℕ, ◌+◌, ◌-◌, ◌<◌, ◌≤◌, Bool, true, false, List, [], ◌∷◌, ◌++◌, length, take, drop, replicate, ℤ, pos, sym, refl, ap, ◌∙◌, subst, subst₂, arith, length-append, le-leb}
+use Rattle.std.proofs.Common.{◌≡◌, ℕ, ◌+◌, ◌-◌, ◌<◌, ◌≤◌, Bool, true, false, List, [], ◌∷◌, ◌++◌, length, replicate, ℤ, pos, sym, refl, ap, ◌∙◌, subst, subst₂, arith, length-append}
 use mathlib.Core.Bool.{false≢true}
 use lib.ListN.{length-replicate}
-use Rattle.bits.specs.Lists.{over}
 use Rattle.circuit.specs.declared.gate.Gate.{Gate}
 use Rattle.circuit.specs.Gate.{max_lines, max_gates, max_miter_gates, valid, apply}
-use Rattle.circuit.specs.Outcome.{Outcome, served, written}
+use Rattle.circuit.specs.Outcome.{Outcome}
 use Rattle.circuit.specs.Words.{gates_of, words_of, all_valid, Cascade}
-use Rattle.circuit.proofs.Promises.{demand_met, gates_words, words_cascade, valid_none, valid_both, run_none}
-use Rattle.checking.specs.declared.clauses.Totals.{Totals}
+use Rattle.circuit.proofs.Promises.{gates_words, words_cascade, valid_none, valid_both, run_none}
 use Rattle.checking.specs.Clauses.{Clause, clauses_of, variables_of}
-use Rattle.checking.specs.Stored.{stored, clauses_in, clauses_read}
+use Rattle.checking.specs.Stored.{stored}
 use Rattle.checking.specs.Satisfaction.{satisfies, Tells}
-use Rattle.checking.specs.Sizes.{totals}
 use Rattle.checking.specs.Miter.{miter_gates, miter_buffer}
 use Rattle.checking.specs.Equality.{after_all, miter_leaves, left_after}
 use Rattle.checking.specs.EqualityLaws.{list_outcome, list_buffer, EqualityOfList, without_later, of_first, of_first_variables, EqualityLaws}
@@ -20,26 +17,13 @@ use Rattle.checking.proofs.lemmas.miter.Laws.{miter_laws}
 use Rattle.checking.proofs.lemmas.clauses.Laws.{clause_laws}
 use Rattle.checking.proofs.lemmas.clauses.Meaning.{told_alike}
 use Rattle.checking.proofs.lemmas.clauses.StandIns.{free, controlled, free_one, free_two, controlled_two, free_differs, controlled_keeps, nots_valid, half, first, second, start, miter_split, start_length, start_taken, start_valid, last_runs, unlike, variables_same, without_same}
-use Rattle.checking.proofs.lemmas.Equality.{served_same, equality, claimed}
-
-module _ (variables : ℕ → List Gate → ℕ) (clauses : ℕ → List Gate → List Clause) where
-  -- where there is room, the list stands
-  list_served : (n : ℕ) (ws : List ℕ) (room : ℕ) → length (stored (clauses n (gates_of ws))) ≤ room
-      → list_outcome variables clauses n ws room
-      ≡ served (totals (variables n (gates_of ws)) (length (clauses n (gates_of ws))) (length (stored (clauses n (gates_of ws)))))
-  list_served n ws room h = demand_met _ _ _ _ (le-leb _ room h)
-
-  list_left : (n : ℕ) (ws : List ℕ) (out : List ℤ) → length (stored (clauses n (gates_of ws))) ≤ length out
-      → list_buffer variables clauses n ws out ≡ over (stored (clauses n (gates_of ws))) out
-  list_left n ws out h = ap (λ (o : Outcome Totals). written o (stored (clauses n (gates_of ws))) out) (list_served n ws (length out) h)
+use Rattle.checking.proofs.lemmas.Listed.{only_read, list_listed}
+use Rattle.checking.proofs.lemmas.Equality.{equality, claimed}
 
 our_list : EqualityOfList variables_of clauses_of
 our_list =
     claimed (list_outcome variables_of clauses_of) (list_buffer variables_of clauses_of)
-    (λ n ws k out c room. record { counts = list_served variables_of clauses_of n ws (length out) room; words = list_left variables_of clauses_of n ws out room })
-
-read_same : (xs ys : List Clause) → clauses_read xs ≡ clauses_read ys → xs ≡ ys
-read_same xs ys e = cc
+    (λ n ws k out c room. list_listed (variables_of n (gates_of ws)) (clauses_of n (gates_of ws)) out room)
 
 -- what demand 3 says of the list of a miter
 module _ (variables : ℕ → List Gate → ℕ) (clauses : ℕ → List Gate → List Clause) (holds : EqualityOfList variables clauses) where
@@ -64,17 +48,10 @@ module _ (variables : ℕ → List Gate → ℕ) (clauses : ℕ → List Gate �
         let long : length out ≡ length (stored (clauses_of n gs)) + length (stored cs) = length-replicate _ _ in
         let e = claim.emission (omega (arith, ap (λ (l : List Gate). length (stored (clauses_of n l))) same)) in
         let room : length (stored (clauses n (gates_of ws))) ≤ length out = omega (arith, ap (λ (l : List Gate). length (stored (clauses n l))) same) in
-        let counts : totals (variables n (gates_of ws)) (length (clauses n (gates_of ws))) (length (stored (clauses n (gates_of ws)))) ≡ e.totals =
-        served_same _ _ (sym (list_served variables clauses n ws (length out) room) ∙ e.is_served) in
-        let read : clauses n (gates_of ws) ≡ e.told.clauses =
-        read_same _ _
-        (sym (clause_laws.read_back (clauses n (gates_of ws)) (drop (length (stored (clauses n (gates_of ws)))) out))
-        ∙ ap (λ (l : List ℤ). clauses_in (take (length (stored (clauses n (gates_of ws)))) l)) (sym (list_left variables clauses n ws out room))
-        ∙ ap (λ (t : Totals). clauses_in (take t.words (list_buffer variables clauses n ws out))) counts
-        ∙ e.told.are_read) in
-        let v : e.totals.variables ≡ variables n gs = sym (ap (λ (t : Totals). t.variables) counts) ∙ ap (variables n) same in
-        let l : e.told.clauses ≡ cs = sym read ∙ ap (clauses n) same in
-        subst (λ (m : ℕ). Tells n m cs (gates_of a) (gates_of b)) v (subst (λ (l : List Clause). Tells n e.totals.variables l (gates_of a) (gates_of b)) l e.told.tells)
+        let (v, l) =
+        only_read (variables n (gates_of ws)) (clauses n (gates_of ws)) out _ _ (list_listed (variables n (gates_of ws)) (clauses n (gates_of ws)) out room)
+        e.totals e.told.clauses e.is_served e.told.are_read in
+        subst₂ (λ (m : ℕ) (l : List Clause). Tells n m l (gates_of a) (gates_of b)) (v ∙ ap (variables n) same) (l ∙ ap (clauses n) same) e.told.tells
 
   -- the same by gates
   gates_told : (n : ℕ) (a b : List Gate) → 1 ≤ n → n ≤ max_lines → length a ≤ max_gates → length b ≤ max_gates → all_valid n a ≡ true → all_valid n b ≡ true

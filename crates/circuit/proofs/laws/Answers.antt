@@ -4,10 +4,15 @@ use Rattle.circuit.proofs.lemmas.gate.Effect.{fires_lines, lines_fires, apply_bi
 use Rattle.circuit.proofs.lemmas.gate.Controls.{controls_count, controls_fire}
 use Rattle.circuit.proofs.lemmas.words.Gates.{gates_words, words_gates}
 use Rattle.circuit.proofs.lemmas.words.Tests.{check_served, served_check, check_refused, refused_check, pair_served, served_pair, pair_refused}
+use Rattle.circuit.proofs.lemmas.header.Marks.{marks_lines, lines_marks, permits_exactly, alike_lines, lines_alike, unmarked_good, unmarked_header, unmarked_state, unmarked_line}
+use Rattle.circuit.proofs.lemmas.header.Tests.{headed_served, served_headed, headed_exactly, unmarked_outcome, headed_pair_served, served_headed_pair, headed_pair_refused, unmarked_pair}
+use Rattle.circuit.proofs.lemmas.header.Runs.{equal_differs_for, unmarked_equal, unmarked_differs}
 use Rattle.circuit.proofs.lemmas.run.Laws.{run_append, tested_run, run_below, equal_differs, run_refused, run_served, served_run}
 use Rattle.circuit.proofs.lemmas.run.Records.{records_words, records_served, served_records, records_refused, refused_records}
 use Rattle.circuit.proofs.lemmas.inverse.Laws.{run_inverse, inverse_run, inverse_append, inverse_twice, inverse_valid, refused_exactly, inverse_served, served_inverse, inverse_stands, inverse_untouched}
 use Rattle.circuit.proofs.lemmas.file.Laws.{reader, read_served, served_read, read_refused, write_served, served_write, write_refused, refuses_all}
+use Rattle.circuit.proofs.lemmas.file.Unmarked.{unmarked_files, marks_unread}
+use Rattle.circuit.proofs.lemmas.file.Rows.{row_text, row_read}
 use Rattle.circuit.proofs.lemmas.file.RoundTrip.{round_trip, idle_reading, idle_writing}
 use Rattle.circuit.proofs.laws.Goals as goal
 
@@ -40,6 +45,25 @@ returns c =
             pair_served = λ na a nb b c. (pair_served na a nb b c, served_pair na a nb b c);
             pair_refused = pair_refused;
           };
+      headers =
+          record {
+            marks_lines = λ h. (marks_lines h, lines_marks h);
+            permits_lines = permits_exactly;
+            alike_lines = λ h s t hs ht. (alike_lines h s t, lines_alike h s t hs ht);
+            headed_served = λ h ws limit k. (headed_served h ws limit k, served_headed h ws limit k);
+            headed_refused = headed_exactly;
+            pair_served = λ ha a hb b c. (headed_pair_served ha a hb b c, served_headed_pair ha a hb b c);
+            pair_refused = headed_pair_refused;
+            equal_differs = equal_differs_for;
+            unmarked_good = unmarked_good;
+            unmarked_only = unmarked_header;
+            unmarked_outcome = unmarked_outcome;
+            unmarked_pair = unmarked_pair;
+            unmarked_permitted = λ n x. ((λ p. p.state), unmarked_state n x);
+            unmarked_counts = λ n k. ((λ c. c.below), unmarked_line n k);
+            unmarked_equal = unmarked_equal;
+            unmarked_differs = unmarked_differs;
+          };
       cascades =
           record {
             run_append = run_append;
@@ -63,7 +87,10 @@ returns c =
           };
       file =
           record {
+            row_text = row_text;
+            row_read = row_read;
             reader = reader;
+            unmarked_files = unmarked_files;
             round_trip = round_trip;
             idle_reading = idle_reading;
             idle_writing = idle_writing;
@@ -72,5 +99,6 @@ returns c =
             write_served = λ n ws room k. (write_served n ws room k, served_write n ws room k);
             write_refused = write_refused;
             refuses_all = refuses_all;
+            marks_unread = marks_unread;
           };
     }

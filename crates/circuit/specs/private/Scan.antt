@@ -1,13 +1,13 @@
 -- For the contracts of the functions that read at a position of a text: what stands there, and where it ends.
 use Rattle.std.specs.Prelude.{ℕ, ◌+◌, Bool, cond, not, ◌&&◌, ◌||◌, List, [], ◌∷◌, Option, None, Some, drop, ◌==◌, nat_le}
 use Rattle.circuit.specs.declared.file.ReadCounts.{ReadCounts}
+use Rattle.circuit.specs.declared.header.Header.{Header}
 use Rattle.circuit.specs.declared.file.scan.Numeral.{Numeral}
 use Rattle.circuit.specs.declared.file.scan.ControlRead.{ControlRead}
-use Rattle.circuit.specs.declared.file.scan.HeaderNext.{HeaderNext}
 use Rattle.circuit.specs.declared.file.scan.Seen.{Seen}
 use Rattle.circuit.specs.Outcome.{Outcome, served, refused, and_then}
 use Rattle.circuit.specs.Text.{tab, line_feed}
-use Rattle.circuit.specs.File.{Line, first_line, lines_of, line_size, fields_of, line_of, control_of, controls_from, closed_gate, gate_on, header_on, read_from, counts_of}
+use Rattle.circuit.specs.File.{Line, first_line, lines_of, line_size, fields_of, line_of, control_of, controls_from, closed_gate, gate_on, count_on, read_from, counts_of}
 
 -- a byte that ends a field
 abbrev pub is_stop : ℕ → Bool
@@ -48,9 +48,9 @@ abbrev pub later_fields : List (List ℕ) → List (List ℕ)
 later_fields [] = []
 later_fields (f ∷ fs) = fs
 
--- the header of a text
-abbrev pub header_next : List ℕ → Outcome HeaderNext
-header_next r = and_then (header_on (line_at r)) (λ n. served (record { lines = n; next = line_size (line_at r) }))
+-- the line count of a text, and the position after its line
+abbrev pub count_next : List ℕ → Outcome Numeral
+count_next r = and_then (count_on (line_at r)) (λ n. served (record { value = n; next = line_size (line_at r) }))
 
 -- the position after the gate line at a position, with index i and after so many gate lines
 abbrev pub gate_next : ℕ → ℕ → ℕ → ℕ → List ℕ → Outcome ℕ
@@ -61,6 +61,6 @@ abbrev pub controls_next : ℕ → ℕ → ℕ → ℕ → List ℕ → Outcome 
 controls_next n i t at r =
     and_then (and_then (controls_from n i [] (later_fields (fields_of (line_at r).bytes))) (closed_gate i (line_at r).ended t)) (λ g. served (at + line_size (line_at r)))
 
--- the counts of the cascade on n lines whose gate lines start at line 1 and at a position
-abbrev pub counts_from : ℕ → ℕ → List ℕ → Outcome ReadCounts
-counts_from n start text = and_then (read_from n 1 [] start (lines_of (drop start text))) (λ c. served (counts_of c))
+-- the counts of the cascade with this header whose gate lines start at line `first` and at a position
+abbrev pub counts_from : Header → ℕ → ℕ → List ℕ → Outcome ReadCounts
+counts_from h first start text = and_then (read_from h first [] start (lines_of (drop start text))) (λ c. served (counts_of c))

@@ -39,7 +39,7 @@ fn number(text: &[u8], at: usize) -> Numeral
 }
 
 // The mask with line k, where it is to be set.
-fn joined(mask: u64, k: u64, set: bool) -> u64
+pub(crate) fn joined(mask: u64, k: u64, set: bool) -> u64
     requires { k < max_lines }
     ensures { result ≡ bit_or mask (if set then 2 ^ k else 0) }
 {

@@ -1,12 +1,14 @@
 // Writing at the start of a buffer: a number, a control, a line. Each function tells how many bytes it wrote.
 
-ghost use Rattle.std.specs.Prelude.{◌≡◌, ◌+◌, ◌<◌, ◌≤◌, ◌∷◌, ◌++◌, length, if◌then◌else◌};
+ghost use Rattle.std.specs.Prelude.{◌≡◌, true, ◌+◌, ◌*◌, ◌/◌, ◌^◌, ◌<◌, ◌≤◌, ◌∷◌, ◌++◌, length, if◌then◌else◌, count_ones};
 ghost use Rattle.bits.specs.Lists.{Put};
-ghost use Rattle.circuit.specs.Gate.{controls_of};
-ghost use Rattle.circuit.specs.Text.{tab, digit, number_text, control_text, controls_text, header_line, gate_text, gate_line, plus_sign, minus_sign};
-ghost use Rattle.circuit.specs.private.Put.{mask_gate};
+ghost use Rattle.circuit.specs.Gate.{max_lines, controls_of};
+ghost use Rattle.circuit.specs.Header.{marks_good};
+ghost use Rattle.circuit.specs.Text.{tab, digit, number_text, control_text, controls_text, count_line, const_line, junk_line, const_lines, junk_lines, header_lines, gate_text, gate_line, plus_sign, minus_sign};
+ghost use Rattle.circuit.specs.private.Put.{mask_gate, mark_line, mark_text};
 
 use crate::gate::Gate;
+use crate::header::Header;
 
 // Copies the items to the buffer's start, and tells how many they are. Each crate has its own: one for all would be open and ask for room, and with a test of the room emission with many controls takes half again as long.
 pub(crate) fn put<T: Copy>(out: &mut [T], items: &[T]) -> usize
@@ -101,29 +103,112 @@ pub(crate) fn put_gate_line(out: &mut [u8], g: Gate) -> usize
     at + 1
 }
 
-// Writes the header of a cascade on n lines.
-pub(crate) fn put_header(out: &mut [u8], n: u64) -> usize
-    requires { (n < 100) × (length (header_line n) ≤ length out.old) }
-    ensures { Put result out.new (header_line n) out.old }
+// Writes the line with the line count.
+fn put_count(out: &mut [u8], n: u64) -> usize
+    requires { (n < 100) × (length (count_line n) ≤ length out.old) }
+    ensures { Put result out.new (count_line n) out.old }
 {
     let at = put_numbered(out, b"lines\t", n);
     out[at] = b'\n';
     at + 1
 }
 
-// How many bytes the controls of two masks have, each after a tab: three each, and a second digit from line 10 on.
+// Writes the line of a constant.
+fn put_constant(out: &mut [u8], k: u64, value: bool) -> usize
+    requires { (k < 100) × (length (const_line k value) ≤ length out.old) }
+    ensures { Put result out.new (const_line k value) out.old }
+{
+    let at = put_numbered(out, b"const\t", k);
+    if value {
+        return at + put(&mut out[at..], b"\t1\n");
+    }
+    at + put(&mut out[at..], b"\t0\n")
+}
+
+// Writes the line of a junk line.
+fn put_junk(out: &mut [u8], k: u64) -> usize
+    requires { (k < 100) × (length (junk_line k) ≤ length out.old) }
+    ensures { Put result out.new (junk_line k) out.old }
+{
+    let at = put_numbered(out, b"junk\t", k);
+    out[at] = b'\n';
+    at + 1
+}
+
+// Writes the line of a mark, of a constant or else of a junk line.
+fn put_mark(out: &mut [u8], constant: bool, k: u64, value: bool) -> usize
+    requires { (k < 100) × (length (mark_line constant k value) ≤ length out.old) }
+    ensures { Put result out.new (mark_line constant k value) out.old }
+{
+    if constant {
+        return put_constant(out, k, value);
+    }
+    put_junk(out, k)
+}
+
+// Writes the lines of the marks of a mask, by rising line.
+fn put_marks(out: &mut [u8], constant: bool, mask: u64, values: u64) -> usize
+    requires { length (mark_text constant mask values) ≤ length out.old }
+    ensures { Put result out.new (mark_text constant mask values) out.old }
+{
+    // A while, one turn for each set bit, as for controls.
+    let mut left = mask;
+    let mut at = 0;
+    while left != 0 {
+        let k = crate::gate::lowest(left);
+        at += put_mark(&mut out[at..], constant, k, crate::gate::has(values, k));
+        left &= left - 1;
+    }
+    at
+}
+
+// Writes the lines of a header's constants and junk lines.
+fn put_header_marks(out: &mut [u8], h: Header) -> usize
+    requires { (h.lines ≤ max_lines) × (marks_good h ≡ true) × (length (const_lines h ++ junk_lines h) ≤ length out.old) }
+    ensures { Put result out.new (const_lines h ++ junk_lines h) out.old }
+{
+    let at = put_marks(out, true, h.constants, h.values);
+    at + put_marks(&mut out[at..], false, h.junk, 0)
+}
+
+// Writes the lines of a header.
+pub(crate) fn put_header(out: &mut [u8], h: Header) -> usize
+    requires { (h.lines ≤ max_lines) × (marks_good h ≡ true) × (length (header_lines h) ≤ length out.old) }
+    ensures { Put result out.new (header_lines h) out.old }
+{
+    let at = put_count(out, h.lines);
+    at + put_header_marks(&mut out[at..], h)
+}
+
+// How many bytes a text of each line of a mask has: so many each, and a second digit from line 10 on.
+fn lines_size(each: u64, mask: u64) -> usize
+    requires { each ≤ 10 }
+    ensures { (result ≡ each * count_ones mask + count_ones (mask / 2 ^ 10)) × (result ≤ 704) }
+{
+    (each * crate::gate::count(mask) + crate::gate::count(mask >> 10)) as usize
+}
+
+// How many bytes the lines of a header have.
+#[tactic(auto, using(crate::proofs::lemmas::file::put::Marks::header_long))]
+pub(crate) fn header_size(h: Header) -> usize
+    requires { (h.lines ≤ max_lines) × (marks_good h ≡ true) }
+    ensures { (result ≡ length (header_lines h)) × (result ≤ 1500) }
+{
+    7 + crate::file::scan::digits(h.lines) + lines_size(10, h.constants) + lines_size(7, h.junk)
+}
+
+// How many bytes the controls of two masks have, each after a tab.
 #[tactic(auto, using(crate::proofs::lemmas::file::put::Laws::controls_long))]
 fn controls_size(positive: u64, negative: u64) -> usize
-    ensures { (result ≡ length (controls_text (controls_of (mask_gate positive negative)))) × (result ≤ 256) }
+    ensures { (result ≡ length (controls_text (controls_of (mask_gate positive negative)))) × (result ≤ 704) }
 {
-    let lines = positive | negative;
-    (3 * crate::gate::count(lines) + crate::gate::count(lines >> 10)) as usize
+    lines_size(3, positive | negative)
 }
 
 // How many bytes the line of a gate has.
 #[tactic(auto, using(crate::proofs::lemmas::file::put::Laws::gate_length, crate::proofs::lemmas::file::put::Laws::same_controls, crate::proofs::lemmas::file::scan::Laws::width_two))]
 pub(crate) fn gate_size(g: Gate) -> usize
-    ensures { (result ≡ length (gate_line g)) × (result ≤ 300) }
+    ensures { (result ≡ length (gate_line g)) × (result ≤ 800) }
 {
     3 + crate::file::scan::digits(g.target) + controls_size(g.positive, g.negative)
 }

@@ -5,13 +5,13 @@ ghost use Rattle.circuit.specs.Gate.{max_lines};
 ghost use Rattle.circuit.specs.Outcome.{outcome_of};
 ghost use Rattle.circuit.specs.Text.{plus_sign, minus_sign};
 ghost use Rattle.circuit.specs.File.{number_of, is_end};
-ghost use Rattle.circuit.specs.private.Scan.{is_stop, field_at, line_at, width, numeral_at, added, line_next, control_next, controls_next, gate_next, header_next};
+ghost use Rattle.circuit.specs.private.Scan.{is_stop, field_at, line_at, width, numeral_at, added, line_next, control_next, controls_next, gate_next, count_next};
 
 use crate::gate::Gate;
 use crate::refusal::Refusal;
 
-// The byte that ends the header's line.
-const HEADER_END: u8 = b'\n';
+// The byte that ends the line of the line count.
+const COUNT_END: u8 = b'\n';
 
 // The number in a field, and the position after the field.
 #[derive(Clone, Copy)]
@@ -25,13 +25,6 @@ pub struct Numeral {
 pub struct ControlRead {
     pub line: u64,
     pub positive: bool,
-    pub next: usize,
-}
-
-// The line count, and the position after its line.
-#[derive(Clone, Copy)]
-pub struct HeaderNext {
-    pub lines: u64,
     pub next: usize,
 }
 
@@ -73,7 +66,7 @@ pub(crate) fn digits(k: u64) -> usize
 
 // The number in the field at a position, if it has one. Its value is made in words: bytes were slower.
 #[tactic(auto, using(crate::proofs::lemmas::file::scan::Laws::number_rules))]
-fn number(text: &[u8], at: usize) -> Option<Numeral>
+pub(crate) fn number(text: &[u8], at: usize) -> Option<Numeral>
     requires { at ≤ length text.now }
     ensures { result ≡ numeral_at at (number_of 0 (field_at (drop at text.now))) }
 {
@@ -216,9 +209,9 @@ pub(crate) fn ends(text: &[u8], at: usize) -> bool
 }
 
 // The line count of a text and the position after its first line; else 1 or 2.
-#[tactic(auto, using(crate::proofs::lemmas::file::scan::Rest::header_rules))]
-pub(crate) fn header(text: &[u8]) -> Result<HeaderNext, Refusal>
-    ensures { outcome_of result ≡ header_next text.now }
+#[tactic(auto, using(crate::proofs::lemmas::file::scan::Rest::count_rules))]
+pub(crate) fn line_count(text: &[u8]) -> Result<Numeral, Refusal>
+    ensures { outcome_of result ≡ count_next text.now }
 {
     if !text.starts_with(b"lines\t") {
         return Err(Refusal::WrongForm(0));
@@ -230,11 +223,11 @@ pub(crate) fn header(text: &[u8]) -> Result<HeaderNext, Refusal>
     if text.len() <= k.next {
         return Err(Refusal::WrongForm(0));
     }
-    if text[k.next] != HEADER_END {
+    if text[k.next] != COUNT_END {
         return Err(Refusal::WrongForm(0));
     }
-    Ok(HeaderNext {
-        lines: k.value,
+    Ok(Numeral {
+        value: k.value,
         next: k.next + 1,
     })
 }

@@ -6,15 +6,17 @@ use mathlib.Core.Option.{Option, none, some}
 use Prim.Native.Nat.{ℕ, zero, suc, ◌+◌, ◌*◌, ◌-◌, ◌/◌, ◌%◌, ◌^◌, ◌≤◌, ◌<◌}
 use native.Mathlib.Numerals.{add-one}
 use native.Mathlib.Omega.{arith}
-use lib.Dec.{eqb, leb}
+use lib.Dec.{leb}
 use mir.Val.{bool_byte}
 use lib.ListN.{length, take, drop, set, get_or, length-set, length-append}
 use lib.Pow.{pow_mono}
 use lib.Seq.{drop-cons, take_all}
-use borrow.Author.Tests.{le-leb, lt-leb, eq-eqb, ne_eqb}
+use borrow.Author.Tests.{le-leb, lt-leb}
 use Rattle.bits.specs.Lists.{over, Put}
 use Rattle.bits.proofs.Bools.{both, and_second, cond-true, cond-false}
 use Rattle.bits.proofs.Lists.{over_prefix}
+use Rattle.circuit.specs.declared.header.Header.{Header}
+use Rattle.circuit.specs.Header.{alike}
 use Rattle.circuit.specs.Outcome.{Outcome, Yields}
 use Rattle.circuit.proofs.Promises.{demand_met}
 use Rattle.circuit.specs.Text.{tab, line_feed, digit}
@@ -163,12 +165,6 @@ stating_done n x first out left i s h =
 
 -- ---- the whole text
 
-pub verdict_agree : (first second : ℕ) → first ≡ second → agree_word ≡ cond (eqb first second) agree_word differ_word
-verdict_agree first second e = sym (cond-true (eqb first second) _ _ (eq-eqb first second e))
-
-pub verdict_differ : (first second : ℕ) → (first ≡ second → ⊥) → differ_word ≡ cond (eqb first second) agree_word differ_word
-verdict_differ first second h = sym (cond-false (eqb first second) _ _ (ne_eqb first second h))
-
 verdict_long : (t : Bool) → (5 ≤ length (cond t agree_word differ_word)) × (length (cond t agree_word differ_word) ≤ 6)
 verdict_long true = (omega arith, omega arith)
 verdict_long false = (omega arith, omega arith)
@@ -181,17 +177,17 @@ outputs_long n first second =
     omega (arith, length-append (state_text n first) ((tab ∷ state_text n second) ++ (line_feed ∷ [])), length-append (state_text n second) (line_feed ∷ []), state_long n first, state_long n second)
 
 -- the text is as long as the verdict and the outputs
-pub record Parts (n first second : ℕ) : Type 0 where
-  pub sum : length (outputs_text n first second) ≡ length (cond (eqb first second) agree_word differ_word) + (2 * n + 3)
-  pub low : 5 ≤ length (cond (eqb first second) agree_word differ_word)
-  pub high : length (cond (eqb first second) agree_word differ_word) ≤ 6
+pub record Parts (h : Header) (first second : ℕ) : Type 0 where
+  pub sum : length (outputs_text h first second) ≡ length (cond (alike h first second) agree_word differ_word) + (2 * h.lines + 3)
+  pub low : 5 ≤ length (cond (alike h first second) agree_word differ_word)
+  pub high : length (cond (alike h first second) agree_word differ_word) ≤ 6
 
-pub parts : (n first second : ℕ) → Parts n first second
+pub parts : (h : Header) (first second : ℕ) → Parts h first second
 unfolding outputs_text
-parts n first second =
-    let (a, b) = verdict_long (eqb first second) in
+parts h first second =
+    let (a, b) = verdict_long (alike h first second) in
     record {
-      sum = length-append (cond (eqb first second) agree_word differ_word) (outputs_of n first second) ∙ omega (arith, outputs_long n first second);
+      sum = length-append (cond (alike h first second) agree_word differ_word) (outputs_of h.lines first second) ∙ omega (arith, outputs_long h.lines first second);
       low = a;
       high = b;
     }
@@ -200,8 +196,8 @@ size_by : (t : Bool) → length (cond t agree_word differ_word) ≡ 5 + bool_byt
 size_by true = refl
 size_by false = refl
 
-pub size_is : (n first second : ℕ) → length (outputs_text n first second) ≡ 2 * n + 8 + bool_byte (not (eqb first second))
-size_is n first second = omega (arith, (parts n first second).sum, size_by (eqb first second))
+pub size_is : (h : Header) (first second : ℕ) → length (outputs_text h first second) ≡ 2 * h.lines + 8 + bool_byte (not (alike h first second))
+size_is h first second = omega (arith, (parts h first second).sum, size_by (alike h first second))
 
 -- ---- the call, by the rooms that are lent
 

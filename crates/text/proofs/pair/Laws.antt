@@ -2,33 +2,39 @@
 use mathlib.Core.Path.{◌≡◌, ◌∙◌}
 use mathlib.Core.List.{List}
 use Prim.Native.Nat.{ℕ, ◌≤◌, ◌<◌}
-use lib.Dec.{eqb, leb}
+use lib.Dec.{leb}
 use lib.ListN.{length}
-use borrow.Author.Tests.{eq-eqb, ne_eqb, le-leb, lt-leb}
+use borrow.Author.Tests.{le-leb, lt-leb}
 use Rattle.circuit.specs.declared.gate.Gate.{Gate}
+use Rattle.circuit.specs.declared.header.Header.{Header}
 use Rattle.circuit.specs.Outcome.{served, refused}
-use Rattle.circuit.specs.Refusal.{line_counts_differ, no_room}
+use Rattle.circuit.specs.Refusal.{line_counts_differ, marks_differ, no_room}
 use Rattle.circuit.specs.File.{Reading}
 use Rattle.text.specs.WholeFile.{whole_file}
 use Rattle.text.specs.FileOutcome.{answered, refused_at}
 use Rattle.text.specs.Compare.{max_file, cascades, second_file, files_of}
 use Rattle.text.proofs.FileOutcome.{both_met, both_failed, file_served, file_refused}
+use Rattle.text.proofs.Pairs.{headers_met, lines_apart, marks_apart}
 
 -- ---- the second file
 
-module _ (n : ℕ) (gs : List Gate) (second : List ℕ) where
-  pub second_refused : (number place : ℕ) → whole_file second ≡ refused number place → second_file n gs second ≡ refused_at number 2 place
+module _ (h : Header) (gs : List Gate) (second : List ℕ) where
+  pub second_refused : (number place : ℕ) → whole_file second ≡ refused number place → second_file h gs second ≡ refused_at number 2 place
   unfolding second_file
   second_refused number place e = file_refused 2 (whole_file second) _ number place e
 
   module _ (d : Reading) (e : whole_file second ≡ served d) where
-    pub second_differs : (n ≡ d.lines → ⊥) → second_file n gs second ≡ refused_at line_counts_differ 0 0
+    pub second_lines : (h.lines ≡ d.header.lines → ⊥) → second_file h gs second ≡ refused_at line_counts_differ 0 0
     unfolding second_file
-    second_differs h = file_served 2 (whole_file second) _ d e ∙ both_failed (eqb n d.lines) _ _ (ne_eqb n d.lines h)
+    second_lines l = file_served 2 (whole_file second) _ d e ∙ lines_apart h d.header _ l
 
-    pub second_same : n ≡ d.lines → second_file n gs second ≡ answered (cascades n gs d.gates)
+    pub second_marks : h.lines ≡ d.header.lines → (h ≡ d.header → ⊥) → second_file h gs second ≡ refused_at marks_differ 0 0
     unfolding second_file
-    second_same h = file_served 2 (whole_file second) _ d e ∙ both_met (eqb n d.lines) _ _ (eq-eqb n d.lines h)
+    second_marks l m = file_served 2 (whole_file second) _ d e ∙ marks_apart h d.header _ l m
+
+    pub second_same : h ≡ d.header → second_file h gs second ≡ answered (cascades h gs d.gates)
+    unfolding second_file
+    second_same s = file_served 2 (whole_file second) _ d e ∙ headers_met h d.header _ s
 
 -- ---- both
 
@@ -51,7 +57,7 @@ module _ (first second : List ℕ) where
           ∙ both_met (leb (length second) max_file) _ _ (le-leb (length second) max_file short-2)
           ∙ file_refused 1 (whole_file first) _ number place e
 
-      pub first_served : (c : Reading) → whole_file first ≡ served c → files_of first second ≡ second_file c.lines c.gates second
+      pub first_served : (c : Reading) → whole_file first ≡ served c → files_of first second ≡ second_file c.header c.gates second
       unfolding files_of
       first_served c e =
           both_met (leb (length first) max_file) _ _ (le-leb (length first) max_file short)

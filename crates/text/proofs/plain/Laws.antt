@@ -10,14 +10,14 @@ use Rattle.checking.specs.Clauses.{Clause, OR, XOR, max_variables}
 use Rattle.checking.specs.Satisfaction.{variable_of, LiteralsWithin, clause_literals, ClausesWithin}
 use Rattle.checking.specs.Stored.{word_width, word_limit, stored_clause, stored}
 use Rattle.checking.proofs.Promises.{neg_size, stored_next}
-use Rattle.text.specs.Dimacs.{blank, literal_text, literals_text, closing, clause_text, clauses_text}
+use Rattle.text.specs.Dimacs.{blank, literal_text, literals_text, body_text, closing, clause_text, clauses_text}
 use Rattle.text.specs.Plain.{negations, plain_clause, plain_clauses}
 use Rattle.text.specs.Compare.{max_list}
 use Rattle.text.specs.private.Words.{plain_record, TwoOrThree, ShortRecord, ShortClause, AllShort, Plainable}
 use Rattle.text.proofs.Decimal.{decimal_few}
-use Rattle.text.proofs.Sizes.{literal_few, literals_few}
+use Rattle.text.proofs.Sizes.{literal_few, literals_few, body_few}
 use Rattle.text.proofs.dimacs.Signed.{word_is}
-use Rattle.text.proofs.dimacs.Loops.{literals_next, literals_end}
+use Rattle.text.proofs.dimacs.Loops.{literals_next, literals_end, body_some}
 
 -- ---- the opposite literal
 
@@ -50,9 +50,9 @@ or_record (pos (suc zero)) ls h = absurd (h refl)
 or_record (pos (suc (suc k))) ls h = refl
 or_record (negsuc i) ls h = refl
 
-pub or_text : (ls : List ℤ) → clauses_text (OR ls ∷ []) ≡ literals_text ls ++ closing
+pub or_text : (ls : List ℤ) → clauses_text (OR ls ∷ []) ≡ body_text ls ++ closing
 unfolding clauses_text
-or_text ls = append-nil (literals_text ls ++ closing)
+or_text ls = append-nil (body_text ls ++ closing)
 
 -- the places of literals
 abbrev pub at_place : List ℤ → ℕ → ℤ
@@ -146,8 +146,8 @@ unfolding negations
 triple_parts a b c = refl
 
 -- as they are written, and how long that is
-pub closed_long : (ls : List ℤ) → length (literals_text ls ++ closing) ≡ length (literals_text ls) + 2
-closed_long ls = length-append (literals_text ls) closing
+pub closed_long : (text : List ℕ) → length (text ++ closing) ≡ length text + 2
+closed_long text = length-append text closing
 
 pub pair_text : (a b : ℤ) → (literals_text (a ∷ b ∷ []) ++ closing) ++ (literals_text (neg_ℤ a ∷ neg_ℤ b ∷ []) ++ closing) ≡ clauses_text (plain_clause (XOR (a ∷ b ∷ [])))
 unfolding clauses_text negations
@@ -174,8 +174,8 @@ none_long : length (literals_text []) ≡ 0
 unfolding literals_text
 none_long = refl
 
-pub or_long : (ls : List ℤ) → length (clauses_text (OR ls ∷ [])) ≡ length (literals_text ls) + 2
-or_long ls = ap length (or_text ls) ∙ length-append (literals_text ls) closing
+pub or_long : (ls : List ℤ) → length (clauses_text (OR ls ∷ [])) ≡ length (body_text ls) + 2
+or_long ls = ap length (or_text ls) ∙ closed_long (body_text ls)
 
 pair_list : (a b : ℤ) → length (literals_text (a ∷ b ∷ [])) ≡ length (literal_text a) + length (literal_text b) + 2
 pair_list a b = omega (arith, literal_long a (b ∷ []), literal_long b [], none_long)
@@ -212,7 +212,7 @@ twice_few l h = omega (arith, literal_few max_variables l (omega arith) h, liter
 clause_few : (c : Clause) → ShortClause c → LiteralsWithin max_variables (clause_literals c)
     → (length (clauses_text (plain_clause c)) ≤ 16 * length (stored_clause c)) × (length (plain_clause c) ≤ length (stored_clause c))
 unfolding negations
-clause_few (OR ls) s w = (omega (arith, or_long ls, literals_few max_variables ls (omega arith) w), omega arith)
+clause_few (OR ls) s w = (omega (arith, or_long ls, body_few max_variables ls (omega arith) w), omega arith)
 clause_few (XOR []) s w = absurd s
 clause_few (XOR (a ∷ [])) s w = absurd s
 clause_few (XOR (a ∷ b ∷ [])) s w = (omega (arith, pair_long a b, twice_few a w.0.1, twice_few b w.1.0.1), omega arith)
@@ -253,5 +253,5 @@ module _ {ls : List ℤ} {size i : ℕ} (t : Closing ls size i) where
     pub closing_on : Closing ls (size + (r + 1)) (i + 1)
     closing_on = record { sum = omega (arith, closing_next, t.sum); bound = t.bound }
 
-  pub closing_done : length ls ≤ i → size ≡ length (literals_text ls ++ closing)
-  closing_done h = omega (arith, t.sum, ap length (literals_end ls i h), length-append (literals_text ls) closing)
+  pub closing_done : length ls ≤ i → (length ls ≡ 0 → ⊥) → size ≡ length (body_text ls ++ closing)
+  closing_done h e = omega (arith, t.sum, ap length (literals_end ls i h), ap length (body_some ls e), closed_long (body_text ls))

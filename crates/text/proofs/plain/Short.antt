@@ -7,14 +7,20 @@ use native.Mathlib.Omega.{arith}
 use lib.IntN.{ℤ}
 use lib.ListN.{length}
 use lib.Seq.{length-take-le}
+use Rattle.bits.specs.Digits.{lines_in}
+use Rattle.bits.proofs.Bools.{either}
 use Rattle.bits.proofs.Lists.{all_append, all_implies}
 use Rattle.circuit.specs.declared.gate.Gate.{Gate}
+use Rattle.circuit.specs.declared.header.Header.{Header}
+use Rattle.circuit.specs.Header.{marked}
 use Rattle.circuit.specs.Gate.{controls_of, max_lines, max_miter_gates}
 use Rattle.circuit.specs.Words.{all_valid}
 use Rattle.checking.specs.declared.clauses.Totals.{Totals}
 use Rattle.checking.specs.Clauses.{Clause, XOR, plus, minus, input_of, moved, used_by, literal_of, implied, gate_clauses, gates_clauses, used_after, current_after, targeted, up_from, difference_clause, difference_clauses, clauses_of, variables_of, max_variables}
+use Rattle.checking.specs.Miter.{miter_gates}
+use Rattle.checking.specs.Pair.{constant_clause, constant_clauses, counted_lines, either_targets, used_after_both, pair_clauses}
 use Rattle.checking.specs.Satisfaction.{LiteralWithin, clause_literals, ClausesWithin}
-use Rattle.checking.proofs.Promises.{clause_laws, clauses_none, clauses_next, differences_none, differences_next, list_parts}
+use Rattle.checking.proofs.Promises.{clause_laws, clauses_none, clauses_next, differences_none, differences_next, list_parts, marked_parts, unmarked_clauses}
 use Rattle.text.specs.Compare.{max_list}
 use Rattle.text.specs.Formula.{Formula}
 use Rattle.text.specs.private.Lists.{ListStands}
@@ -59,9 +65,25 @@ list_short n gs =
     (all_append ShortClause (difference_clauses (targeted gs) input_of (current_after n input_of gs) (used_after n gs) (up_from 0 n)) _
     (lines_short (targeted gs) input_of (current_after n input_of gs) (used_after n gs) (up_from 0 n)) (tt, tt)))
 
+constants_short : (h : Header) (lines : List ℕ) → AllShort (map (constant_clause h) lines)
+constants_short h [] = tt
+constants_short h (line ∷ lines) = (tt, constants_short h lines)
+
+pub pair_short : (h : Header) (a b : List Gate) → AllShort (pair_clauses h a b)
+pair_short h a b =
+    either (marked h)
+    (λ t.
+    subst AllShort (sym (marked_parts h a b t))
+    (all_append ShortClause (constant_clauses h) _ (constants_short h (lines_in h.constants h.lines))
+    (all_append ShortClause (gates_clauses h.lines input_of a) _ (gates_short h.lines input_of a)
+    (all_append ShortClause (gates_clauses (used_after h.lines a) input_of b) _ (gates_short (used_after h.lines a) input_of b)
+    (all_append ShortClause (difference_clauses (either_targets a b) (current_after h.lines input_of a) (current_after (used_after h.lines a) input_of b) (used_after_both h a b) (counted_lines h)) _
+    (lines_short (either_targets a b) (current_after h.lines input_of a) (current_after (used_after h.lines a) input_of b) (used_after_both h a b) (counted_lines h)) (tt, tt))))))
+    (λ t. subst AllShort (sym (unmarked_clauses h a b t)) (list_short h.lines (miter_gates a b)))
+
 -- ---- and few variables
 
-within_more : (m k : ℕ) (cs : List Clause) → m ≤ k → ClausesWithin m cs → ClausesWithin k cs
+pub within_more : (m k : ℕ) (cs : List Clause) → m ≤ k → ClausesWithin m cs → ClausesWithin k cs
 within_more m k cs h =
     all_implies _ _ (λ c. all_implies (LiteralWithin m) (LiteralWithin k) (λ l w. (w.0, omega (arith, w.1))) (clause_literals c)) cs
 

@@ -13,7 +13,7 @@ of_state None = none
 
 -- the lines that were answered are few
 abbrev pub CheckedReady : Result Outputs FileRefusal → Type 0
-CheckedReady (Ok outputs) = outputs.lines ≤ max_lines
+CheckedReady (Ok outputs) = outputs.header.lines ≤ max_lines
 CheckedReady (Err r) = Unit {0}
 
 pub record SaysChecked (r : Result Outputs FileRefusal) (c : FileOutcome Outputs) : Type 0 where

@@ -1,14 +1,17 @@
 -- For the contracts of the functions that compare two files: what their answers and the lent rooms say.
-use Rattle.std.specs.Prelude.{◌≡◌, List, ℕ, ◌*◌, ◌≤◌, ℤ, length, take, Result, Ok, Err}
+use Rattle.std.specs.Prelude.{◌≡◌, List, ℕ, ◌*◌, ◌≤◌, ℤ, length, take, nat_le, Result, Ok, Err}
 use Rattle.circuit.specs.declared.gate.Gate.{Gate}
 use Rattle.circuit.specs.Gate.{max_miter_gates}
+use Rattle.circuit.specs.Outcome.{Outcome}
+use Rattle.circuit.specs.Refusal.{no_room}
 use Rattle.circuit.specs.Words.{gates_of, Cascade}
+use Rattle.checking.specs.declared.clauses.Totals.{Totals}
 use Rattle.text.specs.declared.comparison.Compared.{Compared}
 use Rattle.text.specs.declared.comparison.Compared.TheVariants.{Reduction, Sweep, Differ, Clauses}
 use Rattle.text.specs.declared.refused.FileRefusal.{FileRefusal}
 use Rattle.text.specs.private.Words.{stored_in, StoresList}
-use Rattle.text.specs.FileOutcome.{FileOutcome, answered, answer_of, map_answer}
-use Rattle.text.specs.Compare.{Comparison, reduced, swept, differ_on, unsolved}
+use Rattle.text.specs.FileOutcome.{FileOutcome, answered, of_both, of_file, answer_of, map_answer}
+use Rattle.text.specs.Compare.{max_list, Comparison, reduced, swept, differ_on, unsolved}
 
 -- ---- the comparison
 
@@ -26,6 +29,10 @@ pub record MiterCascade (n : ℕ) (ws : List ℕ) : Type 0 where
 pub record LeftIn (n k : ℕ) (room : List ℕ) (gs : List Gate) : Type 0 where
   pub words : MiterWords n k room
   pub gates_are : gates_of (take (3 * k) room) ≡ gs
+
+-- what is answered to an emission: 10 for more words than a clause list may have
+abbrev pub listed_as : Outcome Totals → FileOutcome Compared
+listed_as o = of_file 0 o (λ t. of_both (nat_le t.words max_list) no_room (answered (Clauses t)))
 
 abbrev pub compared_as : Compared → List ℤ → Comparison
 compared_as Reduction clauses = reduced

@@ -9,10 +9,10 @@ use Rattle.text.specs.Compare.{CascadePair, cascades}
 
 -- a cascade that took so many bytes
 abbrev pub whole_of : ℕ → CascadeRead → Reading
-whole_of taken c = record { lines = c.lines; gates = gates_of c.words.now; taken = taken }
+whole_of taken c = record { header = c.header; gates = gates_of c.words.now; taken = taken }
 
 abbrev pub reading_of : StartRead → Reading
 reading_of s = whole_of s.taken s.cascade
 
 abbrev pub pair_of : PairRead → CascadePair
-pair_of p = cascades p.first.lines (gates_of p.first.words.now) (gates_of p.second.words.now)
+pair_of p = cascades p.first.header (gates_of p.first.words.now) (gates_of p.second.words.now)

@@ -1,7 +1,8 @@
 -- For the contracts of the functions that fill the clause buffer.
 use Rattle.std.specs.Prelude.{◌≡◌, List, ℕ, ◌≤◌, ℤ, length, take, Result, Ok, Err}
 use Rattle.circuit.specs.Gate.{max_gates}
-use Rattle.circuit.specs.Words.{Cascade}
+use Rattle.circuit.specs.declared.header.Header.{Header}
+use Rattle.circuit.specs.Words.{Headed}
 use Rattle.checking.specs.declared.clauses.Totals.{Totals}
 use Rattle.checking.specs.Clauses.{max_variables}
 use Rattle.checking.specs.Satisfaction.{ClausesWithin}
@@ -12,10 +13,10 @@ use Rattle.text.specs.Formula.{Formula}
 use Rattle.text.specs.FileOutcome.{FileOutcome, answered, refused_at, file_number}
 use Rattle.text.specs.private.Words.{AllShort}
 
--- the words of a cascade on n lines that a file can hold
-pub record FileWords (n : ℕ) (ws : List ℕ) : Type 0 where
+-- the words of a cascade with the header h that a file can hold
+pub record FileWords (h : Header) (ws : List ℕ) : Type 0 where
   pub count : ℕ
-  pub cascade : Cascade n ws max_gates count
+  pub cascade : Headed h ws max_gates count
 
 -- the totals are those of a formula, whose clauses are stored at the start of the buffer and can be written as OR clauses alone
 pub record ListStands (t : Totals) (buffer : List ℤ) (f : Formula) : Type 0 where

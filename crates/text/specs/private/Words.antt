@@ -5,7 +5,7 @@ use Rattle.checking.specs.Clauses.{Clause, OR, XOR, max_variables}
 use Rattle.checking.specs.Stored.{stored, ReadBack, clauses_read, bad_record, clauses_in}
 use Rattle.checking.specs.Satisfaction.{LiteralsWithin, ClausesWithin}
 use Rattle.text.specs.declared.plain.PlainSizes.{PlainSizes}
-use Rattle.text.specs.Dimacs.{xor_sign, literals_text, closing, clauses_text}
+use Rattle.text.specs.Dimacs.{xor_sign, body_text, closing, clauses_text}
 use Rattle.text.specs.Plain.{plain_clause, plain_clauses}
 use Rattle.text.specs.Compare.{max_list}
 
@@ -18,7 +18,7 @@ kind_text (negsuc i) = []
 
 -- a clause by its kind word and its literals
 abbrev pub record_text : ℤ → List ℤ → List ℕ
-record_text kind ls = kind_text kind ++ (literals_text ls ++ closing)
+record_text kind ls = kind_text kind ++ (body_text ls ++ closing)
 
 -- the clauses that words store, in a list
 abbrev pub read_clauses : ReadBack → List Clause

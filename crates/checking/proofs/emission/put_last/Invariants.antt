@@ -5,4 +5,4 @@ use Rattle.checking.proofs.lemmas.emission.Lines.{or_front}
 use Rattle.checking.proofs.emission.put_last.Given as goal
 
 abbrev pub invariant-loop-k : goal.invariant-loop-k
-invariant-loop-k l = l.out ≡ over (or_front l.n l.used l.k) l.fn.out
+invariant-loop-k l = l.out ≡ over (or_front l.count l.used l.k) l.fn.out

@@ -10,7 +10,7 @@ use Rattle.checking.proofs.faults.fault_masks.Goals as goal
 use Rattle.checking.proofs.faults.fault_masks.Goals.{In_ok-gates}
 
 -- the suspect is a cascade
-suspect : (c : In_ok-gates) → Cascade c.args.na c.args.suspect.now max_gates c.in_ok-gates.gates
+suspect : (c : In_ok-gates) → Cascade c.args.ha.lines c.args.suspect.now max_gates c.in_ok-gates.gates
 suspect c = fault_suspect _ _ _ _ _ _ (sym c.in_ok-gates.ensures)
 
 pub overflow_mul-gates : goal.overflow_mul-gates
@@ -24,7 +24,7 @@ start_masks-requires c =
 pub invariant_of-narrow_all : goal.invariant_of-narrow_all
 invariant_of-narrow_all c =
     let k = suspect (goal.at.invariant_of-narrow_all c).In_ok-gates in
-    record { tested = valid_all_more c.args.na max_lines (gates_of c.args.suspect.now) k.lines_high k.gates }
+    record { tested = valid_all_more c.args.ha.lines max_lines (gates_of c.args.suspect.now) k.lines_high k.gates }
 
 pub narrow_all-requires : goal.narrow_all-requires
 narrow_all-requires c = omega (arith, (suspect (goal.at.narrow_all-requires c).In_ok-gates).size, c.start_masks.auto.out)
@@ -34,4 +34,4 @@ returns c =
     fault_told _ _ _ _ _ _ _ (served c.in_ok-gates.gates) _ refl (fault_made _ _ _ _ _ _ _ (sym c.in_ok-gates.ensures) c.if-out-gates.false)
     (c.narrow_all.ensures
     ∙ ap (narrowed_by (gates_of c.args.suspect.now) c.args.states.now) c.start_masks.ensures
-    ∙ all_narrowed c.args.na (gates_of c.args.suspect.now) c.args.states.now c.args.out.now (suspect (goal.at.returns c).In_ok-gates).lines_high)
+    ∙ all_narrowed c.args.ha.lines (gates_of c.args.suspect.now) c.args.states.now c.args.out.now (suspect (goal.at.returns c).In_ok-gates).lines_high)

@@ -15,7 +15,8 @@ use Rattle.checking.specs.declared.check.Call.{Call}
 use Rattle.checking.specs.Check.{held_words, held, checked_outcome, work_left, clauses_left, Checks}
 use Rattle.checking.proofs.lemmas.miter.Laws.{miter_laws}
 use Rattle.checking.proofs.lemmas.clauses.Answers.{emit_laws}
-use Rattle.checking.proofs.lemmas.Equality.{served_same, equality}
+use Rattle.checking.proofs.lemmas.Listed.{served_same}
+use Rattle.checking.proofs.lemmas.Equality.{equality}
 use Rattle.checking.proofs.lemmas.check.Laws.{calls_leave}
 
 module _ (na : ℕ) (a b : List ℕ) (calls : List Call) (room : List ℕ) (k : ℕ) (made : miter_outcome na a na b (length room) ≡ served k) where

@@ -1,14 +1,18 @@
 -- What sizes and emission answer, and what emission leaves. Assumes nothing.
-use Rattle.std.proofs.Common.{◌≡◌, ℕ, ◌<◌, ◌≤◌, leb, ◌↔◌, List, length, ℤ, sym, refl, ap, ◌∙◌, arith, le-leb, leb-true}
+use Rattle.std.proofs.Common.{◌≡◌, ℕ, ◌<◌, ◌≤◌, leb, ◌↔◌, List, [], length, ℤ, sym, refl, ap, ◌∙◌, append-nil, arith, le-leb, leb-true, pow_pos}
 use borrow.Author.Tests.{lt-leb}
 use Rattle.bits.specs.Lists.{over}
+use Rattle.circuit.specs.declared.gate.Gate.{Gate}
 use Rattle.circuit.specs.Gate.{max_miter_gates}
+use Rattle.circuit.specs.Header.{unmarked}
 use Rattle.circuit.specs.Outcome.{Outcome, served, refused, demand, Untouched, Yields}
 use Rattle.circuit.specs.Refusal.{no_room}
-use Rattle.circuit.specs.Words.{gates_of, check_outcome, WordsRefused, Cascade}
-use Rattle.circuit.proofs.Promises.{told, written_served, written_refused, then_served, then_refused, then_both, demand_met, demand_failed, demanded, wrong_refused, fails_refused, same_refused, above, check_served, served_check, check_refused, refused_check}
+use Rattle.circuit.specs.Words.{gates_of, all_valid, check_outcome, WordsRefused, Cascade}
+use Rattle.circuit.proofs.Promises.{gates_end, valid_none, cascade_count, told, written_served, written_refused, then_served, then_refused, then_both, demand_met, demand_failed, demanded, wrong_refused, fails_refused, same_refused, above, check_served, served_check, check_refused, refused_check}
 use Rattle.checking.specs.declared.clauses.Totals.{Totals}
-use Rattle.checking.specs.Clauses.{clauses_of, variables_of}
+use Rattle.checking.specs.Clauses.{Clause, clauses_of, variables_of}
+use Rattle.checking.specs.Miter.{miter_gates}
+use Rattle.checking.specs.Pair.{pair_clauses}
 use Rattle.checking.specs.Stored.{stored}
 use Rattle.checking.specs.Sizes.{totals, sizes_of, sizes_outcome}
 use Rattle.checking.specs.Emit.{emit_outcome, emit_buffer}
@@ -86,6 +90,15 @@ pub emit_cascade : (n : ℕ) (ws : List ℕ) (k : ℕ) → Cascade n ws max_mite
 unfolding emit_outcome
 emit_cascade n ws k c room = then_served _ _ _ (counted_sizes n ws _ (record { gates = k; good = c; sizes = refl }))
 
+-- ---- the list of a cascade is that of a pair without marks whose second cascade has no gates
+
+pub no_gates : gates_of [] ≡ []
+no_gates = gates_end [] 0 (omega arith)
+
+pub alone_list : (n : ℕ) (gs : List Gate) → pair_clauses (unmarked n) gs (gates_of []) ≡ clauses_of n gs
+unfolding pair_clauses
+alone_list n gs = ap (λ (b : List Gate). clauses_of n (miter_gates gs b)) no_gates ∙ ap (clauses_of n) (append-nil gs)
+
 -- ---- what emission answers and leaves
 
 module _ (n : ℕ) (ws : List ℕ) (out : List ℤ) where
@@ -110,10 +123,17 @@ module _ (n : ℕ) (ws : List ℕ) (out : List ℤ) where
     emit_served last h l =
         told front out (served t) last (emit_outcome n ws (length out)) (served t) refl (then_served _ _ t sized ∙ demand_met _ no_room 0 (served t) (le-leb t.words (length out) h)) l
 
-    -- a cascade whose clauses fit
-    pub list_ready : t.words ≤ length out → ListReady n ws (length out)
+    -- a cascade whose clauses fit; none of a second one's gates come after its own
+    pub list_ready : t.words ≤ length out → ListReady (unmarked n) (gates_of ws) (gates_of []) (length out)
     list_ready h =
         let c = sizes_counted n ws t sized in
         let good = c.good in
         let words : t.words ≡ length front = ap (λ (x : Totals). x.words) c.sizes in
-        record { lines = good.lines_high; few = omega (arith, good.size, good.few); gates = good.gates; enough = omega arith }
+        record {
+          lines = good.lines_high;
+          constants = pow_pos n;
+          first = good.gates;
+          second = ap (all_valid n) no_gates ∙ valid_none n;
+          few = omega (arith, cascade_count n ws max_miter_gates c.gates good, good.few, ap length no_gates);
+          enough = omega (arith, ap (λ (cs : List Clause). length (stored cs)) (alone_list n (gates_of ws)));
+        }

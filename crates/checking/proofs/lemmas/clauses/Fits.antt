@@ -46,7 +46,7 @@ unfolding variables_of
 variables_counted n gs = omega (arith, used_counted n gs)
 
 -- no clause has more than m literals
-abbrev Short : ℕ → List Clause → Type 0
+abbrev pub Short : ℕ → List Clause → Type 0
 Short m cs = All (λ (c : Clause). length (clause_literals c) ≤ m) cs
 
 short_implied : (m p : ℕ) (ls : List ℤ) → 2 ≤ m → Short m (implied p ls)
@@ -64,7 +64,7 @@ short_gate m used v [] h = (omega arith, tt)
 short_gate m used v (c ∷ []) h = (omega arith, tt)
 short_gate m used v (c ∷ d ∷ ls) h = short_many m (suc used) (suc (suc used)) v (c ∷ d ∷ ls) h
 
-short_gates : (m used : ℕ) (current : ℕ → ℕ) (gs : List Gate) → max_lines + 3 ≤ m → Short m (gates_clauses used current gs)
+pub short_gates : (m used : ℕ) (current : ℕ → ℕ) (gs : List Gate) → max_lines + 3 ≤ m → Short m (gates_clauses used current gs)
 unfolding gates_clauses
 short_gates m used current [] h = tt
 short_gates m used current (g ∷ gs) h =
@@ -72,7 +72,7 @@ short_gates m used current (g ∷ gs) h =
     (short_gate m used (current g.target) (map (literal_of current) (controls_of g)) (omega (arith, length-map (controls_of g) (literal_of current), few_controls max_lines g)))
     (short_gates m (used_by used g) (moved used current g) gs h)
 
-short_differences : (m : ℕ) (hit : ℕ → Bool) (left right : ℕ → ℕ) (used : ℕ) (ks : List ℕ) → 3 ≤ m → Short m (difference_clauses hit left right used ks)
+pub short_differences : (m : ℕ) (hit : ℕ → Bool) (left right : ℕ → ℕ) (used : ℕ) (ks : List ℕ) → 3 ≤ m → Short m (difference_clauses hit left right used ks)
 unfolding difference_clauses
 short_differences m hit left right used [] h = tt
 short_differences m hit left right used (k ∷ ks) h = (one (hit k) (suc used) (left k) (right k) h, short_differences m hit left right (suc used) ks h)
@@ -81,13 +81,16 @@ short_differences m hit left right used (k ∷ ks) h = (one (hit k) (suc used) (
     one true d x y h = h
     one false d x y h = omega arith
 
+pub short_last : (m i n : ℕ) → n ≤ m → length (map plus (up_from i n)) ≤ m
+short_last m i n h = omega (arith, length-map (up_from i n) plus, length_up_from i n)
+
 pub counts_small : (n : ℕ) (gs : List Gate) → n ≤ max_lines → Short (max_lines + 3) (clauses_of n gs)
 unfolding clauses_of
 counts_small n gs few =
     all_append _ (gates_clauses n input_of gs) _ (short_gates (max_lines + 3) n input_of gs (omega arith))
     (all_append _ (difference_clauses (targeted gs) input_of (current_after n input_of gs) (used_after n gs) (up_from 0 n)) _
     (short_differences (max_lines + 3) (targeted gs) input_of (current_after n input_of gs) (used_after n gs) (up_from 0 n) (omega arith))
-    (omega (arith, length-map (up_from (suc (used_after n gs)) n) plus, length_up_from (suc (used_after n gs)) n), tt))
+    (short_last (max_lines + 3) (suc (used_after n gs)) n (omega arith), tt))
 
 size_fits : (l : ℤ) → variable_of l < word_limit → FitsWord l
 size_fits (pos v) h = h
@@ -97,7 +100,7 @@ literals_fit : (m : ℕ) (ls ws : List ℤ) → m < word_limit → LiteralsWithi
 literals_fit m [] ws h w f = f
 literals_fit m (l ∷ ls) ws h w f = (size_fits l (omega (arith, w.0.1)), literals_fit m ls ws h w.1 f)
 
-stored_fits : (m k : ℕ) (cs : List Clause) → m < word_limit → k < word_limit → ClausesWithin m cs → Short k cs → AllFit (stored cs)
+pub stored_fits : (m k : ℕ) (cs : List Clause) → m < word_limit → k < word_limit → ClausesWithin m cs → Short k cs → AllFit (stored cs)
 unfolding stored
 stored_fits m k [] h l a b = tt
 stored_fits m k (OR ls ∷ cs) h l a b = (omega arith, (omega (arith, b.0), literals_fit m ls (stored cs) h a.0 (stored_fits m k cs h l a.1 b.1)))

@@ -1,17 +1,18 @@
 -- An assignment satisfies the clause list exactly when it is the one that its own inputs force and the run changes them. Assumes nothing.
-use Rattle.std.proofs.Common.{◌≡◌, ℕ, zero, suc, ◌+◌, ◌^◌, ◌<◌, ◌≤◌, Bool, true, false, cond, not, ◌&&◌, ◌||◌, ◌↔◌, List, [], ◌∷◌, ◌++◌, map, length, take, sym, refl, ap, ◌∙◌, subst, ap₂, true≢false, append_assoc, arith, length-append, lt-ltb}
-use mathlib.Core.Bool.{xor, and_assoc, and-true, beq}
+use Rattle.std.proofs.Common.{◌≡◌, ℕ, zero, suc, ◌+◌, ◌^◌, ◌<◌, ◌≤◌, Bool, true, false, cond, not, ◌&&◌, ◌||◌, eqb, ◌↔◌, List, [], ◌∷◌, ◌++◌, map, length, take, sym, refl, ap, ◌∙◌, subst, ap₂, append_assoc, arith, length-append, lt-ltb, eqb-true}
+use borrow.Author.Tests.{eqb-false}
+use mathlib.Core.Bool.{xor, and_assoc, and-true, beq, false≢true}
 use lib.ListN.{length-map}
 use Rattle.bits.specs.Digits.{bit}
 use Rattle.bits.specs.Lists.{All}
-use Rattle.bits.proofs.Bools.{beq_self, and_parts, both, either, cond-true, cond-false, or_none, xor_false, xor_self, and_cong, table₁}
+use Rattle.bits.proofs.Bools.{beq_self, and_parts, both, either, cond-true, cond-false, or_none, or_second, refuted, xor_false, xor_same, xor_self, and_cong, table₁}
 use Rattle.bits.proofs.Digits.{bits_below}
 use Rattle.circuit.specs.declared.gate.Gate.{Gate}
 use Rattle.circuit.specs.Gate.{max_lines, apply, Control, controls_of}
 use Rattle.circuit.specs.Words.{all_valid}
 use Rattle.circuit.specs.Run.{run}
 use Rattle.circuit.proofs.Promises.{run_below}
-use Rattle.checking.specs.Clauses.{OR, plus, minus, input_of, new_variable, used_by, gates_clauses, used_after, current_after, targeted, up_from, difference_clause, difference_clauses, clauses_of, variables_of}
+use Rattle.checking.specs.Clauses.{Clause, OR, plus, minus, input_of, new_variable, used_by, gates_clauses, used_after, current_after, targeted, up_from, difference_clause, difference_clauses, clauses_of, variables_of}
 use Rattle.checking.specs.Satisfaction.{variable, holds, satisfies, spelled}
 use Rattle.checking.specs.Faults.{mask_where}
 use Rattle.checking.specs.Forced.{gate_values, gates_values, differences, traced, forced}
@@ -42,10 +43,33 @@ reads_inputs n σ = record { named = λ k h. omega arith; read = λ k h. sym (sp
 abbrev pub Below : ℕ → List ℕ → Type 0
 Below n ks = All (λ (k : ℕ). k < n) ks
 
+-- a property of all of them is one of each
+module _ (P : ℕ → Type 0) where
+  pub all_up_from : (i m : ℕ) → ((k : ℕ) → i ≤ k → k < i + m → P k) → All P (up_from i m)
+  unfolding up_from
+  all_up_from i zero f = tt
+  all_up_from i (suc m) f = (f i (omega arith) (omega arith), all_up_from (suc i) m (λ k l h. f k (omega arith) (omega arith)))
+
+  pub up_from_all : (i m : ℕ) → All P (up_from i m) → (k : ℕ) → i ≤ k → k < i + m → P k
+  unfolding up_from
+  up_from_all i zero a k l h = absurd (omega arith)
+  up_from_all i (suc m) a k l h =
+      either (eqb i k)
+      (λ t. subst P (eqb-true i k t) a.0)
+      (λ t. let ne : i ≡ k → ⊥ = eqb-false i k t in up_from_all (suc i) m a.1 k (omega arith) (omega arith))
+
 pub below_up_from : (n i m : ℕ) → i + m ≤ n → Below n (up_from i m)
+below_up_from n i m h = all_up_from (λ (k : ℕ). k < n) i m (λ k l b. omega arith)
+
+-- the last clause: some d is true
+abbrev pub some_of : List Bool → Bool
+some_of [] = false
+some_of (v ∷ vs) = v || some_of vs
+
+last_law : (σ : List Bool) (used : ℕ) (vs : List Bool) → agree σ used vs ≡ true → some_true σ (map plus (up_from (suc used) (length vs))) ≡ some_of vs
 unfolding up_from
-below_up_from n i zero h = tt
-below_up_from n i (suc m) h = (omega arith, below_up_from n (suc i) m (omega arith))
+last_law σ used [] h = refl
+last_law σ used (v ∷ vs) h = ap₂ ◌||◌ (agree_head σ used v vs h) (last_law σ (suc used) vs (agree_tail σ used v vs h))
 
 -- where the states differ only on the lines that are hit, the clauses hold exactly when each d tells whether they do
 module _ (n : ℕ) (σ : List Bool) (hit : ℕ → Bool) (left right : ℕ → ℕ) (s r : ℕ) (before : Reads n σ left s) (after : Reads n σ right r)
@@ -67,20 +91,24 @@ module _ (n : ℕ) (σ : List Bool) (hit : ℕ → Bool) (left right : ℕ → �
       off : (a : Bool) → (not a || false) ≡ beq a false
       off = table₁ _ _ refl
 
-  pub differences_law : (used : ℕ) (ks : List ℕ) → Below n ks → satisfies σ (difference_clauses hit left right used ks) ≡ agree σ used (differences s r ks)
+  differences_law : (used : ℕ) (ks : List ℕ) → Below n ks → satisfies σ (difference_clauses hit left right used ks) ≡ agree σ used (differences s r ks)
   unfolding difference_clauses satisfies
   differences_law used [] h = refl
   differences_law used (k ∷ ks) h = ap₂ ◌&&◌ (difference_law used k h.0) (differences_law (suc used) ks h.1)
 
--- the last clause: some d is true
-abbrev pub some_of : List Bool → Bool
-some_of [] = false
-some_of (v ∷ vs) = v || some_of vs
-
-last_law : (σ : List Bool) (used : ℕ) (vs : List Bool) → agree σ used vs ≡ true → some_true σ (map plus (up_from (suc used) (length vs))) ≡ some_of vs
-unfolding up_from
-last_law σ used [] h = refl
-last_law σ used (v ∷ vs) h = ap₂ ◌||◌ (agree_head σ used v vs h) (last_law σ (suc used) vs (agree_tail σ used v vs h))
+  -- and besides the OR of these d exactly when the states differ on one of the lines
+  pub lines_law : (used : ℕ) (ks : List ℕ) → Below n ks
+      → satisfies σ (difference_clauses hit left right used ks ++ (OR (map plus (up_from (suc used) (length ks))) ∷ []))
+      ≡ (agree σ used (differences s r ks) && some_of (differences s r ks))
+  unfolding satisfies
+  lines_law used ks w =
+      satisfies_append σ (difference_clauses hit left right used ks) _
+      ∙ and_cong _ (agree σ used (differences s r ks)) _ (some_of (differences s r ks)) (differences_law used ks w)
+      (λ h.
+      and-true (holds σ (OR (map plus (up_from (suc used) (length ks)))))
+      ∙ holds_or σ (map plus (up_from (suc used) (length ks)))
+      ∙ ap (λ (m : ℕ). some_true σ (map plus (up_from (suc used) m))) (sym (length-map ks _))
+      ∙ last_law σ used (differences s r ks) h)
 
 -- ---- what follows other values
 
@@ -96,6 +124,17 @@ agree_gates σ used s (g ∷ gs) vs =
     ∙ ap (λ (b : Bool). agree σ used here && b) (agree_gates σ (used_by used g) (apply g s) gs vs)
     ∙ sym (and_assoc (agree σ used here) (agree σ (used_by used g) rest) (agree σ (used_after (used_by used g) gs) vs))
     ∙ ap (λ (b : Bool). b && agree σ (used_after (used_by used g) gs) vs) (sym (agree_gate σ used s g.target (controls_of g) rest))
+
+-- the clauses of gates, and then others, which say d where the gates' variables have the forced values
+pub gates_then : (n : ℕ) (σ : List Bool) (used : ℕ) (current : ℕ → ℕ) (s : ℕ) (gs : List Gate) (cs : List Clause) (vs : List Bool) (d : Bool)
+    → n ≤ max_lines → all_valid n gs ≡ true → Reads n σ current s
+    → (agree σ used (gates_values s gs) ≡ true → satisfies σ cs ≡ (agree σ (used_after used gs) vs && d))
+    → satisfies σ (gates_clauses used current gs ++ cs) ≡ (agree σ used (gates_values s gs ++ vs) && d)
+gates_then n σ used current s gs cs vs d few v reads later =
+    satisfies_append σ (gates_clauses used current gs) cs
+    ∙ and_cong _ (agree σ used (gates_values s gs)) _ (agree σ (used_after used gs) vs && d) (gates_law n σ used current s gs few v reads) later
+    ∙ sym (and_assoc (agree σ used (gates_values s gs)) (agree σ (used_after used gs) vs) d)
+    ∙ ap (λ (b : Bool). b && d) (sym (agree_gates σ used s gs vs))
 
 -- agree, as an equation of lists
 agree_suc : (x : Bool) (σ : List Bool) (i : ℕ) (vs : List Bool) → agree (x ∷ σ) (suc i) vs ≡ agree σ i vs
@@ -133,7 +172,7 @@ length_gate used s t [] = omega arith
 length_gate used s t (c ∷ []) = omega arith
 length_gate used s t (c ∷ d ∷ cs) = omega arith
 
-length_gates : (used s : ℕ) (gs : List Gate) → used + length (gates_values s gs) ≡ used_after used gs
+pub length_gates : (used s : ℕ) (gs : List Gate) → used + length (gates_values s gs) ≡ used_after used gs
 unfolding gates_values used_after
 length_gates used s [] = omega arith
 length_gates used s (g ∷ gs) =
@@ -152,15 +191,6 @@ length_inputs n s = length-map (up_from 0 n) (bit s) ∙ length_up_from 0 n
 
 length_differences : (n s r : ℕ) → length (differences s r (up_from 0 n)) ≡ n
 length_differences n s r = length-map (up_from 0 n) _ ∙ length_up_from 0 n
-
-pub length_traced : (n s : ℕ) (gs : List Gate) → length (traced n s gs) ≡ used_after n gs
-unfolding traced
-length_traced n s gs = omega (arith, length-append (map (bit s) (up_from 0 n)) (gates_values s gs), length_inputs n s, length_gates n s gs)
-
-pub length_forced : (n s : ℕ) (gs : List Gate) → length (forced n s gs) ≡ variables_of n gs
-unfolding forced variables_of
-length_forced n s gs =
-    omega (arith, length-append (traced n s gs) (differences s (run gs s) (up_from 0 n)), length_traced n s gs, length_differences n s (run gs s))
 
 -- ---- the first variables are the digits of the state that they spell
 
@@ -191,96 +221,114 @@ spelled_digits n x rest h =
     bits_below n (spelled n σ) x (spelled_below n σ) h
     (λ k l. let e : 0 + k ≡ k = omega arith in spelled_line n σ k l ∙ digits_at x rest n 0 k l ∙ ap (bit x) e)
 
--- ---- a state that the run changes differs from its output on some line
+-- ---- two states differ on one of the lines, or are the same on all of them
 
-some_self : (s : ℕ) (ks : List ℕ) → some_of (differences s s ks) ≡ false
-some_self s [] = refl
-some_self s (k ∷ ks) = ap₂ ◌||◌ (xor_self (bit s k)) (some_self s ks)
+pub some_line : (P : ℕ → Type 0) (s r : ℕ) (ks : List ℕ) → All P ks → some_of (differences s r ks) ≡ true → (k : ℕ) × P k × (bit s k ≡ bit r k → ⊥)
+some_line P s r [] w e = absurd (false≢true e)
+some_line P s r (k ∷ ks) w e =
+    either (xor (bit s k) (bit r k))
+    (λ t. (k, w.0, (λ q. refuted (xor_same (bit s k) (bit r k) q) t)))
+    (λ t. some_line P s r ks w.1 (or_second (xor (bit s k) (bit r k)) (some_of (differences s r ks)) e t))
 
-none_same : (s r i m : ℕ) → some_of (differences s r (up_from i m)) ≡ false → (k : ℕ) → k < m → bit s (i + k) ≡ bit r (i + k)
-unfolding up_from
-none_same s r i zero e k h = absurd (omega arith)
-none_same s r i (suc m) e zero h =
-    let z : i ≡ i + 0 = omega arith in
-    subst (λ (j : ℕ). bit s j ≡ bit r j) z (xor_false (bit s i) (bit r i) (or_none (xor (bit s i) (bit r i)) (some_of (differences s r (up_from (suc i) m))) e).0)
-none_same s r i (suc m) e (suc k) h =
-    let z : suc i + k ≡ i + suc k = omega arith in
-    subst (λ (j : ℕ). bit s j ≡ bit r j) z
-    (none_same s r (suc i) m (or_none (xor (bit s i) (bit r i)) (some_of (differences s r (up_from (suc i) m))) e).1 k (omega arith))
+pub none_lines : (s r : ℕ) (ks : List ℕ) → some_of (differences s r ks) ≡ false → All (λ (k : ℕ). bit s k ≡ bit r k) ks
+none_lines s r [] e = tt
+none_lines s r (k ∷ ks) e =
+    let (p, q) = or_none (xor (bit s k) (bit r k)) (some_of (differences s r ks)) e in (xor_false (bit s k) (bit r k) p, none_lines s r ks q)
 
 changed : (n s r : ℕ) → s < 2 ^ n → r < 2 ^ n → some_of (differences s r (up_from 0 n)) ≡ true ↔ (r ≡ s → ⊥)
 changed n s r hs hr = (
-  (λ h e. true≢false (sym h ∙ ap (λ (x : ℕ). some_of (differences s x (up_from 0 n))) e ∙ some_self s (up_from 0 n))),
+  (λ h e. let (k, w, ne) = some_line (λ (k : ℕ). k < n) s r (up_from 0 n) (below_up_from n 0 n (omega arith)) h in ne (ap (λ (x : ℕ). bit x k) (sym e))),
   (λ ne.
       either (some_of (differences s r (up_from 0 n))) (λ t. t)
-      (λ f.
-      absurd (ne (sym (bits_below n s r hs hr (λ k l. subst (λ (j : ℕ). bit s j ≡ bit r j) (native.Mathlib.Nat.zero-add k) (none_same s r 0 n f k l))))))),
+      (λ f. absurd (ne (sym (bits_below n s r hs hr (λ k l. up_from_all (λ (j : ℕ). bit s j ≡ bit r j) 0 n (none_lines s r (up_from 0 n) f) k (omega arith) (omega arith))))))),
 )
 
--- ---- the laws of the list
+-- ---- the laws of a list whose inputs, if it is satisfied, force the values of the other variables
 
-module _ (n : ℕ) (gs : List Gate) (few : n ≤ max_lines) (v : all_valid n gs ≡ true) (σ : List Bool) where
-  abbrev state : ℕ
-  state = spelled n σ
+-- the assignment of an input and of the values of the variables from n + 1 on
+abbrev pub assigned : ℕ → ℕ → List Bool → List Bool
+assigned n x vs = map (bit x) (up_from 0 n) ++ vs
 
-  abbrev changes : List Bool
-  changes = differences state (run gs state) (up_from 0 n)
+-- an assignment satisfies the clauses exactly when D holds of the input that it spells, and its other variables have the values that this input forces
+pub record Forces (n variables : ℕ) (cs : List Clause) (values : ℕ → List Bool) (D : ℕ → Type 0) : Type 0 where
+  pub count : (x : ℕ) → n + length (values x) ≡ variables
+  pub law : (σ : List Bool) → (satisfies σ cs ≡ true) ↔ ((agree σ n (values (spelled n σ)) ≡ true) × D (spelled n σ))
 
-  gates_part_lem : satisfies σ (gates_clauses n input_of gs) ≡ agree σ n (gates_values state gs)
-  gates_part_lem = gates_law n σ n input_of state gs few v (reads_inputs n σ)
+-- an assignment that has these values is that of its own input and of them
+whole : (n : ℕ) (σ vs : List Bool) → length σ ≡ n + length vs → (agree σ n vs ≡ true) ↔ (σ ≡ assigned n (spelled n σ) vs)
+whole n σ vs e = (
+  (λ h. agree_is σ n vs e h ∙ ap (λ (l : List Bool). l ++ vs) (front n σ (omega arith))),
+  (λ h. agree_if σ (map (bit (spelled n σ)) (up_from 0 n)) vs n (length_inputs n (spelled n σ)) h),
+)
 
-  differences_part : agree σ n (gates_values state gs) ≡ true
-      → satisfies σ (difference_clauses (targeted gs) input_of (current_after n input_of gs) (used_after n gs) (up_from 0 n)) ≡ agree σ (used_after n gs) changes
-  differences_part h =
-      differences_law n σ (targeted gs) input_of (current_after n input_of gs) state (run gs state) (reads_inputs n σ)
-      (after_reads n σ n input_of state gs few v (reads_inputs n σ) h)
-      (λ k l e. untouched n gs state k few v e)
-      (used_after n gs) (up_from 0 n) (below_up_from n 0 n (omega arith))
+module _ (n variables : ℕ) (cs : List Clause) (values : ℕ → List Bool) (D : ℕ → Type 0) (forces : Forces n variables cs values D) where
+  pub assigned_length : (x : ℕ) → length (assigned n x (values x)) ≡ variables
+  assigned_length x = length-append (map (bit x) (up_from 0 n)) (values x) ∙ omega (arith, length_inputs n x, forces.count x)
 
-  last_part_lem : agree σ (used_after n gs) changes ≡ true → satisfies σ (OR (map plus (up_from (suc (used_after n gs)) n)) ∷ []) ≡ some_of changes
-  unfolding satisfies
-  last_part_lem h =
-      and-true (holds σ (OR (map plus (up_from (suc (used_after n gs)) n))))
-      ∙ holds_or σ (map plus (up_from (suc (used_after n gs)) n))
-      ∙ ap (λ (m : ℕ). some_true σ (map plus (up_from (suc (used_after n gs)) m))) (sym (length_differences n state (run gs state)))
-      ∙ last_law σ (used_after n gs) changes h
+  pub is_assigned : (σ : List Bool) → length σ ≡ variables → (satisfies σ cs ≡ true) ↔ ((σ ≡ assigned n (spelled n σ) (values (spelled n σ))) × D (spelled n σ))
+  is_assigned σ e =
+      let w = whole n σ (values (spelled n σ)) (e ∙ sym (forces.count (spelled n σ))) in (
+        (λ h. let (p, q) = (forces.law σ).0 h in (w.0 p, q)),
+        (λ h. (forces.law σ).1 (w.1 h.0, h.1)),
+      )
 
-  clauses_law : satisfies σ (clauses_of n gs) ≡ (agree σ n (gates_values state gs ++ changes) && some_of changes)
+-- ---- of the list
+
+module _ (n : ℕ) (gs : List Gate) (few : n ≤ max_lines) (v : all_valid n gs ≡ true) where
+  abbrev changes : ℕ → List Bool
+  changes x = differences x (run gs x) (up_from 0 n)
+
+  -- the gates' clauses alone
+  gates_force : Forces n (used_after n gs) (gates_clauses n input_of gs) (λ (x : ℕ). gates_values x gs) (λ (x : ℕ). Unit {0})
+  gates_force =
+      record {
+        count = λ x. length_gates n x gs;
+        law = λ σ.
+            let g = gates_law n σ n input_of (spelled n σ) gs few v (reads_inputs n σ) in (
+              (λ h. (sym g ∙ h, tt)),
+              (λ h. g ∙ h.0),
+            );
+      }
+
+  clauses_law : (σ : List Bool)
+      → satisfies σ (clauses_of n gs) ≡ (agree σ n (gates_values (spelled n σ) gs ++ changes (spelled n σ)) && some_of (changes (spelled n σ)))
   unfolding clauses_of
-  clauses_law =
-      satisfies_append σ (gates_clauses n input_of gs) _
-      ∙ and_cong _ (agree σ n (gates_values state gs)) _ (agree σ (used_after n gs) changes && some_of changes) gates_part_lem
+  clauses_law σ =
+      let x = spelled n σ in
+      let inputs = reads_inputs n σ in
+      let last = current_after n input_of gs in
+      gates_then n σ n input_of x gs _ (changes x) (some_of (changes x)) few v inputs
       (λ h.
-      satisfies_append σ (difference_clauses (targeted gs) input_of (current_after n input_of gs) (used_after n gs) (up_from 0 n)) _
-      ∙ and_cong _ (agree σ (used_after n gs) changes) _ (some_of changes) (differences_part h) last_part_lem)
-      ∙ sym (and_assoc (agree σ n (gates_values state gs)) (agree σ (used_after n gs) changes) (some_of changes))
-      ∙ ap (λ (b : Bool). b && some_of changes) (sym (agree_gates σ n state gs changes))
+      ap
+      (λ (m : ℕ). satisfies σ (difference_clauses (targeted gs) input_of last (used_after n gs) (up_from 0 n) ++ (OR (map plus (up_from (suc (used_after n gs)) m)) ∷ [])))
+      (sym (length_up_from 0 n))
+      ∙ lines_law n σ (targeted gs) input_of last x (run gs x) inputs (after_reads n σ n input_of x gs few v inputs h) (λ k l e. untouched n gs x k few v e)
+      (used_after n gs) (up_from 0 n) (below_up_from n 0 n (omega arith)))
 
-  -- an assignment that agrees from variable n + 1 on is its first n values and these
-  whole : (vs : List Bool) → length σ ≡ n + length vs → (agree σ n vs ≡ true) ↔ (σ ≡ map (bit state) (up_from 0 n) ++ vs)
-  whole vs e = (
-    (λ h. agree_is σ n vs e h ∙ ap (λ (l : List Bool). l ++ vs) (front n σ (omega arith))),
-    (λ h. agree_if σ (map (bit state) (up_from 0 n)) vs n (length_inputs n state) h),
-  )
+  pub list_forces : Forces n (variables_of n gs) (clauses_of n gs) (λ (x : ℕ). gates_values x gs ++ changes x) (λ (x : ℕ). run gs x ≡ x → ⊥)
+  unfolding variables_of
+  list_forces =
+      record {
+        count = λ x. omega (arith, length-append (gates_values x gs) (changes x), length_gates n x gs, length_differences n x (run gs x));
+        law = λ σ.
+            let x = spelled n σ in
+            let c = changed n x (run gs x) (spelled_below n σ) (run_below n gs v x (spelled_below n σ)) in (
+              (λ h. let (p, q) = and_parts (agree σ n (gates_values x gs ++ changes x)) (some_of (changes x)) (sym (clauses_law σ) ∙ h) in (p, c.0 q)),
+              (λ h. clauses_law σ ∙ both h.0 (c.1 h.1)),
+            );
+      }
 
-  pub gates_forced : length σ ≡ used_after n gs → (satisfies σ (gates_clauses n input_of gs) ≡ true) ↔ (σ ≡ traced n state gs)
-  unfolding traced
-  gates_forced e =
-      let w = whole (gates_values state gs) (omega (arith, length_gates n state gs)) in (
-        (λ h. w.0 (sym gates_part_lem ∙ h)),
-        (λ h. gates_part_lem ∙ w.1 h),
-      )
+  module _ (σ : List Bool) where
+    pub gates_forced : length σ ≡ used_after n gs → (satisfies σ (gates_clauses n input_of gs) ≡ true) ↔ (σ ≡ traced n (spelled n σ) gs)
+    unfolding traced
+    gates_forced e = let f = is_assigned n _ _ _ _ gates_force σ e in ((λ h. (f.0 h).0), (λ h. f.1 (h, tt)))
 
-  pub list_forced : length σ ≡ variables_of n gs → (satisfies σ (clauses_of n gs) ≡ true) ↔ ((σ ≡ forced n state gs) × (run gs state ≡ state → ⊥))
-  unfolding forced traced variables_of
-  list_forced e =
-      let values = gates_values state gs ++ changes in
-      let l = length-append (gates_values state gs) changes in
-      let w = whole values (omega (arith, length_gates n state gs, length_differences n state (run gs state))) in
-      let assoc = append_assoc (map (bit state) (up_from 0 n)) (gates_values state gs) changes in
-      let c = changed n state (run gs state) (spelled_below n σ) (run_below n gs v state (spelled_below n σ)) in (
-        (λ h.
-            let (p, q) = and_parts (agree σ n values) (some_of changes) (sym clauses_law ∙ h) in
-            (w.0 p ∙ sym assoc, c.0 q)),
-        (λ h. clauses_law ∙ both (w.1 (h.0 ∙ assoc)) (c.1 h.1)),
-      )
+    pub list_forced : length σ ≡ variables_of n gs → (satisfies σ (clauses_of n gs) ≡ true) ↔ ((σ ≡ forced n (spelled n σ) gs) × (run gs (spelled n σ) ≡ spelled n σ → ⊥))
+    unfolding forced traced
+    list_forced e =
+        let x = spelled n σ in
+        let f = is_assigned n _ _ _ _ list_forces σ e in
+        let assoc = append_assoc (map (bit x) (up_from 0 n)) (gates_values x gs) (changes x) in (
+          (λ h. let (p, q) = f.0 h in (p ∙ sym assoc, q)),
+          (λ h. f.1 (h.0 ∙ assoc, h.1)),
+        )

@@ -31,13 +31,14 @@ pub record Reads (n : ℕ) (σ : List Bool) (current : ℕ → ℕ) (s : ℕ) : 
   pub named : (k : ℕ) → k < n → 1 ≤ current k
   pub read : (k : ℕ) → k < n → variable σ (current k) ≡ bit s k
 
-module _ (n : ℕ) (σ : List Bool) (current : ℕ → ℕ) (s : ℕ) (reads : Reads n σ current s) where
-  literal_value : (p : Bool) (v : ℕ) (b : Bool) → 1 ≤ v → variable σ v ≡ b → value σ (cond p (plus v) (minus v)) ≡ cond p b (not b)
-  literal_value true v b h e = e
-  literal_value false v b h e = value_neg σ (pos v) h ∙ ap not e
+-- a literal of a variable with value b
+pub literal_value : (σ : List Bool) (p : Bool) (v : ℕ) (b : Bool) → 1 ≤ v → variable σ v ≡ b → value σ (cond p (plus v) (minus v)) ≡ cond p b (not b)
+literal_value σ true v b h e = e
+literal_value σ false v b h e = value_neg σ (pos v) h ∙ ap not e
 
+module _ (n : ℕ) (σ : List Bool) (current : ℕ → ℕ) (s : ℕ) (reads : Reads n σ current s) where
   control_value : (c : Control) → c.line < n → value σ (literal_of current c) ≡ met s c
-  control_value c h = literal_value c.positive (current c.line) (bit s c.line) (reads.named c.line h) (reads.read c.line h)
+  control_value c h = literal_value σ c.positive (current c.line) (bit s c.line) (reads.named c.line h) (reads.read c.line h)
 
   literal_size : (p : Bool) (v : ℕ) → 1 ≤ v → 1 ≤ variable_of (cond p (plus v) (minus v))
   literal_size true v h = h

@@ -1,20 +1,23 @@
--- What a turn over the gates adds to the totals, and the totals at the end. Assumes nothing.
-use Rattle.std.proofs.Common.{◌≡◌, ℕ, zero, suc, ◌+◌, ◌*◌, ◌/◌, ◌^◌, ◌<◌, ◌≤◌, Bool, true, false, cond, ◌||◌, eqb, List, [], ◌∷◌, ◌++◌, length, drop, sym, refl, ap, ◌∙◌, ap₂, zero-add, arith, length-append, ne_eqb}
+-- What a turn over the gates adds to the sums, and the sums at the end. Assumes nothing.
+use Rattle.std.proofs.Common.{◌≡◌, ℕ, zero, suc, ◌+◌, ◌*◌, ◌/◌, ◌^◌, ◌<◌, ◌≤◌, Bool, true, false, ◌||◌, eqb, List, [], ◌∷◌, length, drop, sym, refl, ap, ◌∙◌, ap₂, zero-add, arith, ne_eqb}
 use mathlib.Core.Bool.{or-false, or_assoc}
 use lib.Bits.{bit_or}
-use lib.Count.{ones}
-use Rattle.bits.specs.Digits.{bit, lines_in}
-use Rattle.bits.proofs.Digits.{bit_none, bit-or, bit_pow, below_of_bits, lines_ones}
+use Rattle.bits.specs.Digits.{bit}
+use Rattle.bits.proofs.Digits.{bit_none, bit-or, bit_pow}
 use Rattle.circuit.specs.declared.gate.Gate.{Gate}
 use Rattle.circuit.specs.Gate.{max_lines, max_miter_gates, valid, control_count}
-use Rattle.circuit.specs.Outcome.{Outcome, served, refused, and_then}
+use Rattle.circuit.specs.Outcome.{served, refused, and_then}
 use Rattle.circuit.specs.Refusal.{bad_line_count}
-use Rattle.circuit.specs.Words.{gates_of, gate_at, all_valid, line_count_good, valid_from, size_outcome}
-use Rattle.circuit.proofs.Promises.{then_served, then_refused, valid_facts, valid_more, controls_count, gates_next, gates_end, next_good, none_left, from_served, check_lines, check_gates, gates_refused, gates_sized, few_controls, valid_parts}
+use Rattle.circuit.specs.Words.{gates_of, gate_at, all_valid, line_count_good, valid_from, size_outcome, check_outcome}
+use Rattle.circuit.proofs.Promises.{then_served, then_refused, then_both, then_fails, valid_facts, valid_more, controls_count, gates_next, gates_end, next_good, none_left, from_served, check_lines, check_gates, gates_refused, gates_sized, few_controls, valid_parts}
 use Rattle.checking.specs.declared.clauses.Totals.{Totals}
-use Rattle.checking.specs.Clauses.{targeted, up_from}
-use Rattle.checking.specs.Sizes.{totals, added, gate_sizes, gates_sizes, lines_sizes, sizes_of, sizes_outcome}
-use Rattle.checking.proofs.lemmas.clauses.Forced.{length_up_from}
+use Rattle.checking.specs.declared.sums.Sums.{Sums}
+use Rattle.checking.specs.Clauses.{targeted}
+use Rattle.checking.specs.Sizes.{totals, added, gate_sizes, gates_sizes, sizes_of, sizes_outcome}
+use Rattle.checking.specs.Faults.{mask_where}
+use Rattle.checking.specs.private.Sums.{sums_of}
+use Rattle.checking.proofs.lemmas.clauses.Sums.{totals_same}
+use Rattle.checking.proofs.lemmas.faults.Masks.{is_mask}
 
 -- ---- the sizes of a gate
 
@@ -53,43 +56,6 @@ targeted_below n (g ∷ gs) k v h =
     let (a, b) = valid_parts n g gs v in
     let below = (valid_facts n g a).target_below in
     ap₂ ◌||◌ (ne_eqb k g.target (λ e. omega arith)) (targeted_below n gs k b h)
-
-pub up_from_more : (i m : ℕ) → up_from i (suc m) ≡ up_from i m ++ ((i + m) ∷ [])
-unfolding up_from
-up_from_more i zero = let e : i ≡ i + 0 = omega arith in ap (λ (j : ℕ). j ∷ []) e
-up_from_more i (suc m) =
-    let e : suc i + m ≡ i + suc m = omega arith in
-    ap (λ (l : List ℕ). i ∷ l) (up_from_more (suc i) m ∙ ap (λ (j : ℕ). up_from (suc i) m ++ (j ∷ [])) e)
-
-lines_append : (hit : ℕ → Bool) (xs ys : List ℕ) → (lines_sizes hit (xs ++ ys)).words ≡ (lines_sizes hit xs).words + (lines_sizes hit ys).words
-unfolding lines_sizes
-lines_append hit [] ys = omega arith
-lines_append hit (x ∷ xs) ys = omega (arith, lines_append hit xs ys)
-
-lines_count : (hit : ℕ → Bool) (ks : List ℕ) → ((lines_sizes hit ks).variables ≡ length ks) × ((lines_sizes hit ks).clauses ≡ length ks)
-unfolding lines_sizes
-lines_count hit [] = (refl, refl)
-lines_count hit (k ∷ ks) = let (a, b) = lines_count hit ks in (omega arith, omega arith)
-
-line_words : (mask n : ℕ) (b : Bool) → cond b 5 3 + 0 ≡ 3 + 2 * length (cond b (n ∷ []) [])
-line_words mask n true = refl
-line_words mask n false = refl
-
-lines_words : (mask : ℕ) (hit : ℕ → Bool) → ((k : ℕ) → bit mask k ≡ hit k) → (n : ℕ) → (lines_sizes hit (up_from 0 n)).words ≡ 3 * n + 2 * length (lines_in mask n)
-unfolding lines_sizes lines_in up_from
-lines_words mask hit same zero = refl
-lines_words mask hit same (suc n) =
-    let e : 0 + n ≡ n = omega arith in
-    let last : (lines_sizes hit ((0 + n) ∷ [])).words ≡ 3 + 2 * length (cond (bit mask n) (n ∷ []) []) =
-    ap (λ (j : ℕ). cond (hit j) 5 3 + 0) e ∙ ap (λ (b : Bool). cond b 5 3 + 0) (sym (same n)) ∙ line_words mask n (bit mask n) in
-    omega (
-      arith,
-      ap (λ (l : List ℕ). (lines_sizes hit l).words) (up_from_more 0 n),
-      lines_append hit (up_from 0 n) ((0 + n) ∷ []),
-      last,
-      lines_words mask hit same n,
-      length-append (lines_in mask n) (cond (bit mask n) (n ∷ []) []),
-    )
 
 -- ---- the loop
 
@@ -155,37 +121,41 @@ module _ (n : ℕ) (ws : List ℕ) (v c d hit i : ℕ) (g : Gate) (few : n ≤ m
       }
 
 -- at the end: the totals that the code makes of the sums
-abbrev pub summed : (n gates variables clauses controls lines : ℕ) → Totals
-summed n gates variables clauses controls lines =
-    totals (2 * n + (gates + variables)) (n + 1 + (gates + variables + clauses)) (4 * n + 2 + 4 * (gates + variables + clauses) + controls + 2 * lines)
+abbrev pub summed : (gates variables clauses controls : ℕ) → Totals
+summed gates variables clauses controls = totals (gates + variables) (gates + variables + clauses) (4 * (gates + variables + clauses) + controls)
 
 module _ (n : ℕ) (ws : List ℕ) (v c d hit i : ℕ) (past : length ws / 3 ≤ i) (s : Summed n ws v c d hit i) where
-  all_tested : valid_from n 0 (gates_of ws) ≡ served i
+  abbrev gs : List Gate
+  gs = gates_of ws
+
+  all_tested : valid_from n 0 gs ≡ served i
   all_tested = s.tested ∙ none_left n ws i past
 
-  all_summed : summed n (length ws / 3) v c d (ones hit) ≡ sizes_of n (gates_of ws)
-  unfolding sizes_of gates_sizes targeted
+  none : gates_of (drop (3 * i) ws) ≡ []
+  none = gates_end ws i past
+
+  all_summed : summed (length ws / 3) v c d ≡ gates_sizes gs
+  unfolding gates_sizes
   all_summed =
-      let gs = gates_of ws in
+      let empty : gates_sizes (gates_of (drop (3 * i) ws)) ≡ totals 0 0 0 = ap gates_sizes none in
+      let all : length ws / 3 ≡ i = omega (arith, s.inside) in
+      totals_same _ _
+      (omega (arith, s.variables_left, ap (λ (x : Totals). x.variables) empty))
+      (omega (arith, s.clauses_left_lem, ap (λ (x : Totals). x.clauses) empty))
+      (omega (arith, s.words_left, ap (λ (x : Totals). x.words) empty))
+
+  all_targets : hit ≡ mask_where n (targeted gs)
+  unfolding targeted
+  all_targets =
       let good = (from_served n 0 gs i all_tested).0 in
-      let none = gates_end ws i past in
       let same : (k : ℕ) → bit hit k ≡ targeted gs k =
       λ k. sym (or-false (bit hit k)) ∙ ap (λ (hs : List Gate). bit hit k || targeted hs k) (sym none) ∙ s.lines_left_lem k in
-      let below : hit < 2 ^ n = below_of_bits n hit (λ k h. same k ∙ targeted_below n gs k good h) in
-      let empty : gates_sizes (gates_of (drop (3 * i) ws)) ≡ totals 0 0 0 = ap gates_sizes none in
-      let counts = lines_count (targeted gs) (up_from 0 n) in
-      let long = length_up_from 0 n in
-      let all : length ws / 3 ≡ i = omega (arith, s.inside) in
-      let a : (summed n (length ws / 3) v c d (ones hit)).variables ≡ n + ((gates_sizes gs).variables + ((lines_sizes (targeted gs) (up_from 0 n)).variables + 0)) =
-      omega (arith, s.variables_left, ap (λ (x : Totals). x.variables) empty) in
-      let b : (summed n (length ws / 3) v c d (ones hit)).clauses ≡ 0 + ((gates_sizes gs).clauses + ((lines_sizes (targeted gs) (up_from 0 n)).clauses + 1)) =
-      omega (arith, s.clauses_left_lem, ap (λ (x : Totals). x.clauses) empty) in
-      let e : (summed n (length ws / 3) v c d (ones hit)).words ≡ 0 + ((gates_sizes gs).words + ((lines_sizes (targeted gs) (up_from 0 n)).words + (n + 2))) =
-      omega (arith, s.words_left, ap (λ (x : Totals). x.words) empty, lines_words hit (targeted gs) same n, lines_ones n hit below) in
-      ap₂ (λ (x y : ℕ). totals x y (summed n (length ws / 3) v c d (ones hit)).words) a b ∙ ap (totals _ _) e
+      is_mask n (targeted gs) hit (λ k h. same k) (λ k h. same k ∙ targeted_below n gs k good h)
 
-  pub summed_all : served (summed n (length ws / 3) v c d (ones hit)) ≡ and_then (valid_from n 0 (gates_of ws)) (λ k. served (sizes_of n (gates_of ws)))
-  summed_all = ap served all_summed ∙ sym (then_served (valid_from n 0 (gates_of ws)) (λ k. served (sizes_of n (gates_of ws))) i all_tested)
+  pub summed_all : served (record { totals = summed (length ws / 3) v c d; targets = hit }) ≡ and_then (valid_from n 0 gs) (λ k. served (sums_of n gs))
+  summed_all =
+      ap₂ (λ (t : Totals) (m : ℕ). served (record { totals = t; targets = m })) all_summed all_targets
+      ∙ sym (then_served (valid_from n 0 gs) (λ k. served (sums_of n gs)) i all_tested)
 
 -- ---- what the call answers
 
@@ -198,8 +168,18 @@ module _ (n : ℕ) (ws : List ℕ) where
   unfolding sizes_outcome
   sizes_refused good number place e = then_refused _ _ number place (check_gates n ws max_miter_gates good ∙ gates_refused n ws max_miter_gates number place e)
 
-  pub sizes_tested : line_count_good n ≡ true → (k : ℕ) → size_outcome ws max_miter_gates ≡ served k
-      → sizes_outcome n ws ≡ and_then (valid_from n 0 (gates_of ws)) (λ k. served (sizes_of n (gates_of ws)))
-  unfolding sizes_outcome
-  sizes_tested good k e =
-      ap (λ (o : Outcome ℕ). and_then o (λ k. served (sizes_of n (gates_of ws)))) (check_gates n ws max_miter_gates good ∙ gates_sized n ws max_miter_gates k e)
+  module _ (good : line_count_good n ≡ true) (k : ℕ) (sized : size_outcome ws max_miter_gates ≡ served k) where
+    tested : check_outcome n ws max_miter_gates ≡ valid_from n 0 (gates_of ws)
+    tested = check_gates n ws max_miter_gates good ∙ gates_sized n ws max_miter_gates k sized
+
+    pub sizes_untested : (number place : ℕ) → and_then (valid_from n 0 (gates_of ws)) (λ k. served (sums_of n (gates_of ws))) ≡ refused number place
+        → sizes_outcome n ws ≡ refused number place
+    unfolding sizes_outcome
+    sizes_untested number place e = then_refused _ _ number place (tested ∙ then_fails (valid_from n 0 (gates_of ws)) (λ k. sums_of n (gates_of ws)) number place e)
+
+    pub sizes_tested : (s : Sums) → and_then (valid_from n 0 (gates_of ws)) (λ k. served (sums_of n (gates_of ws))) ≡ served s
+        → sizes_outcome n ws ≡ served (sizes_of n (gates_of ws))
+    unfolding sizes_outcome
+    sizes_tested s e =
+        let (m, v, f) = then_both (valid_from n 0 (gates_of ws)) (λ k. served (sums_of n (gates_of ws))) s e in
+        then_served _ _ m (tested ∙ v)

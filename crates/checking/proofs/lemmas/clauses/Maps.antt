@@ -1,5 +1,5 @@
 -- What the clause list is made of. The clauses of a gate on n lines depend on the current variables of lines below n only. Assumes nothing.
-use Rattle.std.proofs.Common.{◌≡◌, ℕ, suc, ◌<◌, Bool, true, cond, List, [], ◌∷◌, ◌++◌, map, ℤ, refl, ap, ap₂}
+use Rattle.std.proofs.Common.{◌≡◌, ℕ, suc, ◌<◌, Bool, true, cond, List, [], ◌∷◌, ◌++◌, map, ℤ, refl, ap, ◌∙◌, ap₂}
 use Rattle.circuit.specs.declared.gate.Gate.{Gate}
 use Rattle.circuit.specs.Gate.{max_lines, valid, Control, Inside, controls_of}
 use Rattle.circuit.proofs.Promises.{valid_facts, controls_inside}
@@ -49,11 +49,11 @@ pub gate_local : (n used : ℕ) (a b : ℕ → ℕ) (g : Gate) → valid n g ≡
 gate_local n used a b g v h =
     ap₂ (gate_clauses used) (h g.target (valid_facts n g v).target_below) (literals_local n a b h (controls_of g) (controls_inside n g v max_lines))
 
-pub differences_local : (n : ℕ) (hit hit' : ℕ → Bool) (left a b : ℕ → ℕ) → ((k : ℕ) → k < n → hit k ≡ hit' k) → Agree n a b → (used : ℕ) (ks : List ℕ) → Below n ks
-    → difference_clauses hit left a used ks ≡ difference_clauses hit' left b used ks
+pub differences_local : (n : ℕ) (hit hit' : ℕ → Bool) (a a' b b' : ℕ → ℕ) → ((k : ℕ) → k < n → hit k ≡ hit' k) → Agree n a a' → Agree n b b' → (used : ℕ) (ks : List ℕ) → Below n ks
+    → difference_clauses hit a b used ks ≡ difference_clauses hit' a' b' used ks
 unfolding difference_clauses
-differences_local n hit hit' left a b h r used [] w = refl
-differences_local n hit hit' left a b h r used (k ∷ ks) w =
+differences_local n hit hit' a a' b b' h l r used [] w = refl
+differences_local n hit hit' a a' b b' h l r used (k ∷ ks) w =
     ap₂ (λ (c : Clause) (cs : List Clause). c ∷ cs)
-    (ap₂ (λ (x : Bool) (y : ℕ). difference_clause x (suc used) (left k) y) (h k w.0) (r k w.0))
-    (differences_local n hit hit' left a b h r (suc used) ks w.1)
+    (ap₂ (λ (x : Bool) (y : ℕ). difference_clause x (suc used) y (b k)) (h k w.0) (l k w.0) ∙ ap (difference_clause (hit' k) (suc used) (a' k)) (r k w.0))
+    (differences_local n hit hit' a a' b b' h l r (suc used) ks w.1)

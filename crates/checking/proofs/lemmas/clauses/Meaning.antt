@@ -1,50 +1,64 @@
 -- The clause list of a cascade tells on which states its run is not the identity. Assumes nothing.
-use Rattle.std.proofs.Common.{◌≡◌, ℕ, ◌^◌, ◌<◌, ◌≤◌, Bool, true, eqb, ◌↔◌, List, [], ◌++◌, map, sym, ap, ◌∙◌, append_assoc, eqb-true}
+use Rattle.std.proofs.Common.{◌≡◌, ℕ, ◌^◌, ◌<◌, ◌≤◌, Bool, true, eqb, ◌↔◌, List, [], sym, ap, ◌∙◌, subst, eqb-true}
 use borrow.Author.Tests.{eqb-false}
-use Rattle.bits.specs.Digits.{bit}
 use Rattle.bits.proofs.Bools.{either}
 use Rattle.circuit.specs.declared.gate.Gate.{Gate}
 use Rattle.circuit.specs.Gate.{max_lines}
 use Rattle.circuit.specs.Words.{all_valid}
 use Rattle.circuit.specs.Run.{run}
 use Rattle.circuit.proofs.Promises.{run_none}
-use Rattle.checking.specs.Clauses.{Clause, up_from, clauses_of, variables_of}
+use Rattle.checking.specs.Clauses.{Clause, clauses_of, variables_of}
 use Rattle.checking.specs.Satisfaction.{Satisfying, spelled, Tells}
-use Rattle.checking.specs.Forced.{gates_values, differences, traced, forced}
-use Rattle.checking.proofs.lemmas.clauses.Forced.{spelled_below, spelled_digits, length_forced, list_forced}
+use Rattle.checking.proofs.lemmas.clauses.Forced.{spelled_below, spelled_digits, assigned, Forces, assigned_length, is_assigned, list_forces}
 use Rattle.checking.proofs.lemmas.clauses.Within.{clauses_within}
 
-module _ (n : ℕ) (gs : List Gate) (few : n ≤ max_lines) (v : all_valid n gs ≡ true) where
-  spelled_forced : (x : ℕ) → x < 2 ^ n → spelled n (forced n x gs) ≡ x
-  unfolding forced traced
-  spelled_forced x h =
-      ap (spelled n) (append_assoc (map (bit x) (up_from 0 n)) (gates_values x gs) (differences x (run gs x) (up_from 0 n)))
-      ∙ spelled_digits n x (gates_values x gs ++ differences x (run gs x) (up_from 0 n)) h
+-- a list that forces its assignment
+module _ (n variables : ℕ) (cs : List Clause) (values : ℕ → List Bool) (D : ℕ → Type 0) (forces : Forces n variables cs values D) where
+  abbrev of : ℕ → List Bool
+  of x = assigned n x (values x)
 
-  forced_satisfies : (x : ℕ) → x < 2 ^ n → (run gs x ≡ x → ⊥) → Satisfying (variables_of n gs) (clauses_of n gs) (forced n x gs)
-  forced_satisfies x h ne =
-      let e = spelled_forced x h in
+  satisfying : (x : ℕ) → x < 2 ^ n → D x → Satisfying variables cs (of x)
+  satisfying x h d =
+      let e : x ≡ spelled n (of x) = sym (spelled_digits n x (values x) h) in
       record {
-        whole = length_forced n x gs;
-        satisfied =
-            (list_forced n gs few v (forced n x gs) (length_forced n x gs)).1
-            (ap (λ (y : ℕ). forced n y gs) (sym e), (λ f. ne (ap (run gs) (sym e) ∙ f ∙ e)));
+        whole = assigned_length n variables cs values D forces x;
+        satisfied = (is_assigned n variables cs values D forces (of x) (assigned_length n variables cs values D forces x)).1 (ap of e, subst D e d);
       }
 
-  module _ (σ : List Bool) (sat : Satisfying (variables_of n gs) (clauses_of n gs) σ) where
-    is_forced : (σ ≡ forced n (spelled n σ) gs) × (run gs (spelled n σ) ≡ spelled n σ → ⊥)
-    is_forced = (list_forced n gs few v σ sat.whole).0 sat.satisfied
+  module _ (σ : List Bool) (sat : Satisfying variables cs σ) where
+    is_of : (σ ≡ of (spelled n σ)) × D (spelled n σ)
+    is_of = (is_assigned n variables cs values D forces σ sat.whole).0 sat.satisfied
+
+    pub no_other : D (spelled n σ)
+    no_other = is_of.1
+
+  -- exactly one satisfying assignment spells a state of D
+  pub only_one : (x : ℕ) → x < 2 ^ n → D x
+      → (σ : List Bool) × Satisfying variables cs σ × (spelled n σ ≡ x) × ((τ : List Bool) → Satisfying variables cs τ → spelled n τ ≡ x → τ ≡ σ)
+  only_one x h d = (of x, satisfying x h d, spelled_digits n x (values x) h, (λ τ sat e. (is_of τ sat).0 ∙ ap of e))
+
+  -- none satisfies the clauses exactly when D holds of no state
+  pub unsatisfied : ((x : ℕ) → x < 2 ^ n → D x → ⊥) ↔ ((σ : List Bool) → Satisfying variables cs σ → ⊥)
+  unsatisfied = (
+    (λ none σ sat. none (spelled n σ) (spelled_below n σ) (no_other σ sat)),
+    (λ unsat x h d. unsat (of x) (satisfying x h d)),
+  )
+
+module _ (n : ℕ) (gs : List Gate) (few : n ≤ max_lines) (v : all_valid n gs ≡ true) where
+  abbrev D : ℕ → Type 0
+  D x = run gs x ≡ x → ⊥
 
   pub list_tells : Tells n (variables_of n gs) (clauses_of n gs) gs []
   list_tells =
+      let f = list_forces n gs few v in
+      let u = unsatisfied n _ _ _ D f in
       record {
         equal = (
-          (λ same σ sat. (is_forced σ sat).1 (same (spelled n σ) (spelled_below n σ) ∙ run_none (spelled n σ))),
-          (λ unsat x h. either (eqb (run gs x) x) (λ t. eqb-true _ _ t ∙ sym (run_none x)) (λ t. absurd (unsat (forced n x gs) (forced_satisfies x h (eqb-false _ _ t))))),
+          (λ same. u.0 (λ x h d. d (same x h ∙ run_none x))),
+          (λ unsat x h. either (eqb (run gs x) x) (λ t. eqb-true _ _ t ∙ sym (run_none x)) (λ t. absurd (u.1 unsat x h (eqb-false _ _ t)))),
         );
-        differing = λ x d.
-            (forced n x gs, forced_satisfies x d.state (λ e. d.outputs (e ∙ sym (run_none x))), spelled_forced x d.state, (λ τ sat e. (is_forced τ sat).0 ∙ ap (λ (y : ℕ). forced n y gs) e));
-        no_other = λ σ sat. record { state = spelled_below n σ; outputs = λ e. (is_forced σ sat).1 (e ∙ run_none (spelled n σ)) };
+        differing = λ x d. only_one n _ _ _ D f x d.state (λ e. d.outputs (e ∙ sym (run_none x)));
+        no_other = λ σ sat. record { state = spelled_below n σ; outputs = λ e. no_other n _ _ _ D f σ sat (e ∙ run_none (spelled n σ)) };
         within = clauses_within n gs few v;
       }
 

@@ -12,11 +12,15 @@ use Rattle.checking.specs.Sizes.{totals, added, gate_sizes, gates_sizes, line_si
 use Rattle.checking.proofs.lemmas.clauses.Reading.{stored_append}
 use Rattle.checking.proofs.lemmas.clauses.Forced.{length_up_from}
 
+-- totals are the same where each of the three numbers is
+pub totals_same : (s t : Totals) → s.variables ≡ t.variables → s.clauses ≡ t.clauses → s.words ≡ t.words → s ≡ t
+totals_same s t a b c = ap₂ (λ (x y : ℕ). totals x y s.words) a b ∙ ap (totals t.variables t.clauses) c
+
 -- the sizes of a list of clauses that adds `new` variables
 abbrev pub sizes_in : ℕ → List Clause → Totals
 sizes_in new cs = totals new (length cs) (length (stored cs))
 
-sizes_append : (i j : ℕ) (xs ys : List Clause) → sizes_in (i + j) (xs ++ ys) ≡ added (sizes_in i xs) (sizes_in j ys)
+pub sizes_append : (i j : ℕ) (xs ys : List Clause) → sizes_in (i + j) (xs ++ ys) ≡ added (sizes_in i xs) (sizes_in j ys)
 sizes_append i j xs ys = ap₂ (totals (i + j)) (length-append xs ys) (ap length (stored_append xs ys) ∙ length-append (stored xs) (stored ys))
 
 -- ---- one gate
@@ -60,7 +64,7 @@ new_added used (suc (suc k)) = omega arith
 
 -- ---- the gates, with k the number of set bits in both masks
 
-gates_sizes_lem : (n used : ℕ) (current : ℕ → ℕ) (gs : List Gate) → n ≤ max_lines → all_valid n gs ≡ true
+pub gates_sizes_lem : (n used : ℕ) (current : ℕ → ℕ) (gs : List Gate) → n ≤ max_lines → all_valid n gs ≡ true
     → sizes_in (gates_sizes gs).variables (gates_clauses used current gs) ≡ gates_sizes gs
 unfolding gates_clauses gates_sizes stored
 gates_sizes_lem n used current [] few v = refl
@@ -92,7 +96,7 @@ unfolding stored
 line_sizes_lem true d a b = refl
 line_sizes_lem false d a b = refl
 
-lines_sizes_lem : (hit : ℕ → Bool) (left right : ℕ → ℕ) (used : ℕ) (ks : List ℕ)
+pub lines_sizes_lem : (hit : ℕ → Bool) (left right : ℕ → ℕ) (used : ℕ) (ks : List ℕ)
     → sizes_in (length ks) (difference_clauses hit left right used ks) ≡ lines_sizes hit ks
 unfolding difference_clauses lines_sizes stored
 lines_sizes_lem hit left right used [] = refl

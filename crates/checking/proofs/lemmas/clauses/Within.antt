@@ -11,7 +11,7 @@ use Rattle.checking.specs.Satisfaction.{variable_of, LiteralWithin, LiteralsWith
 use Rattle.checking.proofs.lemmas.clauses.Gates.{new_named}
 use Rattle.checking.proofs.lemmas.clauses.Forced.{Below, below_up_from, used_more, length_up_from}
 
-minus_size : (v : ℕ) → variable_of (minus v) ≡ v
+pub minus_size : (v : ℕ) → variable_of (minus v) ≡ v
 minus_size zero = refl
 minus_size (suc v) = refl
 
@@ -75,7 +75,7 @@ moved_named n m used current g h named =
           (λ e. subst (λ (x : ℕ). x ≤ m) (sym (cond-false _ (used_by used g) (current k) e)) (named.high k l));
     }
 
-gates_within : (n m used : ℕ) (current : ℕ → ℕ) (gs : List Gate) → n ≤ max_lines → all_valid n gs ≡ true → used_after used gs ≤ m → Named n m current
+pub gates_within : (n m used : ℕ) (current : ℕ → ℕ) (gs : List Gate) → n ≤ max_lines → all_valid n gs ≡ true → used_after used gs ≤ m → Named n m current
     → ClausesWithin m (gates_clauses used current gs)
 unfolding gates_clauses used_after
 gates_within n m used current [] few v h named = tt
@@ -97,7 +97,7 @@ difference_within : (m d a b : ℕ) (hit : Bool) → suc d ≤ m → 1 ≤ a →
 difference_within m d a b true h a₁ a₂ b₁ b₂ = ((omega arith, h), ((a₁, a₂), ((b₁, b₂), tt)))
 difference_within m d a b false h a₁ a₂ b₁ b₂ = ((omega arith, h), tt)
 
-differences_within : (n m : ℕ) (hit : ℕ → Bool) (left right : ℕ → ℕ) → Named n m left → Named n m right
+pub differences_within : (n m : ℕ) (hit : ℕ → Bool) (left right : ℕ → ℕ) → Named n m left → Named n m right
     → (used : ℕ) (ks : List ℕ) → used + length ks ≤ m → Below n ks → ClausesWithin m (difference_clauses hit left right used ks)
 unfolding difference_clauses
 differences_within n m hit left right a b used [] h w = tt
@@ -106,7 +106,7 @@ differences_within n m hit left right a b used (k ∷ ks) h w = (
   differences_within n m hit left right a b (suc used) ks (omega arith) w.1,
 )
 
-last_within : (m i k : ℕ) → 1 ≤ i → i + k ≤ suc m → LiteralsWithin m (map plus (up_from i k))
+pub last_within : (m i k : ℕ) → 1 ≤ i → i + k ≤ suc m → LiteralsWithin m (map plus (up_from i k))
 unfolding up_from
 last_within m i zero one h = tt
 last_within m i (suc k) one h = ((one, omega arith), last_within m (suc i) k (omega arith) (omega arith))

@@ -1,115 +1,152 @@
 -- What the emission's loops over the lines write, line by line. Assumes nothing.
-use Rattle.std.proofs.Common.{◌≡◌, ℕ, zero, suc, ◌+◌, ◌-◌, ◌<◌, ◌≤◌, Bool, ltb, List, [], ◌∷◌, ◌++◌, map, length, take, drop, set, ℤ, pos, sym, refl, ap, ◌∙◌, ap₂, append_assoc, append-nil, arith, length-append}
+use Rattle.std.proofs.Common.{◌≡◌, ℕ, zero, suc, ◌+◌, ◌-◌, ◌^◌, ◌<◌, ◌≤◌, Bool, true, false, cond, not, ◌&&◌, List, [], ◌∷◌, ◌++◌, map, length, take, drop, set, ℤ, pos, sym, refl, ap, ◌∙◌, ap₂, append_assoc, append-nil, arith, length-append, lt-ltb, pow_pos}
+use mathlib.Core.Bool.{xor}
 use mathlib.Core.List.{map-append}
+use lib.Bits.{bit_and, and_le_l}
+use lib.Count.{count_trailing_zeros}
 use lib.ListN.{length-map}
 use borrow.Rule.Slice.PartMut.{put_mid}
-use Rattle.bits.specs.Lists.{over}
+use Rattle.bits.specs.Digits.{bit, lines_in}
+use Rattle.bits.specs.Lists.{over, Put}
+use Rattle.bits.proofs.Bools.{xor_all}
+use Rattle.bits.proofs.Digits.{bit-and, bit-xor}
 use Rattle.bits.proofs.Lists.{over_length, over_push, lent_over}
-use Rattle.checking.specs.Clauses.{plus, input_of, up_from, difference_clauses}
+use Rattle.bits.proofs.Lowest.{lines_none, lines_lowest, lowest_below}
+use Rattle.circuit.specs.Gate.{max_lines}
+use Rattle.checking.specs.Clauses.{plus, up_from, difference_clauses}
+use Rattle.checking.specs.Pair.{without_junk}
 use Rattle.checking.specs.Stored.{stored}
 use Rattle.checking.specs.private.Emitter.{by_line}
-use Rattle.checking.specs.private.Emission.{line_stored, lines_stored, last_stored, LineReady, LinesReady}
+use Rattle.checking.specs.private.Emission.{line_stored, lines_stored, counted_stored, last_stored, LineReady, LinesReady, LinesPut}
 use Rattle.checking.proofs.lemmas.clauses.Forced.{length_up_from}
-use Rattle.checking.proofs.lemmas.clauses.Loop.{up_from_more}
+use Rattle.checking.proofs.lemmas.clauses.Totals.{up_from_more, counted_more}
 use Rattle.checking.proofs.lemmas.emitter.Parts.{lent_long}
+use Rattle.checking.proofs.lemmas.faults.Masks.{flipped, all_bit}
+use Rattle.checking.proofs.lemmas.pair_emission.Fits.{kept_few}
+
+-- ---- the lines that count, as a mask
+
+counted_mask : (mask junk n : ℕ) → ((k : ℕ) → k < n → bit mask k ≡ not (bit junk k)) → lines_in mask n ≡ without_junk junk (up_from 0 n)
+unfolding lines_in up_from without_junk
+counted_mask mask junk zero same = refl
+counted_mask mask junk (suc n) same =
+    ap₂ (λ (xs ys : List ℕ). xs ++ ys) (counted_mask mask junk n (λ k h. same k (omega arith)))
+    (ap (λ (b : Bool). cond b (n ∷ []) []) (same n (omega arith)) ∙ flip (bit junk n))
+    ∙ sym (counted_more junk n)
+  where
+    flip : (b : Bool) → cond (not b) (n ∷ []) [] ≡ cond b [] (n ∷ [])
+    flip true = refl
+    flip false = refl
 
 -- ---- the clauses of the d
 
--- the clauses of m lines from line k on
-abbrev lines_left : ℕ → List ℕ → ℕ → ℕ → ℕ → List ℤ
-lines_left n current used k m = stored (difference_clauses (λ k. ltb n (by_line current k)) input_of (by_line current) (used + k) (up_from k m))
-
--- the clauses of lines below k stand at the buffer's start, and those of `lines` more are left
-pub record Compared (n : ℕ) (current : List ℕ) (used : ℕ) (first out : List ℤ) (k at : ℕ) : Type 0 where
+-- the clauses of the lines passed stand at the buffer's start, and those of the lines of the mask are left
+pub record Compared (n junk : ℕ) (left right : List ℕ) (start_used : ℕ) (first out : List ℤ) (lines used at : ℕ) : Type 0 where
   pub front : List ℤ
-  pub lines : ℕ
-  pub count : k + lines ≡ n
-  pub left : lines_stored n current used ≡ front ++ lines_left n current used k lines
+  pub below : lines < 2 ^ n
+  pub clauses_left : counted_stored n junk left right start_used ≡ front ++ lines_stored left right used (lines_in lines n)
+  pub number_left : used + length (lines_in lines n) ≡ start_used + length (without_junk junk (up_from 0 n))
   pub place : length front ≡ at
   pub as_long : length out ≡ length first
   pub buffer : out ≡ over front first
 
-pub compared_none : (n : ℕ) (current : List ℕ) (used : ℕ) (first : List ℤ) → Compared n current used first first 0 0
-compared_none n current used first =
-    let e : used ≡ used + 0 = omega arith in
+pub compared_none : (n junk : ℕ) (left right : List ℕ) (used : ℕ) (first : List ℤ) → n ≤ max_lines → junk < 2 ^ max_lines
+    → Compared n junk left right used first first (bit_and (2 ^ n - 1) (2 ^ max_lines - 1 - junk)) used 0
+compared_none n junk left right used first few small =
+    let mask : ℕ = bit_and (2 ^ n - 1) (2 ^ max_lines - 1 - junk) in
+    let same : lines_in mask n ≡ without_junk junk (up_from 0 n) =
+    counted_mask mask junk n (λ k h.
+    bit-and (2 ^ n - 1) (2 ^ max_lines - 1 - junk) k
+    ∙ ap₂ ◌&&◌ (all_bit n k ∙ lt-ltb k n h)
+    (ap (λ (x : ℕ). bit x k) (flipped max_lines junk small)
+    ∙ bit-xor junk (2 ^ max_lines - 1) k
+    ∙ ap (xor (bit junk k)) (all_bit max_lines k ∙ lt-ltb k max_lines (omega arith))
+    ∙ xor_all (bit junk k))) in
     record {
       front = [];
-      lines = n;
-      count = omega arith;
-      left = ap (λ (u : ℕ). stored (difference_clauses (λ k. ltb n (by_line current k)) input_of (by_line current) u (up_from 0 n))) e;
+      below = omega (arith, and_le_l (2 ^ n - 1) (2 ^ max_lines - 1 - junk), pow_pos n);
+      clauses_left = ap (lines_stored left right used) (sym same);
+      number_left = ap (λ (ls : List ℕ). used + length ls) same;
       place = refl;
       as_long = refl;
       buffer = refl;
     }
 
-one_less : (m : ℕ) → 0 < m → (l : ℕ) × (m ≡ suc l)
-one_less zero h = absurd (omega arith)
-one_less (suc l) h = (l, refl)
+module _ (n junk : ℕ) (left right : List ℕ) (start_used : ℕ) (first out : List ℤ) (lines used at : ℕ) (ready : LinesReady n junk left right start_used (length first))
+    (e : Compared n junk left right start_used first out lines used at) where
+  -- a line is left
+  module _ (some : lines ≡ 0 → ⊥) (line : ℕ) (is : line ≡ count_trailing_zeros max_lines lines) where
+    abbrev later : List ℕ
+    later = lines_in (bit_and lines (lines - 1)) n
 
-module _ (n : ℕ) (current : List ℕ) (used : ℕ) (first out : List ℤ) (k at : ℕ) (ready : LinesReady n current used (length first))
-    (e : Compared n current used first out k at) (inside : k < n) where
-  abbrev new : List ℤ
-  new = line_stored (ltb n (by_line current k)) (used + k + 1) (k + 1) (by_line current k)
+    abbrev new : List ℤ
+    new = line_stored (used + 1) (by_line left line) (by_line right line)
 
-  abbrev lines : (l : ℕ) × (e.lines ≡ suc l)
-  lines = one_less e.lines (omega (arith, e.count))
+    pub line_below : line < n
+    line_below = omega (arith, is, lowest_below max_lines n lines ready.lines (omega arith) e.below)
 
-  split : lines_stored n current used ≡ (e.front ++ new) ++ lines_left n current used (k + 1) lines.0
-  unfolding difference_clauses up_from stored
-  split =
-      let a : suc (used + k) ≡ used + k + 1 = omega arith in
-      let b : suc k ≡ k + 1 = omega arith in
-      let c : suc (used + k) ≡ used + (k + 1) = omega arith in
-      let hit : ℕ → Bool = λ j. ltb n (by_line current j) in
-      e.left
-      ∙ ap (λ (m : ℕ). e.front ++ lines_left n current used k m) lines.1
-      ∙ ap (λ (l : List ℤ). e.front ++ l)
-      (ap₂ (λ (x y : ℕ). line_stored (hit k) x y (by_line current k) ++ stored (difference_clauses hit input_of (by_line current) (suc (used + k)) (up_from (suc k) lines.0))) a b
-      ∙ ap₂ (λ (x y : ℕ). new ++ stored (difference_clauses hit input_of (by_line current) x (up_from y lines.0))) c b)
-      ∙ sym (append_assoc e.front new (lines_left n current used (k + 1) lines.0))
+    next : lines_in lines n ≡ line ∷ later
+    next = lines_lowest max_lines n lines ready.lines (omega arith) e.below ∙ ap (λ (k : ℕ). k ∷ later) (sym is)
 
-  pub line_room : at + length new ≤ length out
-  line_room =
-      omega (
-        arith,
-        ap length split,
-        length-append (e.front ++ new) (lines_left n current used (k + 1) lines.0),
-        length-append e.front new,
-        ready.enough,
-        e.place,
-        e.as_long,
-      )
+    pub used_few : used < start_used + n
+    used_few = omega (arith, e.number_left, ap length next, kept_few junk (up_from 0 n), length_up_from 0 n)
 
-  pub line_ready : LineReady (ltb n (by_line current k)) (used + k + 1) (k + 1) (by_line current k) (length (take (length out - at) (drop at out)))
-  line_ready =
+    split : counted_stored n junk left right start_used ≡ (e.front ++ new) ++ lines_stored left right (used + 1) later
+    unfolding difference_clauses stored
+    split =
+        let one : suc used ≡ used + 1 = omega arith in
+        e.clauses_left
+        ∙ ap (λ (ls : List ℕ). e.front ++ lines_stored left right used ls) next
+        ∙ ap (λ (d : ℕ). e.front ++ (line_stored d (by_line left line) (by_line right line) ++ lines_stored left right d later)) one
+        ∙ sym (append_assoc e.front new (lines_stored left right (used + 1) later))
+
+    pub line_room : at + length new ≤ length out
+    line_room =
+        omega (
+          arith,
+          ap length split,
+          length-append (e.front ++ new) (lines_stored left right (used + 1) later),
+          length-append e.front new,
+          ready.enough,
+          e.place,
+          e.as_long,
+        )
+
+    pub line_ready : LineReady (used + 1) (by_line left line) (by_line right line) (length (take (length out - at) (drop at out)))
+    line_ready =
+        record {
+          difference = omega (arith, ready.few, used_few);
+          first = ready.small_left line line_below;
+          last = ready.small_right line line_below;
+          enough = omega (arith, lent_long out at, line_room);
+        }
+
+    pub compared_next : (last : List ℤ) (words : ℕ) → Put words last new (take (length out - at) (drop at out))
+        → Compared n junk left right start_used first (put_mid at (length out - at) out last) (bit_and lines (lines - 1)) (used + 1) (at + words)
+    compared_next last words p =
+        let filled = lent_over e.front new first out last at e.buffer e.place (omega (arith, line_room)) p.buffer in
+        let front_long = length-append e.front new in
+        record {
+          front = e.front ++ new;
+          below = omega (arith, and_le_l lines (lines - 1), e.below);
+          clauses_left = split;
+          number_left = omega (arith, e.number_left, ap length next);
+          place = omega (arith, front_long, e.place, p.count);
+          as_long = ap length filled ∙ over_length (e.front ++ new) first (omega (arith, front_long, e.place, line_room, e.as_long));
+          buffer = filled;
+        }
+
+  -- no line is left
+  pub compared_all : lines ≡ 0 → LinesPut n junk left right start_used first out at used
+  unfolding difference_clauses stored
+  compared_all none =
+      let done : lines_in lines n ≡ [] = ap (λ (x : ℕ). lines_in x n) none ∙ lines_none n in
+      let all : counted_stored n junk left right start_used ≡ e.front =
+      e.clauses_left ∙ ap (λ (ls : List ℕ). e.front ++ lines_stored left right used ls) done ∙ append-nil e.front in
       record {
-        difference = omega (arith, ready.few);
-        first = omega (arith, ready.lines);
-        last = ready.small k inside;
-        enough = omega (arith, lent_long out at, line_room);
+        variables = omega (arith, e.number_left, ap length done);
+        written = record { count = sym e.place ∙ ap length (sym all); buffer = e.buffer ∙ ap (λ (f : List ℤ). over f first) (sym all) };
       }
-
-  pub compared_next : (last : List ℤ) (words : ℕ) → words ≡ length new → last ≡ over new (take (length out - at) (drop at out))
-      → Compared n current used first (put_mid at (length out - at) out last) (k + 1) (at + words)
-  compared_next last words h l =
-      let filled = lent_over e.front new first out last at e.buffer e.place (omega (arith, line_room)) l in
-      let front_long = length-append e.front new in
-      record {
-        front = e.front ++ new;
-        lines = lines.0;
-        count = omega (arith, e.count, lines.1);
-        left = split;
-        place = omega (arith, front_long, e.place);
-        as_long = ap length filled ∙ over_length (e.front ++ new) first (omega (arith, front_long, e.place, line_room, e.as_long));
-        buffer = filled;
-      }
-
--- at the end
-pub compared_all : (n : ℕ) (current : List ℕ) (used : ℕ) (first out : List ℤ) (k at : ℕ) → n ≤ k → (e : Compared n current used first out k at) → lines_stored n current used ≡ e.front
-unfolding difference_clauses up_from stored
-compared_all n current used first out k at past e =
-    let none : e.lines ≡ 0 = omega (arith, e.count) in
-    e.left ∙ ap (λ (m : ℕ). e.front ++ lines_left n current used k m) none ∙ append-nil e.front
 
 -- ---- the last clause
 

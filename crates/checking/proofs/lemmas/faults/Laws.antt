@@ -11,11 +11,13 @@ use Rattle.bits.proofs.Bools.{and_parts, both, either, same_test, not_held, xor_
 use Rattle.bits.proofs.Digits.{bit-or, bit_pow}
 use Rattle.bits.proofs.Lists.{over_length}
 use Rattle.circuit.specs.declared.gate.Gate.{Gate}
+use Rattle.circuit.specs.declared.header.Header.{Header}
 use Rattle.circuit.specs.Gate.{max_lines, max_gates, not_gate, valid, fires}
 use Rattle.circuit.specs.Outcome.{served, Untouched}
 use Rattle.circuit.specs.Words.{gates_of, all_valid, gate_in}
-use Rattle.circuit.specs.Run.{run, Differs}
+use Rattle.circuit.specs.Run.{run, DiffersFor}
 use Rattle.circuit.proofs.Promises.{written_served, written_refused, cascade_count, fires_lines, lines_fires, valid_by_lines, lines_valid, valid_more, apply_gate, inverted_fired, inverted_idle, run_append, gate_valid, run_next}
+use Rattle.checking.specs.Compare.{Agree}
 use Rattle.checking.specs.Faults.{is_free, missing, missing_control, gate_masks, everywhere, stands, mask_where, masks_from, fault_masks, fault_outcome, fault_buffer}
 use Rattle.checking.specs.RefusalLaws.{Every, StatesGood}
 use Rattle.checking.specs.FaultLaws.{state_at, Candidate, Masking, mask_place, MasksStand, repaired_at, Repairs, with_control}
@@ -230,75 +232,75 @@ control_repairs positive k g v h f s e =
 
 -- ---- excluded lines
 
-pub excluded : (n : ℕ) (suspect reference : List Gate) (xs : List ℕ) (i k : ℕ) (positive : Bool) → n ≤ max_lines → all_valid n suspect ≡ true
-    → ((j : ℕ) → j < length xs → Differs n suspect reference (get_or xs j 0)) → i < length suspect → k < n → is_free (gate_in suspect i) k ≡ true
-    → (Candidate n suspect xs i positive k → ⊥)
-    → (j : ℕ) × (j < length xs) × Differs n (repaired_at i (with_control positive k) suspect) reference (get_or xs j 0)
-excluded n suspect reference xs i k positive few v differ h below free out =
+pub excluded : (h : Header) (suspect reference : List Gate) (xs : List ℕ) (i k : ℕ) (positive : Bool) → h.lines ≤ max_lines → all_valid h.lines suspect ≡ true
+    → Every (DiffersFor h suspect reference) xs → i < length suspect → k < h.lines → is_free (gate_in suspect i) k ≡ true
+    → (Candidate h.lines suspect xs i positive k → ⊥)
+    → (j : ℕ) × (j < length xs) × DiffersFor h (repaired_at i (with_control positive k) suspect) reference (get_or xs j 0)
+excluded h suspect reference xs i k positive few v differ inside below free out =
+    let n : ℕ = h.lines in
     let g : Gate = gate_in suspect i in
-    let w : valid max_lines g ≡ true = valid_more n max_lines g few (gate_valid n suspect i v h) in
+    let w : valid max_lines g ≡ true = valid_more n max_lines g few (gate_valid n suspect i v inside) in
     let fails : everywhere (missing positive k g) (take i suspect) xs ≡ false =
     not_held _ (λ e. out (stands_candidate n suspect xs i positive k below (both free e))) in
     let (j, l, e) = every_fails (missing positive k g) (take i suspect) xs fails in
-    let same = repair_leaves (missing positive k) (with_control positive k) suspect i h (control_repairs positive k g w (omega arith) free) (get_or xs j 0) e in
+    let same = repair_leaves (missing positive k) (with_control positive k) suspect i inside (control_repairs positive k g w (omega arith) free) (get_or xs j 0) e in
     let d = differ j l in
-    (j, l, record { state = d.state; outputs = λ q. d.outputs (sym same ∙ q) })
+    (j, l, record { permitted = d.permitted; line = d.line; counts = d.counts; outputs = λ q. d.outputs (ap (λ (y : ℕ). bit y d.line) (sym same) ∙ q) })
 
 -- ---- the call
 
-pub masks_untouched : (na : ℕ) (a : List ℕ) (nb : ℕ) (b states out : List ℕ) → Untouched (fault_outcome na a nb b states (length out)) out (fault_buffer na a nb b states out)
+pub masks_untouched : (ha : Header) (a : List ℕ) (hb : Header) (b states out : List ℕ) → Untouched (fault_outcome ha a hb b states (length out)) out (fault_buffer ha a hb b states out)
 unfolding fault_buffer
-masks_untouched na a nb b states out = written_refused (fault_masks na (gates_of a) states) out (fault_outcome na a nb b states (length out))
+masks_untouched ha a hb b states out = written_refused (fault_masks ha.lines (gates_of a) states) out (fault_outcome ha a hb b states (length out))
 
-module _ (na : ℕ) (a : List ℕ) (nb : ℕ) (b states out : List ℕ) (k : ℕ) (made : fault_outcome na a nb b states (length out) ≡ served k) where
+module _ (ha : Header) (a : List ℕ) (hb : Header) (b states out : List ℕ) (k : ℕ) (made : fault_outcome ha a hb b states (length out) ≡ served k) where
   abbrev masks : List ℕ
-  masks = fault_masks na (gates_of a) states
+  masks = fault_masks ha.lines (gates_of a) states
 
   abbrev last : List ℕ
-  last = fault_buffer na a nb b states out
+  last = fault_buffer ha a hb b states out
 
-  call : StatesGood na a nb b states k
-  call = (masks_made na a nb b states (length out) k made).0
+  call : StatesGood ha a hb b states k
+  call = (masks_made ha a hb b states (length out) k made).0
 
   suspect_count : length (gates_of a) ≡ k
-  suspect_count = cascade_count na a max_gates k call.pair.first_good
+  suspect_count = cascade_count ha.lines a max_gates k call.pair.first_good.cascade
 
   left : last ≡ over masks out
   unfolding fault_buffer
-  left = written_served masks out (fault_outcome na a nb b states (length out)) k made
+  left = written_served masks out (fault_outcome ha a hb b states (length out)) k made
 
   all_masks : length masks ≡ gate_masks * k
-  all_masks = masks_length na [] (gates_of a) states ∙ ap (λ (n : ℕ). gate_masks * n) suspect_count
+  all_masks = masks_length ha.lines [] (gates_of a) states ∙ ap (λ (n : ℕ). gate_masks * n) suspect_count
 
   -- a place among the masks
   masked : (place : ℕ) → place < gate_masks * k → get_or last place 0 ≡ get_or masks place 0
   masked place h = ap (λ (l : List ℕ). get_or l place 0) left ∙ get_or-append masks (drop (length masks) out) 0 place (omega (arith, all_masks))
 
-  lines : (i line : ℕ) (positive : Bool) → i < k → (bit (get_or last (mask_place positive i) 0) line ≡ true) ↔ Candidate na (gates_of a) states i positive line
+  lines : (i line : ℕ) (positive : Bool) → i < k → (bit (get_or last (mask_place positive i) 0) line ≡ true) ↔ Candidate ha.lines (gates_of a) states i positive line
   lines i line positive h =
-      rw (masked (mask_place positive i) (inside positive)) (masks_masking.lines na (gates_of a) states i line positive (omega (arith, suspect_count)))
+      rw (masked (mask_place positive i) (inside positive)) (masks_masking.lines ha.lines (gates_of a) states i line positive (omega (arith, suspect_count)))
     where
       inside : (positive : Bool) → mask_place positive i < gate_masks * k
       inside true = omega arith
       inside false = omega arith
 
-  pub masks_stand : MasksStand na (gates_of a) states k out last
+  pub masks_stand : MasksStand ha.lines (gates_of a) states k out last
   masks_stand =
       record {
-        long = ap length left ∙ over_length masks out (omega (arith, all_masks, (masks_made na a nb b states (length out) k made).1));
+        long = ap length left ∙ over_length masks out (omega (arith, all_masks, (masks_made ha a hb b states (length out) k made).1));
         lines = lines;
         rest = ap (drop (gate_masks * k)) left ∙ drop_at masks (drop (length masks) out) (gate_masks * k) all_masks ∙ ap (λ (n : ℕ). drop n out) all_masks;
       }
 
-  pub guilty_stands : (i line : ℕ) (positive : Bool) → i < k → line < na → is_free (gate_in (gates_of a) i) line ≡ true
-      → Every (λ x. run (repaired_at i (with_control positive line) (gates_of a)) x ≡ run (gates_of b) x) states
+  pub guilty_stands : (i line : ℕ) (positive : Bool) → i < k → line < ha.lines → is_free (gate_in (gates_of a) i) line ≡ true
+      → Every (Agree ha (repaired_at i (with_control positive line) (gates_of a)) (gates_of b)) states
       → bit (get_or last (mask_place positive i) 0) line ≡ true
   guilty_stands i line positive h below free agree =
       either (bit (get_or last (mask_place positive i) 0) line) (λ t. t)
       (λ t.
-      let c = call.pair.first_good in
+      let c = call.pair.first_good.cascade in
       let (j, l, d) =
-      excluded na (gates_of a) (gates_of b) states i line positive c.lines_high c.gates
-      (λ j l. record { state = call.inside j l; outputs = call.differing j l })
+      excluded ha (gates_of a) (gates_of b) states i line positive c.lines_high c.gates call.differing
       (omega (arith, suspect_count)) below free (λ x. true≢false (sym ((lines i line positive h).1 x) ∙ t)) in
-      absurd (d.outputs (agree j l)))
+      absurd (d.outputs (agree j l d.line d.counts)))

@@ -1,5 +1,5 @@
 -- The laws of the loops over gates and states, and of what the call answers and leaves. Assumes nothing.
-use Rattle.std.proofs.Common.{◌≡◌, ℕ, suc, ◌+◌, ◌*◌, ◌/◌, ◌^◌, ◌<◌, ◌≤◌, Bool, true, false, not, cond, ltb, None, Some, position, List, [], ◌∷◌, ◌++◌, map, length, get_or, take, drop, set, sym, refl, ap, ◌∙◌, subst, ap₂, append_assoc, arith, length-append, take-append-drop, drop_of_length-le, length-take-le, drop-cons, take_at, drop_at, le-leb}
+use Rattle.std.proofs.Common.{◌≡◌, ℕ, suc, ◌+◌, ◌*◌, ◌/◌, ◌<◌, ◌≤◌, Bool, true, false, not, cond, ltb, None, Some, position, List, [], ◌∷◌, ◌++◌, map, length, get_or, take, drop, set, sym, refl, ap, ◌∙◌, subst, ap₂, append_assoc, arith, length-append, take-append-drop, drop_of_length-le, length-take-le, drop-cons, take_at, drop_at, le-leb}
 use mathlib.Core.Bool.{and-true}
 use lib.Bits.{bit_and}
 use lib.Seq.{sets-eq}
@@ -9,12 +9,14 @@ use Rattle.std.proofs.lemmas.Grind.{common_steps}
 use Rattle.bits.specs.Lists.{over}
 use Rattle.bits.proofs.Lists.{two}
 use Rattle.circuit.specs.declared.gate.Gate.{Gate}
+use Rattle.circuit.specs.declared.header.Header.{Header}
 use Rattle.circuit.specs.Gate.{max_lines, max_gates, apply}
+use Rattle.circuit.specs.Header.{permits}
 use Rattle.circuit.specs.Outcome.{Outcome, served, refused, demand, written, Yields}
 use Rattle.circuit.specs.Refusal.{bad_state, agreeing_state, no_room}
-use Rattle.circuit.specs.Words.{gates_of, gate_at, pair_outcome, Cascade}
+use Rattle.circuit.specs.Words.{gates_of, gate_at, headed_pair_outcome, Cascade}
 use Rattle.circuit.specs.declared.words.Counts.{Counts}
-use Rattle.circuit.proofs.Promises.{demand_met, demand_failed, then_served, then_refused, then_both, told, gates_next, gates_end, pair_served}
+use Rattle.circuit.proofs.Promises.{demand_met, demand_failed, then_served, then_refused, then_both, told, gates_next, gates_end, headed_pair_served}
 use Rattle.checking.specs.Compare.{outputs_differ}
 use Rattle.checking.specs.Faults.{is_free, Fault, missing_control, gate_faults, gate_masks, stands, mask_where, masks_from, fault_masks, each_from, fault_check, fault_outcome, fault_buffer, everywhere}
 use Rattle.checking.specs.private.Narrowing.{kept, narrowed, narrowed_by}
@@ -153,62 +155,62 @@ module _ (test : ℕ → Bool) (number : ℕ) where
 
 -- ---- what the call answers and leaves
 
-module _ (na : ℕ) (a : List ℕ) (nb : ℕ) (b xs : List ℕ) where
-  abbrev Inside : Outcome ℕ
-  Inside = each_from (λ x. ltb x (2 ^ na)) bad_state 0 xs
+module _ (ha : Header) (a : List ℕ) (hb : Header) (b xs : List ℕ) where
+  abbrev Allowed : Outcome ℕ
+  Allowed = each_from (permits ha) bad_state 0 xs
 
   abbrev Differing : Outcome ℕ
-  Differing = each_from (outputs_differ (gates_of a) (gates_of b)) agreeing_state 0 xs
+  Differing = each_from (outputs_differ ha (gates_of a) (gates_of b)) agreeing_state 0 xs
 
-  pub fault_pair : (number place : ℕ) → pair_outcome na a nb b ≡ refused number place → fault_check na a nb b xs ≡ refused number place
+  pub fault_pair : (number place : ℕ) → headed_pair_outcome ha a hb b ≡ refused number place → fault_check ha a hb b xs ≡ refused number place
   unfolding fault_check
   fault_pair number place e = then_refused _ _ number place e
 
-  module _ (counts : Counts) (good : pair_outcome na a nb b ≡ served counts) where
-    pub fault_state : (number place : ℕ) → Inside ≡ refused number place → fault_check na a nb b xs ≡ refused number place
+  module _ (counts : Counts) (good : headed_pair_outcome ha a hb b ≡ served counts) where
+    pub fault_state : (number place : ℕ) → Allowed ≡ refused number place → fault_check ha a hb b xs ≡ refused number place
     unfolding fault_check
     fault_state number place e = then_served _ _ counts good ∙ then_refused _ _ number place e
 
-    module _ (k : ℕ) (inside : Inside ≡ served k) where
-      pub fault_agree : (number place : ℕ) → Differing ≡ refused number place → fault_check na a nb b xs ≡ refused number place
+    module _ (k : ℕ) (allowed : Allowed ≡ served k) where
+      pub fault_agree : (number place : ℕ) → Differing ≡ refused number place → fault_check ha a hb b xs ≡ refused number place
       unfolding fault_check
-      fault_agree number place e = then_served _ _ counts good ∙ then_served _ _ k inside ∙ then_refused _ _ number place e
+      fault_agree number place e = then_served _ _ counts good ∙ then_served _ _ k allowed ∙ then_refused _ _ number place e
 
-      pub fault_good : (m : ℕ) → Differing ≡ served m → fault_check na a nb b xs ≡ served counts.first
+      pub fault_good : (m : ℕ) → Differing ≡ served m → fault_check ha a hb b xs ≡ served counts.first
       unfolding fault_check
-      fault_good m e = then_served _ _ counts good ∙ then_served _ _ k inside ∙ then_served _ _ m e
+      fault_good m e = then_served _ _ counts good ∙ then_served _ _ k allowed ∙ then_served _ _ m e
 
   -- the suspect of a served test
-  pub fault_suspect : (gates : ℕ) → fault_check na a nb b xs ≡ served gates → Cascade na a max_gates gates
+  pub fault_suspect : (gates : ℕ) → fault_check ha a hb b xs ≡ served gates → Cascade ha.lines a max_gates gates
   unfolding fault_check
   fault_suspect gates e =
-      let (counts, good, f) = then_both (pair_outcome na a nb b) _ gates e in
-      let (k, p, g) = then_both Inside _ gates f in
+      let (counts, good, f) = then_both (headed_pair_outcome ha a hb b) _ gates e in
+      let (k, p, g) = then_both Allowed _ gates f in
       let (m, q, h) = then_both Differing _ gates g in
       let first : counts.first ≡ gates = ap (λ (o : Outcome ℕ). value_of o) h in
-      subst (λ (j : ℕ). Cascade na a max_gates j) first (pair_served na a nb b counts good).first_good
+      subst (λ (j : ℕ). Cascade ha.lines a max_gates j) first (headed_pair_served ha a hb b counts good).first_good.cascade
     where
       value_of : Outcome ℕ → ℕ
       value_of (served x) = x
       value_of (refused x y) = 0
 
   module _ (out : List ℕ) where
-    pub fault_told : (r o : Outcome ℕ) (last : List ℕ) → r ≡ o → fault_outcome na a nb b xs (length out) ≡ o → last ≡ written o (fault_masks na (gates_of a) xs) out
-        → Yields r last (fault_outcome na a nb b xs (length out)) (fault_buffer na a nb b xs out)
+    pub fault_told : (r o : Outcome ℕ) (last : List ℕ) → r ≡ o → fault_outcome ha a hb b xs (length out) ≡ o → last ≡ written o (fault_masks ha.lines (gates_of a) xs) out
+        → Yields r last (fault_outcome ha a hb b xs (length out)) (fault_buffer ha a hb b xs out)
     unfolding fault_buffer
-    fault_told r o last e f l = told (fault_masks na (gates_of a) xs) out r last (fault_outcome na a nb b xs (length out)) o e f l
+    fault_told r o last e f l = told (fault_masks ha.lines (gates_of a) xs) out r last (fault_outcome ha a hb b xs (length out)) o e f l
 
   module _ (room : ℕ) where
-    pub fault_refused : (number place : ℕ) → fault_check na a nb b xs ≡ refused number place → fault_outcome na a nb b xs room ≡ refused number place
+    pub fault_refused : (number place : ℕ) → fault_check ha a hb b xs ≡ refused number place → fault_outcome ha a hb b xs room ≡ refused number place
     unfolding fault_outcome
     fault_refused number place e = then_refused _ _ number place e
 
-    module _ (gates : ℕ) (good : fault_check na a nb b xs ≡ served gates) where
-      pub fault_short : room < gate_masks * gates → fault_outcome na a nb b xs room ≡ refused no_room 0
+    module _ (gates : ℕ) (good : fault_check ha a hb b xs ≡ served gates) where
+      pub fault_short : room < gate_masks * gates → fault_outcome ha a hb b xs room ≡ refused no_room 0
       unfolding fault_outcome
       fault_short h = then_served _ _ gates good ∙ demand_failed _ _ _ _ (lt-leb _ _ h)
 
-      pub fault_made : gate_masks * gates ≤ room → fault_outcome na a nb b xs room ≡ served gates
+      pub fault_made : gate_masks * gates ≤ room → fault_outcome ha a hb b xs room ≡ served gates
       unfolding fault_outcome
       fault_made h = then_served _ _ gates good ∙ demand_met _ _ _ _ (le-leb _ _ h)
 

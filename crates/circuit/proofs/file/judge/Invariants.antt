@@ -4,7 +4,7 @@ use Rattle.circuit.proofs.lemmas.file.Steps.{Judging}
 use Rattle.circuit.proofs.file.judge.Given as goal
 
 abbrev pub invariant-loop-at : goal.invariant-loop-at
-invariant-loop-at l = Judging l.n l.text l.start l.at l.gates
+invariant-loop-at l = Judging l.h l.first l.text l.start l.at l.gates
 
 abbrev pub decreases-loop-at : goal.decreases-loop-at
 decreases-loop-at l = length l.text - l.at

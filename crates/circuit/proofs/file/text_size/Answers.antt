@@ -4,7 +4,7 @@ use Rattle.circuit.proofs.lemmas.file.Writes.{sizing_start, sizing_on, sizing_do
 use Rattle.circuit.proofs.file.text_size.Goals as goal
 
 pub loop-i-init : goal.loop-i-init
-loop-i-init c = sizing_start _ _ _ c.requires c.digits-size.ensures
+loop-i-init c = sizing_start _ _ _ c.requires.0 c.header_size-size.ensures.0 c.header_size-size.ensures.1
 
 pub loop-i-preserved : goal.loop-i-preserved
 loop-i-preserved c =

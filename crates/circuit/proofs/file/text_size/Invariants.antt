@@ -3,4 +3,4 @@ use Rattle.circuit.proofs.lemmas.file.Writes.{Sizing}
 use Rattle.circuit.proofs.file.text_size.Given as goal
 
 abbrev pub invariant-loop-i : goal.invariant-loop-i
-invariant-loop-i l = Sizing l.n l.words l.size l.i
+invariant-loop-i l = Sizing l.fn.h l.words l.size l.i

@@ -5,14 +5,15 @@ use mathlib.Core.List.{head-eq_of_cons-eq, tail-eq_of_cons-eq, cons≢nil, nil�
 use borrow.Author.Tests.{lt-leb}
 use Rattle.bits.proofs.Bools.{either, and_parts, both, not_held, refuted, cond-true, cond-false, and_second, or_right}
 use Rattle.circuit.specs.declared.gate.Gate.{Gate}
+use Rattle.circuit.specs.declared.header.Header.{Header}
 use Rattle.circuit.specs.Gate.{max_lines, max_gates, valid, Control, Inside}
 use Rattle.circuit.specs.Outcome.{Outcome, served, refused, demand, and_then}
 use Rattle.circuit.specs.Refusal.{wrong_form, bad_line_count, line_outside}
 use Rattle.circuit.specs.Words.{all_valid, line_count_good}
 use Rattle.circuit.specs.Text.{tab, line_feed, plus_sign, minus_sign, lines_word, gate_word, end_word, number_text, control_text, controls_text, gate_text, gate_line, end_line, gate_lines}
-use Rattle.circuit.specs.File.{Line, no_line, first_line, later_lines, lines_of, line_size, parted_by, fields_of, same, number_of, line_of, control_of, controls_from, among, rising_from, gate_of, closed_gate, gate_fields, gate_on, header_fields, header_on, is_end, Reading, read_from}
+use Rattle.circuit.specs.File.{Line, no_line, first_line, later_lines, lines_of, line_size, parted_by, fields_of, same, number_of, line_of, control_of, controls_from, among, rising_from, gate_of, closed_gate, gate_fields, gate_on, count_fields, count_on, is_end, Reading, read_from}
 use Rattle.circuit.specs.FileLaws as laws
-use Rattle.circuit.specs.FileLaws.{NumberField, ControlField, HeaderOffence, ControlsOffence, Among, NotRising, GoodFields, LineOffence}
+use Rattle.circuit.specs.FileLaws.{NumberField, ControlField, CountOffence, ControlsOffence, Among, NotRising, GoodFields, LineOffence}
 use Rattle.circuit.proofs.lemmas.Outcome.{never, demand_met, demand_failed, then_served, then_refused}
 use Rattle.circuit.proofs.lemmas.words.Tests.{lines_good, good_lines}
 use Rattle.circuit.proofs.lemmas.file.Lines.{separated, whole, parts_back, same_true, same_self, true_same, Cut, cut_first}
@@ -29,7 +30,7 @@ pub field_number : (i : ℕ) (f : List ℕ) (k : ℕ) → NumberField f k → nu
 field_number i f k n = ap (number_of i) n.text ∙ number_text_lem i k n.small
 
 -- a field that is no number
-no_number : (i : ℕ) (f : List ℕ) → ((k : ℕ) → NumberField f k → ⊥) → number_of i f ≡ refused wrong_form i
+pub no_number : (i : ℕ) (f : List ℕ) → ((k : ℕ) → NumberField f k → ⊥) → number_of i f ≡ refused wrong_form i
 no_number i f h = go (number_of i f) refl
   where
     go : (o : Outcome ℕ) → number_of i f ≡ o → number_of i f ≡ refused wrong_form i
@@ -335,7 +336,7 @@ module _ (n i count : ℕ) (lines_high : n ≤ max_lines) (l : Line) where
 
 pub data HeaderFound (l : Line) : Outcome ℕ → Type 0 where
   good : (n : ℕ) → 1 ≤ n → n ≤ max_lines → l.bytes ≡ header_text n → l.ended ≡ true → HeaderFound l (served n)
-  bad : (number : ℕ) → HeaderOffence l number → HeaderFound l (refused number 0)
+  bad : (number : ℕ) → CountOffence l number → HeaderFound l (refused number 0)
 
 header_bytes : (l : Line) (k : List ℕ) (n : ℕ) → fields_of l.bytes ≡ lines_word ∷ k ∷ [] → k ≡ number_text n → l.bytes ≡ header_text n
 unfolding separated
@@ -363,8 +364,8 @@ module _ (l : Line) where
           subst (HeaderFound l) (sym (number_wrong 0 k number place q) ∙ q)
           (bad 1 (laws.no_number k fs e (λ n f. never (field_number 0 k n f) q)))
 
-  pub header_found : HeaderFound l (header_on l)
-  unfolding header_fields
+  pub header_found : HeaderFound l (count_on l)
+  unfolding count_fields
   header_found = go (fields_of l.bytes) refl
     where
       other : (f k : List ℕ) (fs : List (List ℕ)) → fields_of l.bytes ≡ f ∷ k ∷ fs → same f lines_word ≡ false → HeaderFound l (refused wrong_form 0)
@@ -373,7 +374,7 @@ module _ (l : Line) where
       word : (f k : List ℕ) (fs : List (List ℕ)) → fields_of l.bytes ≡ f ∷ k ∷ fs → same f lines_word ≡ true → fields_of l.bytes ≡ lines_word ∷ k ∷ fs
       word f k fs e s = e ∙ ap (λ (x : List ℕ). x ∷ k ∷ fs) (same_true f lines_word s)
 
-      go : (fs : List (List ℕ)) → fields_of l.bytes ≡ fs → HeaderFound l (header_fields l.ended fs)
+      go : (fs : List (List ℕ)) → fields_of l.bytes ≡ fs → HeaderFound l (count_fields l.ended fs)
       go [] e = bad 1 (laws.no_lines (λ k fs q. nil≢cons (sym e ∙ q)))
       go (f ∷ []) e = bad 1 (laws.no_lines (λ k fs q. nil≢cons (tail-eq_of_cons-eq (sym e ∙ q))))
       go (f ∷ k ∷ []) e =
@@ -383,55 +384,55 @@ module _ (l : Line) where
           (number_found k [] (word f k [] e s) (λ n. demand l.ended wrong_form 0 (served n)) (λ n h low high.
           either l.ended
           (λ d. subst (HeaderFound l) (sym (demand_met {A = ℕ} _ _ _ _ d)) (good n low high (header_bytes l k n (word f k [] e s) h.text) d))
-          (λ d. subst (HeaderFound l) (sym (demand_failed {A = ℕ} _ _ _ _ d)) (bad 1 (HeaderOffence.no_end k [] (word f k [] e s) n h low high (λ q x. refuted d x)))))))
+          (λ d. subst (HeaderFound l) (sym (demand_failed {A = ℕ} _ _ _ _ d)) (bad 1 (CountOffence.no_end k [] (word f k [] e s) n h low high (λ q x. refuted d x)))))))
           (λ s. subst (HeaderFound l) (sym (demand_failed {A = ℕ} _ _ _ _ s)) (other f k [] e s))
       go (f ∷ k ∷ x ∷ fs) e =
           either (same f lines_word)
           (λ s.
           subst (HeaderFound l) (sym (demand_met {A = ℕ} _ _ _ _ s))
           (number_found k (x ∷ fs) (word f k (x ∷ fs) e s) (λ n. refused wrong_form 0) (λ n h low high.
-          bad 1 (HeaderOffence.no_end k (x ∷ fs) (word f k (x ∷ fs) e s) n h low high (λ q d. cons≢nil q)))))
+          bad 1 (CountOffence.no_end k (x ∷ fs) (word f k (x ∷ fs) e s) n h low high (λ q d. cons≢nil q)))))
           (λ s. subst (HeaderFound l) (sym (demand_failed {A = ℕ} _ _ _ _ s)) (other f k (x ∷ fs) e s))
 
   -- the other way
-  pub header_refused : (number : ℕ) → HeaderOffence l number → header_on l ≡ refused number 0
-  unfolding header_fields
+  pub header_refused : (number : ℕ) → CountOffence l number → count_on l ≡ refused number 0
+  unfolding count_fields
   header_refused number (laws.no_lines h) = go (fields_of l.bytes) refl
     where
       wrong_word : (f k : List ℕ) (fs : List (List ℕ)) → fields_of l.bytes ≡ f ∷ k ∷ fs → same f lines_word ≡ false
       wrong_word f k fs q = not_held (same f lines_word) (λ s. h k fs (q ∙ ap (λ (x : List ℕ). x ∷ k ∷ fs) (same_true f lines_word s)))
 
-      go : (fs : List (List ℕ)) → fields_of l.bytes ≡ fs → header_fields l.ended fs ≡ refused wrong_form 0
+      go : (fs : List (List ℕ)) → fields_of l.bytes ≡ fs → count_fields l.ended fs ≡ refused wrong_form 0
       go [] q = refl
       go (f ∷ []) q = refl
       go (f ∷ k ∷ []) q = demand_failed {A = ℕ} _ _ _ _ (wrong_word f k [] q)
       go (f ∷ k ∷ x ∷ fs) q = demand_failed {A = ℕ} _ _ _ _ (wrong_word f k (x ∷ fs) q)
   header_refused number (laws.no_number k [] e h) =
-      ap (header_fields l.ended) e ∙ demand_met {A = ℕ} _ _ _ _ (same_self lines_word) ∙ then_refused _ _ wrong_form 0 (no_number 0 k h)
+      ap (count_fields l.ended) e ∙ demand_met {A = ℕ} _ _ _ _ (same_self lines_word) ∙ then_refused _ _ wrong_form 0 (no_number 0 k h)
   header_refused number (laws.no_number k (x ∷ fs) e h) =
-      ap (header_fields l.ended) e ∙ demand_met {A = ℕ} _ _ _ _ (same_self lines_word) ∙ then_refused _ _ wrong_form 0 (no_number 0 k h)
+      ap (count_fields l.ended) e ∙ demand_met {A = ℕ} _ _ _ _ (same_self lines_word) ∙ then_refused _ _ wrong_form 0 (no_number 0 k h)
   header_refused number (laws.outside k [] e n h b) =
-      ap (header_fields l.ended) e ∙ demand_met {A = ℕ} _ _ _ _ (same_self lines_word) ∙ then_served _ _ n (field_number 0 k n h)
+      ap (count_fields l.ended) e ∙ demand_met {A = ℕ} _ _ _ _ (same_self lines_word) ∙ then_served _ _ n (field_number 0 k n h)
       ∙ demand_failed {A = ℕ} _ _ _ _ (not_held (line_count_good n) (λ t. let (low, high) = lines_good n t in b low high))
   header_refused number (laws.outside k (x ∷ fs) e n h b) =
-      ap (header_fields l.ended) e ∙ demand_met {A = ℕ} _ _ _ _ (same_self lines_word) ∙ then_served _ _ n (field_number 0 k n h)
+      ap (count_fields l.ended) e ∙ demand_met {A = ℕ} _ _ _ _ (same_self lines_word) ∙ then_served _ _ n (field_number 0 k n h)
       ∙ demand_failed {A = ℕ} _ _ _ _ (not_held (line_count_good n) (λ t. let (low, high) = lines_good n t in b low high))
-  header_refused number (HeaderOffence.no_end k [] e n h low high b) =
-      ap (header_fields l.ended) e ∙ demand_met {A = ℕ} _ _ _ _ (same_self lines_word) ∙ then_served _ _ n (field_number 0 k n h)
+  header_refused number (CountOffence.no_end k [] e n h low high b) =
+      ap (count_fields l.ended) e ∙ demand_met {A = ℕ} _ _ _ _ (same_self lines_word) ∙ then_served _ _ n (field_number 0 k n h)
       ∙ demand_met {A = ℕ} _ _ _ _ (good_lines n low high)
       ∙ demand_failed {A = ℕ} _ _ _ _ (not_held l.ended (λ d. b refl d))
-  header_refused number (HeaderOffence.no_end k (x ∷ fs) e n h low high b) =
-      ap (header_fields l.ended) e ∙ demand_met {A = ℕ} _ _ _ _ (same_self lines_word) ∙ then_served _ _ n (field_number 0 k n h)
+  header_refused number (CountOffence.no_end k (x ∷ fs) e n h low high b) =
+      ap (count_fields l.ended) e ∙ demand_met {A = ℕ} _ _ _ _ (same_self lines_word) ∙ then_served _ _ n (field_number 0 k n h)
       ∙ demand_met {A = ℕ} _ _ _ _ (good_lines n low high)
 
 -- ---- the whole text
 
 -- a reading from the gates gs and `at` bytes on, of the rest r of a text: gate lines, then `end` or an offence
-pub data Walked (n first : ℕ) (gs : List Gate) (at : ℕ) (r : List ℕ) : Outcome Reading → Type 0 where
-  whole_text : (hs : List Gate) (rest : List ℕ) → r ≡ gate_lines hs ++ (end_line ++ rest) → all_valid n hs ≡ true → length gs + length hs ≤ max_gates
-      → Walked n first gs at r (served (record { lines = n; gates = gs ++ hs; taken = at + length (gate_lines hs ++ end_line) }))
-  stopped : (hs : List Gate) (rest : List ℕ) → r ≡ gate_lines hs ++ rest → all_valid n hs ≡ true → length gs + length hs ≤ max_gates
-      → (number : ℕ) → LineOffence n (length gs + length hs + first) (length gs + length hs) (first_line (lines_of rest)) number → Walked n first gs at r (refused number (length gs + length hs + first))
+pub data Walked (h : Header) (first : ℕ) (gs : List Gate) (at : ℕ) (r : List ℕ) : Outcome Reading → Type 0 where
+  whole_text : (hs : List Gate) (rest : List ℕ) → r ≡ gate_lines hs ++ (end_line ++ rest) → all_valid h.lines hs ≡ true → length gs + length hs ≤ max_gates
+      → Walked h first gs at r (served (record { header = h; gates = gs ++ hs; taken = at + length (gate_lines hs ++ end_line) }))
+  stopped : (hs : List Gate) (rest : List ℕ) → r ≡ gate_lines hs ++ rest → all_valid h.lines hs ≡ true → length gs + length hs ≤ max_gates
+      → (number : ℕ) → LineOffence h.lines (length gs + length hs + first) (length gs + length hs) (first_line (lines_of rest)) number → Walked h first gs at r (refused number (length gs + length hs + first))
 
 no_line_lem : (n i count : ℕ) → LineOffence n i count no_line 1
 unfolding parted_by
@@ -446,33 +447,33 @@ joined r l ls g b c x hs q =
     ∙ sym (append_assoc (gate_text g) (line_feed ∷ []) (gate_lines hs ++ x))
     ∙ sym (append_assoc (gate_line g) (gate_lines hs) x)
 
-module _ (n first : ℕ) (lines_high : n ≤ max_lines) where
-  pub walked : (ls : List Line) (gs : List Gate) (at : ℕ) (r : List ℕ) → lines_of r ≡ ls → length gs ≤ max_gates → Walked n first gs at r (read_from n first gs at ls)
+module _ (h : Header) (first : ℕ) (lines_high : h.lines ≤ max_lines) where
+  pub walked : (ls : List Line) (gs : List Gate) (at : ℕ) (r : List ℕ) → lines_of r ≡ ls → length gs ≤ max_gates → Walked h first gs at r (read_from h first gs at ls)
   unfolding read_from all_valid gate_lines
   walked [] gs at r e few =
       let o : length gs + 0 ≡ length gs = omega arith in
-      subst (λ (k : ℕ). Walked n first gs at r (refused wrong_form (k + first))) o
-      (stopped [] r refl refl (omega arith) 1 (subst (λ (l : Line). LineOffence n (length gs + 0 + first) (length gs + 0) l 1) (sym (ap first_line e)) (no_line_lem n (length gs + 0 + first) (length gs + 0))))
+      subst (λ (k : ℕ). Walked h first gs at r (refused wrong_form (k + first))) o
+      (stopped [] r refl refl (omega arith) 1 (subst (λ (l : Line). LineOffence h.lines (length gs + 0 + first) (length gs + 0) l 1) (sym (ap first_line e)) (no_line_lem h.lines (length gs + 0 + first) (length gs + 0))))
   walked (l ∷ ls) gs at r e few =
       either (is_end l)
       (λ z.
       let (d, b) = and_parts l.ended (same l.bytes end_word) z in
       let c = cut (cut_first r (ap (λ (x : List Line). (first_line x).ended) e ∙ d)) in
-      subst (Walked n first gs at r) (sym (cond-true (is_end l) _ _ z))
-      (subst (λ (k : ℕ). Walked n first gs at r (served (record { lines = n; gates = gs; taken = at + k })))
+      subst (Walked h first gs at r) (sym (cond-true (is_end l) _ _ z))
+      (subst (λ (k : ℕ). Walked h first gs at r (served (record { header = h; gates = gs; taken = at + k })))
       (sym (ap (λ (x : List ℕ). length x + 1) (same_true l.bytes end_word b)))
-      (subst (λ (x : List Gate). Walked n first gs at r (served (record { lines = n; gates = x; taken = at + 4 }))) (append-nil gs)
+      (subst (λ (x : List Gate). Walked h first gs at r (served (record { header = h; gates = x; taken = at + 4 }))) (append-nil gs)
       (whole_text [] (drop (line_size l) r)
       (c.text ∙ ap (λ (x : List ℕ). x ++ (line_feed ∷ drop (line_size l) r)) (same_true l.bytes end_word b)) refl (omega arith)))))
       (λ z.
-      subst (Walked n first gs at r) (sym (cond-false (is_end l) _ _ z))
-      (go (gate_on n (length gs + first) (length gs) l) (gate_found n (length gs + first) (length gs) lines_high l z)
+      subst (Walked h first gs at r) (sym (cond-false (is_end l) _ _ z))
+      (go (gate_on h.lines (length gs + first) (length gs) l) (gate_found h.lines (length gs + first) (length gs) lines_high l z)
       (λ g m c. walked ls (gs ++ (g ∷ [])) (at + line_size l) (drop (line_size l) r) c.later (omega (arith, length-append gs (g ∷ []))))))
     where
       cut : Cut r (first_line (lines_of r)) (later_lines (lines_of r)) → Cut r l ls
       cut c = subst (λ (x : List Line). Cut r (first_line x) (later_lines x)) e c
 
-      onward : (g : Gate) → valid n g ≡ true → l.bytes ≡ gate_text g → Cut r l ls → (o : Outcome Reading) → Walked n first (gs ++ (g ∷ [])) (at + line_size l) (drop (line_size l) r) o → Walked n first gs at r o
+      onward : (g : Gate) → valid h.lines g ≡ true → l.bytes ≡ gate_text g → Cut r l ls → (o : Outcome Reading) → Walked h first (gs ++ (g ∷ [])) (at + line_size l) (drop (line_size l) r) o → Walked h first gs at r o
       onward g v b c o (whole_text hs rest q w m) =
           let k : length (gs ++ (g ∷ [])) ≡ length gs + 1 = length-append gs (g ∷ []) in
           let s : line_size l ≡ length (gate_text g) + 1 = ap (λ (x : List ℕ). length x + 1) b in
@@ -481,25 +482,25 @@ module _ (n first : ℕ) (lines_high : n ≤ max_lines) where
           let a2 = length-append (gate_line g ++ gate_lines hs) end_line in
           let a3 = length-append (gate_line g) (gate_lines hs) in
           let t : at + length (gate_lines (g ∷ hs) ++ end_line) ≡ at + line_size l + length (gate_lines hs ++ end_line) = omega arith in
-          subst (λ (x : List Gate). Walked n first gs at r (served (record { lines = n; gates = x; taken = at + line_size l + length (gate_lines hs ++ end_line) })))
+          subst (λ (x : List Gate). Walked h first gs at r (served (record { header = h; gates = x; taken = at + line_size l + length (gate_lines hs ++ end_line) })))
           (sym (append_assoc gs (g ∷ []) hs))
-          (subst (λ (x : ℕ). Walked n first gs at r (served (record { lines = n; gates = gs ++ (g ∷ hs); taken = x }))) t
+          (subst (λ (x : ℕ). Walked h first gs at r (served (record { header = h; gates = gs ++ (g ∷ hs); taken = x }))) t
           (whole_text (g ∷ hs) rest (joined r l ls g b c (end_line ++ rest) hs q) (both v w) (omega arith)))
       onward g v b c o (stopped hs rest q w m number x) =
           let k : length (gs ++ (g ∷ [])) ≡ length gs + 1 = length-append gs (g ∷ []) in
           let p : length gs + length (g ∷ hs) ≡ length (gs ++ (g ∷ [])) + length hs = omega arith in
-          subst (λ (y : ℕ). Walked n first gs at r (refused number (y + first))) p
+          subst (λ (y : ℕ). Walked h first gs at r (refused number (y + first))) p
           (stopped (g ∷ hs) rest (joined r l ls g b c rest hs q) (both v w) (omega arith) number
-          (subst (λ (y : ℕ). LineOffence n (y + first) y (first_line (lines_of rest)) number) (sym p) x))
+          (subst (λ (y : ℕ). LineOffence h.lines (y + first) y (first_line (lines_of rest)) number) (sym p) x))
 
-      go : (o : Outcome Gate) → GateFound n (length gs + first) (length gs) l o
-          → ((g : Gate) → length gs < max_gates → Cut r l ls → Walked n first (gs ++ (g ∷ [])) (at + line_size l) (drop (line_size l) r) (read_from n first (gs ++ (g ∷ [])) (at + line_size l) ls))
-          → Walked n first gs at r (and_then o (λ g. read_from n first (gs ++ (g ∷ [])) (at + line_size l) ls))
+      go : (o : Outcome Gate) → GateFound h.lines (length gs + first) (length gs) l o
+          → ((g : Gate) → length gs < max_gates → Cut r l ls → Walked h first (gs ++ (g ∷ [])) (at + line_size l) (drop (line_size l) r) (read_from h first (gs ++ (g ∷ [])) (at + line_size l) ls))
+          → Walked h first gs at r (and_then o (λ g. read_from h first (gs ++ (g ∷ [])) (at + line_size l) ls))
       go o (good g v b d m) more =
           let c = cut (cut_first r (ap (λ (x : List Line). (first_line x).ended) e ∙ d)) in
-          onward g v b c (read_from n first (gs ++ (g ∷ [])) (at + line_size l) ls) (more g m c)
+          onward g v b c (read_from h first (gs ++ (g ∷ [])) (at + line_size l) ls) (more g m c)
       go o (bad number x) more =
           let p : length gs + 0 ≡ length gs = omega arith in
-          subst (λ (k : ℕ). Walked n first gs at r (refused number (k + first))) p
+          subst (λ (k : ℕ). Walked h first gs at r (refused number (k + first))) p
           (stopped [] r refl refl (omega arith) number
-          (subst (λ (y : ℕ). LineOffence n (y + first) y (first_line (lines_of r)) number) (sym p) (subst (λ (y : Line). LineOffence n (length gs + first) (length gs) y number) (sym (ap first_line e)) x)))
+          (subst (λ (y : ℕ). LineOffence h.lines (y + first) y (first_line (lines_of r)) number) (sym p) (subst (λ (y : Line). LineOffence h.lines (length gs + first) (length gs) y number) (sym (ap first_line e)) x)))

@@ -3,12 +3,12 @@ use Rattle.std.proofs.Common.{◌≡◌, ℕ, ◌+◌, ◌<◌, ◌≤◌, Bool,
 use Rattle.bits.proofs.Bools.{and_parts, both}
 use Rattle.bits.proofs.Lists.{free, free_append}
 use Rattle.circuit.specs.declared.gate.Gate.{Gate}
+use Rattle.circuit.specs.declared.header.Header.{Header}
 use Rattle.circuit.specs.Gate.{max_lines, max_gates, valid, Control, Inside, controls_of}
-use Rattle.circuit.specs.Outcome.{served, and_then}
+use Rattle.circuit.specs.Outcome.{served}
 use Rattle.circuit.specs.Words.{all_valid}
-use Rattle.circuit.specs.Text.{tab, line_feed, plus_sign, minus_sign, lines_word, gate_word, end_word, number_text, control_text, controls_text, gate_text, header_line, gate_line, end_line, gate_lines, text_of}
-use Rattle.circuit.specs.File.{Line, first_line, later_lines, lines_of, line_size, fields_of, same, line_of, control_of, controls_from, among, rising_from, gate_of, closed_gate, gate_fields, gate_on, header_fields, header_on, read_from, reading}
-use Rattle.circuit.specs.FileLaws.{FileCascade}
+use Rattle.circuit.specs.Text.{tab, line_feed, plus_sign, minus_sign, lines_word, gate_word, number_text, control_text, controls_text, gate_text, count_line, gate_line, gate_lines}
+use Rattle.circuit.specs.File.{lines_of, fields_of, same, line_of, control_of, controls_from, among, rising_from, gate_of, closed_gate, gate_fields, gate_on, count_fields, count_on, read_from}
 use Rattle.circuit.proofs.lemmas.Outcome.{demand_met, then_served}
 use Rattle.circuit.proofs.lemmas.gate.Valid.{valid_facts, valid_more}
 use Rattle.circuit.proofs.lemmas.words.Tests.{good_lines}
@@ -105,72 +105,47 @@ module _ (n : ℕ) (lines_high : n ≤ max_lines) where
       ∙ closed_good i g.target (controls_of g) (target_apart g m) (controls_rising g)
       ∙ ap served (gate_controls g m)
 
-  -- the gate lines of a cascade
-  pub gates_read_lem : (first : ℕ) (hs gs : List Gate) (at : ℕ) (r : List ℕ) → all_valid n hs ≡ true → length gs + length hs ≤ max_gates
-      → read_from n first gs at (lines_of (gate_lines hs ++ r)) ≡ read_from n first (gs ++ hs) (at + length (gate_lines hs)) (lines_of r)
+-- the gate lines of a cascade
+module _ (h : Header) (lines_high : h.lines ≤ max_lines) where
+  pub gates_read_lem : (first : ℕ) (hs gs : List Gate) (at : ℕ) (r : List ℕ) → all_valid h.lines hs ≡ true → length gs + length hs ≤ max_gates
+      → read_from h first gs at (lines_of (gate_lines hs ++ r)) ≡ read_from h first (gs ++ hs) (at + length (gate_lines hs)) (lines_of r)
   unfolding gate_lines all_valid read_from same
   gates_read_lem first [] gs at r v few =
       let e : at ≡ at + 0 = omega arith in
-      ap₂ (λ (l : List Gate) (k : ℕ). read_from n first l k (lines_of r)) (sym (append-nil gs)) e
-  gates_read_lem first (h ∷ hs) gs at r v few =
-      let (a, b) = and_parts (valid n h) (all_valid n hs) v in
-      let k : length (gs ++ (h ∷ [])) ≡ length gs + 1 = length-append gs (h ∷ []) in
-      let z : length (gate_line h) ≡ length (gate_text h) + 1 = length-append (gate_text h) (line_feed ∷ []) in
-      let m : length (gate_line h ++ gate_lines hs) ≡ length (gate_line h) + length (gate_lines hs) = length-append (gate_line h) (gate_lines hs) in
-      let e : at + (length (gate_text h) + 1) + length (gate_lines hs) ≡ at + length (gate_line h ++ gate_lines hs) = omega arith in
-      ap (λ (x : List ℕ). read_from n first gs at (lines_of x)) (append_assoc (gate_line h) (gate_lines hs) r)
-      ∙ ap (read_from n first gs at) (gate_line_lem h (gate_lines hs ++ r) a)
-      ∙ then_served _ _ h (gate_read h (length gs + first) (length gs) a (omega arith))
-      ∙ gates_read_lem first hs (gs ++ (h ∷ [])) (at + (length (gate_text h) + 1)) r b (omega arith)
-      ∙ ap₂ (λ (l : List Gate) (q : ℕ). read_from n first l q (lines_of r)) (append_assoc gs (h ∷ []) hs) e
+      ap₂ (λ (l : List Gate) (k : ℕ). read_from h first l k (lines_of r)) (sym (append-nil gs)) e
+  gates_read_lem first (g ∷ hs) gs at r v few =
+      let (a, b) = and_parts (valid h.lines g) (all_valid h.lines hs) v in
+      let k : length (gs ++ (g ∷ [])) ≡ length gs + 1 = length-append gs (g ∷ []) in
+      let z : length (gate_line g) ≡ length (gate_text g) + 1 = length-append (gate_text g) (line_feed ∷ []) in
+      let m : length (gate_line g ++ gate_lines hs) ≡ length (gate_line g) + length (gate_lines hs) = length-append (gate_line g) (gate_lines hs) in
+      let e : at + (length (gate_text g) + 1) + length (gate_lines hs) ≡ at + length (gate_line g ++ gate_lines hs) = omega arith in
+      ap (λ (x : List ℕ). read_from h first gs at (lines_of x)) (append_assoc (gate_line g) (gate_lines hs) r)
+      ∙ ap (read_from h first gs at) (gate_line_lem h.lines lines_high g (gate_lines hs ++ r) a)
+      ∙ then_served _ _ g (gate_read h.lines lines_high g (length gs + first) (length gs) a (omega arith))
+      ∙ gates_read_lem first hs (gs ++ (g ∷ [])) (at + (length (gate_text g) + 1)) r b (omega arith)
+      ∙ ap₂ (λ (l : List Gate) (q : ℕ). read_from h first l q (lines_of r)) (append_assoc gs (g ∷ []) hs) e
 
 -- ---- the header and `end`
 
 abbrev pub header_text : ℕ → List ℕ
 header_text n = lines_word ++ (tab ∷ number_text n)
 
-pub header_fields_lem : (n : ℕ) → n ≤ max_lines → fields_of (header_text n) ≡ lines_word ∷ number_text n ∷ []
+pub count_fields_lem : (n : ℕ) → n ≤ max_lines → fields_of (header_text n) ≡ lines_word ∷ number_text n ∷ []
 unfolding free
-header_fields_lem n h =
+count_fields_lem n h =
     parts_cut tab lines_word (number_text n) refl
     ∙ ap (λ (l : List (List ℕ)). lines_word ∷ l) (parts_one tab (number_text n) (number_free tab n (omega arith) (omega arith)))
 
-pub header_line_lem : (n : ℕ) (r : List ℕ) → n ≤ max_lines → lines_of (header_line n ++ r) ≡ record { bytes = header_text n; ended = true } ∷ lines_of r
+pub count_line_lem : (n : ℕ) (r : List ℕ) → n ≤ max_lines → lines_of (count_line n ++ r) ≡ record { bytes = header_text n; ended = true } ∷ lines_of r
 unfolding free
-header_line_lem n r h =
+count_line_lem n r h =
     ap (λ (x : List ℕ). lines_of (lines_word ++ (tab ∷ x))) (append_assoc (number_text n) (line_feed ∷ []) r)
     ∙ lines_cut (header_text n) r (number_free line_feed n (omega arith) (omega arith))
 
-pub header_read_lem : (n : ℕ) → 1 ≤ n → n ≤ max_lines → header_on (record { bytes = header_text n; ended = true }) ≡ served n
-unfolding header_fields
+pub header_read_lem : (n : ℕ) → 1 ≤ n → n ≤ max_lines → count_on (record { bytes = header_text n; ended = true }) ≡ served n
+unfolding count_fields
 header_read_lem n low high =
-    ap (header_fields true) (header_fields_lem n high)
+    ap (count_fields true) (count_fields_lem n high)
     ∙ demand_met _ _ _ _ (same_self lines_word)
     ∙ then_served _ _ n (number_text_lem 0 n (omega arith))
     ∙ demand_met _ _ _ _ (good_lines n low high)
-
--- a text that starts with a header and gate lines
-pub start_read : (n : ℕ) (gs : List Gate) (r : List ℕ) → FileCascade n gs
-    → reading (header_line n ++ (gate_lines gs ++ r)) ≡ read_from n 1 gs (length (header_line n) + length (gate_lines gs)) (lines_of r)
-unfolding reading
-start_read n gs r c =
-    let x : List ℕ = gate_lines gs ++ r in
-    let z : length (number_text n ++ (line_feed ∷ [])) ≡ length (number_text n) + 1 = length-append (number_text n) (line_feed ∷ []) in
-    let e : line_size (record { bytes = header_text n; ended = true }) ≡ length (header_line n) = omega arith in
-    ap (λ (ls : List Line). and_then (header_on (first_line ls)) (λ n. read_from n 1 [] (line_size (first_line ls)) (later_lines ls))) (header_line_lem n x c.lines_high)
-    ∙ then_served _ _ n (header_read_lem n c.lines_low c.lines_high)
-    ∙ ap (λ (k : ℕ). read_from n 1 [] k (lines_of x)) e
-    ∙ gates_read_lem n c.lines_high 1 gs [] (length (header_line n)) r c.gates (omega arith)
-
--- the text of a cascade, followed by anything
-pub text_read : (n : ℕ) (gs : List Gate) (rest : List ℕ) → FileCascade n gs
-    → reading (text_of n gs ++ rest) ≡ served (record { lines = n; gates = gs; taken = length (text_of n gs) })
-unfolding read_from free same
-text_read n gs rest c =
-    let a = length-append (header_line n) (gate_lines gs ++ end_line) in
-    let b = length-append (gate_lines gs) end_line in
-    let e : length (header_line n) + length (gate_lines gs) + 4 ≡ length (text_of n gs) = omega arith in
-    ap reading (append_assoc (header_line n) (gate_lines gs ++ end_line) rest ∙ ap (λ (x : List ℕ). header_line n ++ x) (append_assoc (gate_lines gs) end_line rest))
-    ∙ start_read n gs (end_line ++ rest) c
-    ∙ ap (read_from n 1 gs (length (header_line n) + length (gate_lines gs))) (lines_cut end_word rest refl)
-    ∙ ap (λ (k : ℕ). served (record { lines = n; gates = gs; taken = k })) e

@@ -5,18 +5,17 @@ use borrow.Rule.Slice.PartMut.{put_mid}
 use Rattle.bits.specs.Lists.{Put}
 use Rattle.bits.proofs.Bools.{and_parts}
 use Rattle.circuit.specs.declared.gate.Gate.{Gate}
+use Rattle.circuit.specs.declared.header.Header.{Header}
 use Rattle.circuit.specs.Gate.{max_lines, max_gates, valid}
 use Rattle.circuit.specs.Outcome.{Outcome, served, refused, written, Yields}
 use Rattle.circuit.specs.Refusal.{no_room}
-use Rattle.circuit.specs.Words.{gates_of, gate_at, all_valid, check_outcome}
-use Rattle.circuit.specs.Text.{header_line, gate_line, gate_lines, end_line, text_of}
+use Rattle.circuit.specs.Words.{gates_of, gate_at, all_valid, headed_outcome}
+use Rattle.circuit.specs.Text.{header_lines, gate_line, gate_lines, end_line, text_of}
 use Rattle.circuit.specs.File.{write_outcome, write_buffer}
-use Rattle.circuit.specs.private.Scan.{width}
 use Rattle.circuit.proofs.lemmas.Outcome.{demand_met, demand_failed, then_served, then_refused, told}
 use Rattle.circuit.proofs.lemmas.gate.Valid.{valid_facts}
 use Rattle.circuit.proofs.lemmas.words.Gates.{gates_next, gates_end}
-use Rattle.circuit.proofs.lemmas.file.scan.Laws.{width_two}
-use Rattle.circuit.proofs.lemmas.file.put.Laws.{Written, written_more, written_put, put_as, header_length}
+use Rattle.circuit.proofs.lemmas.file.put.Laws.{Written, written_more, written_put, put_as}
 
 -- the gates from gate i on
 abbrev pub gates_from : List ℕ → ℕ → List Gate
@@ -32,33 +31,33 @@ lines_end ws i h = ap gate_lines (gates_end ws i h)
 
 -- ---- what the loop that counts keeps
 
-pub record Sizing (n : ℕ) (ws : List ℕ) (size i : ℕ) : Type 0 where
+pub record Sizing (h : Header) (ws : List ℕ) (size i : ℕ) : Type 0 where
   pub few : length ws / 3 ≤ max_gates
-  pub sum : size + length (gate_lines (gates_from ws i)) ≡ length (text_of n (gates_of ws))
-  pub small : size ≤ 13 + 300 * i
+  pub sum : size + length (gate_lines (gates_from ws i)) ≡ length (text_of h (gates_of ws))
+  pub small : size ≤ 1504 + 800 * i
 
-pub sizing_start : (n : ℕ) (ws : List ℕ) (w : ℕ) → length ws / 3 ≤ max_gates → w ≡ width n → Sizing n ws (11 + w) 0
-sizing_start n ws w h e =
+pub sizing_start : (h : Header) (ws : List ℕ) (size : ℕ) → length ws / 3 ≤ max_gates → size ≡ length (header_lines h) → size ≤ 1500 → Sizing h ws (size + 4) 0
+sizing_start h ws size few e low =
     record {
-      few = h;
-      sum = omega (arith, header_length n, length-append (header_line n) (gate_lines (gates_of ws) ++ end_line), length-append (gate_lines (gates_of ws)) end_line);
-      small = omega (arith, width_two n);
+      few = few;
+      sum = omega (arith, length-append (header_lines h) (gate_lines (gates_of ws) ++ end_line), length-append (gate_lines (gates_of ws)) end_line);
+      small = omega arith;
     }
 
-pub sizing_on : (n : ℕ) (ws : List ℕ) (size i : ℕ) → Sizing n ws size i → i < length ws / 3 → (g : Gate) → g ≡ gate_at ws i → (r : ℕ) → r ≡ length (gate_line g) → r ≤ 300
-    → Sizing n ws (size + r) (i + 1)
-sizing_on n ws size i s h g e r q b =
+pub sizing_on : (h : Header) (ws : List ℕ) (size i : ℕ) → Sizing h ws size i → i < length ws / 3 → (g : Gate) → g ≡ gate_at ws i → (r : ℕ) → r ≡ length (gate_line g) → r ≤ 800
+    → Sizing h ws (size + r) (i + 1)
+sizing_on h ws size i s l g e r q b =
     let x = s.sum in
     let y = s.small in
     let z : r ≡ length (gate_line (gate_at ws i)) = q ∙ ap (λ (f : Gate). length (gate_line f)) e in
     record {
       few = s.few;
-      sum = omega (arith, ap length (lines_next ws i h), length-append (gate_line (gate_at ws i)) (gate_lines (gates_from ws (i + 1))));
+      sum = omega (arith, ap length (lines_next ws i l), length-append (gate_line (gate_at ws i)) (gate_lines (gates_from ws (i + 1))));
       small = omega arith;
     }
 
-pub sizing_done : (n : ℕ) (ws : List ℕ) (size i : ℕ) → Sizing n ws size i → length ws / 3 ≤ i → size ≡ length (text_of n (gates_of ws))
-sizing_done n ws size i s h = omega (arith, s.sum, ap length (lines_end ws i h))
+pub sizing_done : (h : Header) (ws : List ℕ) (size i : ℕ) → Sizing h ws size i → length ws / 3 ≤ i → size ≡ length (text_of h (gates_of ws))
+sizing_done h ws size i s l = omega (arith, s.sum, ap length (lines_end ws i l))
 
 -- ---- what the loop that writes keeps: the lines up to gate i stand at the buffer's start
 
@@ -113,26 +112,26 @@ module _ (ws first out : List ℕ) (at i : ℕ) (t : Typing ws first out at i) w
       put_as _ _ _ _ _ (ap (λ (l : List ℕ). t.front ++ (l ++ end_line)) (sym (lines_end ws i h)) ∙ t.left)
       (written_put _ _ _ _ (written_more first out at t.front t.filled r last end_line (omega (arith, typing_at)) p k))
 
-pub text_parts : (n : ℕ) (ws : List ℕ) → length (text_of n (gates_of ws)) ≡ length (header_line n) + length (gate_lines (gates_of ws) ++ end_line)
-text_parts n ws = length-append (header_line n) (gate_lines (gates_of ws) ++ end_line)
+pub text_parts : (h : Header) (ws : List ℕ) → length (text_of h (gates_of ws)) ≡ length (header_lines h) + length (gate_lines (gates_of ws) ++ end_line)
+text_parts h ws = length-append (header_lines h) (gate_lines (gates_of ws) ++ end_line)
 
 -- ---- what the call answers and leaves
 
-module _ (n : ℕ) (ws : List ℕ) (room : ℕ) where
-  pub write_refused : (number place : ℕ) → check_outcome n ws max_gates ≡ refused number place → write_outcome n ws room ≡ refused number place
+module _ (h : Header) (ws : List ℕ) (room : ℕ) where
+  pub write_refused : (number place : ℕ) → headed_outcome h ws max_gates ≡ refused number place → write_outcome h ws room ≡ refused number place
   unfolding write_outcome
   write_refused number place e = then_refused _ _ number place e
 
-  module _ (k : ℕ) (good : check_outcome n ws max_gates ≡ served k) where
-    pub write_short : room < length (text_of n (gates_of ws)) → write_outcome n ws room ≡ refused no_room 0
+  module _ (k : ℕ) (good : headed_outcome h ws max_gates ≡ served k) where
+    pub write_short : room < length (text_of h (gates_of ws)) → write_outcome h ws room ≡ refused no_room 0
     unfolding write_outcome
-    write_short h = then_served _ _ k good ∙ demand_failed _ _ _ _ (lt-leb _ _ h)
+    write_short l = then_served _ _ k good ∙ demand_failed _ _ _ _ (lt-leb _ _ l)
 
-    pub write_made : length (text_of n (gates_of ws)) ≤ room → write_outcome n ws room ≡ served (length (text_of n (gates_of ws)))
+    pub write_made : length (text_of h (gates_of ws)) ≤ room → write_outcome h ws room ≡ served (length (text_of h (gates_of ws)))
     unfolding write_outcome
-    write_made h = then_served _ _ k good ∙ demand_met _ _ _ _ (le-leb _ _ h)
+    write_made l = then_served _ _ k good ∙ demand_met _ _ _ _ (le-leb _ _ l)
 
-pub write_told : (n : ℕ) (ws out : List ℕ) (r o : Outcome ℕ) (last : List ℕ) → r ≡ o → write_outcome n ws (length out) ≡ o
-    → last ≡ written o (text_of n (gates_of ws)) out → Yields r last (write_outcome n ws (length out)) (write_buffer n ws out)
+pub write_told : (h : Header) (ws out : List ℕ) (r o : Outcome ℕ) (last : List ℕ) → r ≡ o → write_outcome h ws (length out) ≡ o
+    → last ≡ written o (text_of h (gates_of ws)) out → Yields r last (write_outcome h ws (length out)) (write_buffer h ws out)
 unfolding write_buffer
-write_told n ws out r o last e f l = told (text_of n (gates_of ws)) out r last (write_outcome n ws (length out)) o e f l
+write_told h ws out r o last e f l = told (text_of h (gates_of ws)) out r last (write_outcome h ws (length out)) o e f l

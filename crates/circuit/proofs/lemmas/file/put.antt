@@ -1,2 +1,3 @@
 -- The laws of `specs/private/Put.antt` and of what the writer's functions make.
 pub mod Laws
+pub mod Marks

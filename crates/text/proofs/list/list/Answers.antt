@@ -45,7 +45,7 @@ returns-in_err-second c =
     let rest = rest_lent c.args.input.now f.taken in
     rw (p.1, p.2) (says_file c.in_err-second.field-0.0 2 _ c.args.clauses.now _ c.in_err-second.ensures (λ number place e.
     first_good _ c.if-input-gt-MAX_INPUT.false _ (first (goal.at.returns-in_err-second c).In_ok-first)
-    ∙ verdict_refused f.cascade.lines (gates_of f.cascade.words.now) (drop f.taken c.args.input.now) number place
+    ∙ verdict_refused f.cascade.header (gates_of f.cascade.words.now) (drop f.taken c.args.input.now) number place
     (ap whole_file (sym rest) ∙ sym c.read-2.ensures ∙ ap (map_served (whole_of _)) e)))
 
 pub returns : goal.returns
@@ -53,5 +53,5 @@ returns c =
     let f = c.in_ok-first.first in
     let rest = rest_lent c.args.input.now f.taken in
     says_as _ _ _ _ (first_good _ c.if-input-gt-MAX_INPUT.false _ (first (goal.at.returns c).In_ok-first)
-    ∙ verdict_served f.cascade.lines (gates_of f.cascade.words.now) (drop f.taken c.args.input.now) (whole_of _ c.in_ok-second.second)
+    ∙ verdict_served f.cascade.header (gates_of f.cascade.words.now) (drop f.taken c.args.input.now) (whole_of _ c.in_ok-second.second)
     (ap whole_file (sym rest) ∙ sym c.read-2.ensures ∙ ap (map_served (whole_of _)) (said 2 _ _ c.in_ok-second.ensures))) c.list_pair.ensures

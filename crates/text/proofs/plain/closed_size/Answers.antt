@@ -14,4 +14,4 @@ pub loop-literal-preserved : goal.loop-literal-preserved
 loop-literal-preserved c = closing_on c.loop-literal.invariant (omega arith) (search rules) c.literal_size.ensures.size
 
 pub returns : goal.returns
-returns c = closing_done c.loop-literal.invariant (omega arith)
+returns c = closing_done c.loop-literal.invariant (omega arith) (search rules)

@@ -1,6 +1,8 @@
 -- The laws of the writer: bytes put at the start of a buffer and after those, the lines of a mask, and the controls that it writes. Assumes nothing.
-use Rattle.std.proofs.Common.{◌≡◌, ℕ, zero, suc, ◌+◌, ◌-◌, ◌*◌, ◌/◌, ◌^◌, ◌<◌, ◌≤◌, Bool, true, false, cond, leb, List, [], ◌∷◌, ◌++◌, map, length, take, drop, set, sym, refl, ap, ◌∙◌, subst, ap₂, append_assoc, append-nil, div-lt_iff_lt-mul, arith, drop-drop, length-append, length-drop, length-take, take_all, pow_pos, le-leb}
-use mathlib.Core.List.{map-append}
+use Rattle.std.proofs.Common.{◌≡◌, ℕ, zero, suc, ◌+◌, ◌-◌, ◌*◌, ◌/◌, ◌^◌, ◌<◌, ◌≤◌, Bool, true, false, cond, leb, List, [], ◌∷◌, ◌++◌, map, length, take, drop, set, sym, refl, ap, ◌∙◌, subst, ap₂, append-nil, div-lt_iff_lt-mul, arith, drop-drop, length-append, length-drop, length-take, take_all, pow_pos, le-leb}
+use Rattle.std.specs.List.{flat_map}
+use Rattle.std.proofs.Math.Nat.{mul-suc, mul-zero}
+use Rattle.std.proofs.lemmas.List.Concat.{flat_map-append}
 use lib.Bits.{bit_and, bit_or, or_lt, and_le_l}
 use lib.Count.{ones, count_trailing_zeros}
 use lib.Seq.{sets-eq, take-append_seam, drop-append-add}
@@ -14,7 +16,7 @@ use Rattle.bits.proofs.Lowest.{lowest_below, lines_on, lines_done}
 use Rattle.circuit.specs.declared.gate.Gate.{Gate}
 use Rattle.circuit.specs.Gate.{max_lines, Control, control_at, controls_below, controls_of}
 use Rattle.circuit.proofs.lemmas.gate.Controls.{control_on, controls_lines}
-use Rattle.circuit.specs.Text.{tab, line_feed, number_text, control_text, controls_text, gate_text, gate_line, header_line}
+use Rattle.circuit.specs.Text.{tab, line_feed, number_text, control_text, controls_text, gate_text, gate_line, count_line}
 use Rattle.circuit.specs.private.Put.{mask_gate}
 use Rattle.circuit.specs.private.Scan.{width}
 use Rattle.circuit.proofs.lemmas.file.scan.Rest.{number_width}
@@ -86,25 +88,17 @@ rest_length out at h = omega (arith, length-take (length out - at) (drop at out)
 
 -- ---- the controls on the lines of a mask
 
-pub text_append : (xs ys : List Control) → controls_text (xs ++ ys) ≡ controls_text xs ++ controls_text ys
+-- the control on a line, by the mask of the positive ones
+abbrev pub control_piece : ℕ → ℕ → List ℕ
+control_piece positive k = tab ∷ control_text (control_on positive k)
+
+lines_text : (p : ℕ) (ls : List ℕ) → controls_text (map (control_on p) ls) ≡ flat_map (control_piece p) ls
 unfolding controls_text
-text_append [] ys = refl
-text_append (c ∷ xs) ys = ap (λ (l : List ℕ). (tab ∷ control_text c) ++ l) (text_append xs ys) ∙ sym (append_assoc (tab ∷ control_text c) (controls_text xs) (controls_text ys))
+lines_text p [] = refl
+lines_text p (k ∷ ls) = ap (λ (l : List ℕ). control_piece p k ++ l) (lines_text p ls)
 
--- the text of the controls on these lines, by the mask of the positive ones
-abbrev pub lines_text : ℕ → List ℕ → List ℕ
-lines_text positive ls = controls_text (map (control_on positive) ls)
-
-pub lines_append : (p : ℕ) (a b : List ℕ) → lines_text p (a ++ b) ≡ lines_text p a ++ lines_text p b
-lines_append p a b = ap controls_text (map-append (control_on p) a b) ∙ text_append (map (control_on p) a) (map (control_on p) b)
-
--- one line more
-lines_more : (p : ℕ) (a : List ℕ) (k : ℕ) → lines_text p (a ++ (k ∷ [])) ≡ lines_text p a ++ (tab ∷ control_text (control_on p k))
-unfolding controls_text
-lines_more p a k = lines_append p a (k ∷ []) ∙ ap (λ (l : List ℕ). lines_text p a ++ l) (append-nil (tab ∷ control_text (control_on p k)))
-
-pub mask_text : (p q : ℕ) → controls_text (controls_of (mask_gate p q)) ≡ lines_text p (lines_in (bit_or p q) max_lines)
-mask_text p q = ap controls_text (controls_lines (mask_gate p q) max_lines)
+pub mask_text : (p q : ℕ) → controls_text (controls_of (mask_gate p q)) ≡ flat_map (control_piece p) (lines_in (bit_or p q) max_lines)
+mask_text p q = ap controls_text (controls_lines (mask_gate p q) max_lines) ∙ lines_text p (lines_in (bit_or p q) max_lines)
 
 pub control_length : (c : Control) → length (control_text c) ≡ 1 + width c.line
 control_length c = omega (arith, number_width c.line)
@@ -118,7 +112,7 @@ same_below g (suc m) = ap (λ (l : List Control). l ++ control_at g m) (same_bel
 pub same_controls : (g : Gate) → controls_text (controls_of (mask_gate g.positive g.negative)) ≡ controls_text (controls_of g)
 same_controls g = ap controls_text (same_below g max_lines)
 
--- ---- how long the controls are
+-- ---- how long the texts of lines are
 
 -- how many of the lines have two digits
 unfoldable wide : List ℕ → ℕ
@@ -130,11 +124,12 @@ unfolding wide
 wide_append [] b = omega arith
 wide_append (k ∷ a) b = omega (arith, wide_append a b)
 
-text_size : (p : ℕ) (ls : List ℕ) → length (lines_text p ls) ≡ 3 * length ls + wide ls
-unfolding wide controls_text
-text_size p [] = refl
-text_size p (k ∷ ls) =
-    omega (arith, length-append (tab ∷ control_text (control_on p k)) (lines_text p ls), control_length (control_on p k), digits_of (leb 10 k), text_size p ls)
+-- texts of so many bytes, and a second digit from line 10 on
+lines_long : (each : ℕ) (f : ℕ → List ℕ) → ((k : ℕ) → length (f k) + 1 ≡ each + width k) → (ls : List ℕ) → length (flat_map f ls) ≡ each * length ls + wide ls
+unfolding wide
+lines_long each f h [] = omega (arith, mul-zero each)
+lines_long each f h (k ∷ ls) =
+    omega (arith, length-append (f k) (flat_map f ls), h k, digits_of (leb 10 k), lines_long each f h ls, mul-suc each (length ls))
   where
     digits_of : (b : Bool) → cond b 2 1 ≡ 1 + cond b 1 0
     digits_of true = refl
@@ -165,69 +160,70 @@ wide_high x (suc n) =
     one true = unfold wide in ap (λ (t : Bool). cond t 1 0 + 0) (le-leb 10 (10 + n) (omega arith))
     one false = unfold wide in refl
 
--- three bytes a control, and a second digit from line 10 on
+-- the same by the mask
+pub mask_long : (each : ℕ) (f : ℕ → List ℕ) → ((k : ℕ) → length (f k) + 1 ≡ each + width k) → (x : ℕ) → x < 2 ^ 64
+    → each * ones x + ones (x / 2 ^ 10) ≡ length (flat_map f (lines_in x max_lines))
+mask_long each f h x l =
+    sym (lines_long each f h (lines_in x 64) ∙ ap₂ (λ (a b : ℕ). each * a + b) (lines_ones 64 x l) (wide_high x 54 ∙ lines_ones 54 (x / 2 ^ 10) ((div-lt_iff_lt-mul (pow_pos 10)).1 l)))
+
+-- three bytes a control
 pub controls_long : (p q : ℕ) → p < 2 ^ 64 → q < 2 ^ 64
     → 3 * ones (bit_or p q) + ones (bit_or p q / 2 ^ 10) ≡ length (controls_text (controls_of (mask_gate p q)))
 controls_long p q hp hq =
-    let x : ℕ = bit_or p q in
-    let h : x < 2 ^ 64 = or_lt 64 p q hp hq in
-    sym (ap length (mask_text p q)
-    ∙ text_size p (lines_in x 64)
-    ∙ ap₂ (λ (a b : ℕ). 3 * a + b) (lines_ones 64 x h) (wide_high x 54 ∙ lines_ones 54 (x / 2 ^ 10) ((div-lt_iff_lt-mul (pow_pos 10)).1 h)))
+    mask_long 3 (control_piece p) (λ k. omega (arith, control_length (control_on p k))) (bit_or p q) (or_lt 64 p q hp hq) ∙ sym (ap length (mask_text p q))
 
 pub gate_length : (g : Gate) → length (gate_line g) ≡ 3 + width g.target + length (controls_text (controls_of g))
 gate_length g =
     omega (arith, length-append (103 ∷ tab ∷ (number_text g.target ++ controls_text (controls_of g))) (line_feed ∷ []), length-append (number_text g.target) (controls_text (controls_of g)), number_width g.target)
 
-pub header_length : (n : ℕ) → length (header_line n) ≡ 7 + width n
+pub header_length : (n : ℕ) → length (count_line n) ≡ 7 + width n
 header_length n = omega (arith, length-append (number_text n) (line_feed ∷ []), number_width n)
 
 -- the same bytes, said in another way
 pub put_as : (r : ℕ) (last a b first : List ℕ) → a ≡ b → Put r last a first → Put r last b first
 put_as r last a b first e p = record { count = p.count ∙ ap length e; buffer = p.buffer ∙ ap (λ (l : List ℕ). over l first) e }
 
--- what the loop over lines keeps: `left` has the lines that are left, and the controls on the others stand at the start of the buffer
-pub record Putting (positive negative : ℕ) (first out : List ℕ) (at left : ℕ) : Type 0 where
+-- what a loop over the lines of a mask keeps: `left` has the lines that are left, and the texts of the others stand at the start of the buffer
+pub record Putting (f : ℕ → List ℕ) (mask : ℕ) (first out : List ℕ) (at left : ℕ) : Type 0 where
   pub below : left < 2 ^ max_lines
   pub passed : List ℕ
-  pub all : lines_in (bit_or positive negative) max_lines ≡ passed ++ lines_in left max_lines
-  pub written : Written first out at (lines_text positive passed)
-  pub room : length (controls_text (controls_of (mask_gate positive negative))) ≤ length first
+  pub all : lines_in mask max_lines ≡ passed ++ lines_in left max_lines
+  pub written : Written first out at (flat_map f passed)
+  pub room : length (flat_map f (lines_in mask max_lines)) ≤ length first
 
-pub putting_start : (p q : ℕ) (out : List ℕ) → bit_or p q < 2 ^ max_lines → length (controls_text (controls_of (mask_gate p q))) ≤ length out → Putting p q out out 0 (bit_or p q)
-unfolding controls_text
-putting_start p q out b h = record { below = b; passed = []; all = refl; written = written_none out; room = h }
+pub putting_start : (f : ℕ → List ℕ) (mask : ℕ) (out : List ℕ) → mask < 2 ^ max_lines → length (flat_map f (lines_in mask max_lines)) ≤ length out → Putting f mask out out 0 mask
+putting_start f mask out b h = record { below = b; passed = []; all = refl; written = written_none out; room = h }
 
-module _ (p q : ℕ) (first out : List ℕ) (at left : ℕ) (t : Putting p q first out at left) where
-  pub putting_done : left ≡ 0 → Put at out (controls_text (controls_of (mask_gate p q))) first
+module _ (f : ℕ → List ℕ) (mask : ℕ) (first out : List ℕ) (at left : ℕ) (t : Putting f mask first out at left) where
+  pub putting_done : left ≡ 0 → Put at out (flat_map f (lines_in mask max_lines)) first
   putting_done e =
-      put_as at out _ _ first (sym (mask_text p q ∙ ap (lines_text p) (lines_done max_lines max_lines (bit_or p q) left t.passed t.all e)))
-      (written_put first out at _ t.written)
+      put_as at out _ _ first (sym (ap (flat_map f) (lines_done max_lines max_lines mask left t.passed t.all e))) (written_put first out at _ t.written)
 
   module _ (some : 0 < left) (k : ℕ) (is : k ≡ count_trailing_zeros max_lines left) where
     pub line_below : k < max_lines
     line_below = omega (arith, is, lowest_below max_lines max_lines left (omega arith) some t.below)
 
-    more : lines_in (bit_or p q) max_lines ≡ (t.passed ++ (k ∷ [])) ++ lines_in (bit_and left (left - 1)) max_lines
-    more = lines_on max_lines max_lines (bit_or p q) left t.passed t.all (omega arith) some t.below k is
+    more : lines_in mask max_lines ≡ (t.passed ++ (k ∷ [])) ++ lines_in (bit_and left (left - 1)) max_lines
+    more = lines_on max_lines max_lines mask left t.passed t.all (omega arith) some t.below k is
 
-    pub putting_room : at + length (tab ∷ control_text (control_on p k)) ≤ length out
+    text_more : flat_map f (t.passed ++ (k ∷ [])) ≡ flat_map f t.passed ++ f k
+    text_more = flat_map-append f t.passed (k ∷ []) ∙ ap (λ (l : List ℕ). flat_map f t.passed ++ l) (append-nil (f k))
+
+    pub putting_room : at + length (f k) ≤ length out
     putting_room =
-        let a = ap length (mask_text p q ∙ ap (lines_text p) more ∙ lines_append p (t.passed ++ (k ∷ [])) (lines_in (bit_and left (left - 1)) max_lines)) in
+        let a = ap length (ap (flat_map f) more ∙ flat_map-append f (t.passed ++ (k ∷ [])) (lines_in (bit_and left (left - 1)) max_lines)) in
         omega
-        (arith, a, length-append (lines_text p (t.passed ++ (k ∷ []))) (lines_text p (lines_in (bit_and left (left - 1)) max_lines)), ap length (lines_more p t.passed k), length-append (lines_text p t.passed) (tab ∷ control_text (control_on p k)), t.written.long, t.written.same, t.room)
+        (arith, a, length-append (flat_map f (t.passed ++ (k ∷ []))) (flat_map f (lines_in (bit_and left (left - 1)) max_lines)), ap length text_more, length-append (flat_map f t.passed) (f k), t.written.long, t.written.same, t.room)
 
-    pub putting_on : (b : Bool) → b ≡ bit p k → (r : ℕ) (last : List ℕ) → Put r last (tab ∷ control_text (record { line = k; positive = b })) (take (length out - at) (drop at out))
-        → length last ≡ length (take (length out - at) (drop at out)) → Putting p q first (put_mid at (length out - at) out last) (at + r) (bit_and left (left - 1))
-    putting_on b e r last put kept =
-        let w = written_more first out at _ t.written r last _ (omega (arith, putting_room)) put kept in
-        let f : lines_text p t.passed ++ (tab ∷ control_text (record { line = k; positive = b })) ≡ lines_text p (t.passed ++ (k ∷ [])) =
-        ap (λ (s : Bool). lines_text p t.passed ++ (tab ∷ control_text (record { line = k; positive = s }))) e ∙ sym (lines_more p t.passed k) in
+    pub putting_on : (r : ℕ) (last text : List ℕ) → text ≡ f k → Put r last text (take (length out - at) (drop at out))
+        → length last ≡ length (take (length out - at) (drop at out)) → Putting f mask first (put_mid at (length out - at) out last) (at + r) (bit_and left (left - 1))
+    putting_on r last text e put kept =
+        let w = written_more first out at _ t.written r last _ (omega (arith, putting_room)) (put_as _ _ _ _ _ e put) kept in
         record {
           below = omega (arith, and_le_l left (left - 1), t.below);
           passed = t.passed ++ (k ∷ []);
           all = more;
-          written = subst (λ (l : List ℕ). Written first (put_mid at (length out - at) out last) (at + r) l) f w;
+          written = subst (λ (l : List ℕ). Written first (put_mid at (length out - at) out last) (at + r) l) (sym text_more) w;
           room = t.room;
         }
 
@@ -237,5 +233,5 @@ line_length g = length-append (gate_text g) (line_feed ∷ [])
 pub text_length : (g : Gate) → length (gate_text g) ≡ length (103 ∷ tab ∷ number_text g.target) + length (controls_text (controls_of g))
 text_length g = omega (arith, length-append (number_text g.target) (controls_text (controls_of g)))
 
-pub header_text_length : (n : ℕ) → length (header_line n) ≡ length (108 ∷ 105 ∷ 110 ∷ 101 ∷ 115 ∷ tab ∷ number_text n) + 1
+pub header_text_length : (n : ℕ) → length (count_line n) ≡ length (108 ∷ 105 ∷ 110 ∷ 101 ∷ 115 ∷ tab ∷ number_text n) + 1
 header_text_length n = omega (arith, length-append (number_text n) (line_feed ∷ []))

@@ -1,9 +1,11 @@
 -- The laws of the line from a position on: its next field, its end, and the gate or the header that it gives. Assumes nothing.
 use Rattle.std.proofs.Common.{◌≡◌, ℕ, suc, ◌+◌, ◌-◌, ◌<◌, ◌≤◌, Bool, true, false, not, ◌||◌, eqb, ltb, List, [], ◌∷◌, ◌++◌, None, Some, length, get_or, take, drop, sym, refl, ap, ◌∙◌, subst, ap₂, append_assoc, arith, length-drop, drop-drop, ltb-false, ltb-true, le-ltb, lt-ltb, eq-eqb, ne_eqb, eqb-true}
 use Rattle.std.specs.List.{starts_with}
+use mathlib.Core.Bool.{false≢true}
 use mathlib.Core.List.{cons≢nil}
 use lib.Seq.{drop-append_seam, append_snoc}
-use Rattle.bits.proofs.Bools.{either, and_parts, not_held, refuted, same_test, or_none, not_or}
+use Rattle.bits.proofs.Bools.{either, and_parts, both, not_held, refuted, same_test, or_none, not_or}
+use Rattle.bits.proofs.Lists.{free}
 use Rattle.circuit.specs.declared.gate.Gate.{Gate}
 use Rattle.circuit.specs.declared.file.scan.ControlRead.{ControlRead}
 use Rattle.circuit.specs.declared.file.scan.Numeral.{Numeral}
@@ -13,10 +15,10 @@ use Rattle.circuit.specs.Outcome.{Outcome, served, refused, demand, and_then}
 use Rattle.circuit.specs.Refusal.{wrong_form, bad_line_count, line_outside, target_controlled, not_rising, too_many_gates}
 use Rattle.circuit.specs.Words.{line_count_good}
 use Rattle.circuit.specs.Text.{tab, line_feed, lines_word, gate_word, end_word, number_text}
-use Rattle.circuit.specs.File.{Line, no_line, first_line, lines_of, line_size, longer, fields_of, same, number_of, line_of, control_of, controls_from, among, rising_from, gate_of, closed_gate, gate_fields, gate_on, header_fields, header_on, is_end}
-use Rattle.circuit.specs.private.Scan.{is_stop, field_at, line_at, width, numeral_at, added, later_fields, header_next, gate_next, line_next, control_next, controls_next}
+use Rattle.circuit.specs.File.{Line, no_line, first_line, lines_of, line_size, longer, fields_of, same, number_of, line_of, control_of, controls_from, among, rising_from, gate_of, closed_gate, gate_fields, gate_on, starts_fields, count_fields, count_on, is_end}
+use Rattle.circuit.specs.private.Scan.{is_stop, field_at, line_at, width, numeral_at, added, later_fields, count_next, gate_next, line_next, control_next, controls_next}
 use Rattle.circuit.proofs.lemmas.Outcome.{never, unserved, demand_met, demand_failed, demanded, then_served, then_refused, then_both, then_fails}
-use Rattle.circuit.proofs.lemmas.file.Lines.{line_more, line_over, lines_none, part_over, parts_none, parts_some, same_self, same_true, cut_first, separated, whole, parts_back}
+use Rattle.circuit.proofs.lemmas.file.Lines.{line_more, line_over, lines_none, part_over, parts_none, parts_some, same_self, same_true, true_same, lines_cut, cut_first, separated, whole, parts_back}
 use Rattle.circuit.proofs.lemmas.file.Lines as lines
 use Rattle.circuit.proofs.lemmas.file.Numbers.{text_short, text_long, text_number}
 use Rattle.circuit.proofs.lemmas.file.Controls.{next_line, among_push, rising_push, next_push}
@@ -320,7 +322,7 @@ pub record Worded (r w rest : List ℕ) : Type 0 where
   pub ended : (line_at r).ended ≡ (line_at rest).ended
   pub sizes : line_size (line_at r) ≡ length w + 1 + line_size (line_at rest)
 
-worded : (w r : List ℕ) → field_at (w ++ (tab ∷ r)) ≡ w → Worded (w ++ (tab ∷ r)) w r
+pub worded : (w r : List ℕ) → field_at (w ++ (tab ∷ r)) ≡ w → Worded (w ++ (tab ∷ r)) w r
 worded w r e =
     let p = parted (w ++ (tab ∷ r)) in
     let d : drop (length (field_at (w ++ (tab ∷ r)))) (w ++ (tab ∷ r)) ≡ tab ∷ r =
@@ -366,6 +368,29 @@ gate_other n i count at r e = then_refused _ _ wrong_form i (go (fields_of (line
         demand_failed {A = Gate} _ _ _ _
         (not_held (same f gate_word) (λ s.
         refuted e (word_starts gate_word r t fs (q ∙ ap (λ (x : List ℕ). x ∷ t ∷ fs) (same_true f gate_word s)))))
+
+-- the word is the first field exactly where the text starts with it and a tab
+pub word_there : (w r : List ℕ) → ((x : List ℕ) → field_at (w ++ (tab ∷ x)) ≡ w) → starts_with eqb r (w ++ (tab ∷ [])) ≡ starts_fields w (fields_of (line_at r).bytes)
+unfolding starts_fields
+word_there w r f = same_test _ _ there back
+  where
+    told : (x : List ℕ) → Worded r w x → (fs : List (List ℕ)) → fields_of (line_at x).bytes ≡ fs → starts_fields w (fields_of (line_at r).bytes) ≡ true
+    told x h [] q = absurd (parts_some tab (line_at x).bytes q)
+    told x h (k ∷ fs) q = ap (starts_fields w) (h.fields ∙ ap (λ (y : List (List ℕ)). w ∷ y) q) ∙ same_self w
+
+    there : starts_with eqb r (w ++ (tab ∷ [])) ≡ true → starts_fields w (fields_of (line_at r).bytes) ≡ true
+    there e =
+        let x : List ℕ = drop (length (w ++ (tab ∷ []))) r in
+        let is : r ≡ w ++ (tab ∷ x) = starts_true (w ++ (tab ∷ [])) r e ∙ append_assoc w (tab ∷ []) x in
+        told x (subst (λ (y : List ℕ). Worded y w x) (sym is) (worded w x (f x))) (fields_of (line_at x).bytes) refl
+
+    from : (fs : List (List ℕ)) → fields_of (line_at r).bytes ≡ fs → starts_fields w fs ≡ true → starts_with eqb r (w ++ (tab ∷ [])) ≡ true
+    from [] q e = absurd (false≢true e)
+    from (g ∷ []) q e = absurd (false≢true e)
+    from (g ∷ k ∷ fs) q e = word_starts w r k fs (q ∙ ap (λ (x : List ℕ). x ∷ k ∷ fs) (same_true g w e))
+
+    back : starts_fields w (fields_of (line_at r).bytes) ≡ true → starts_with eqb r (w ++ (tab ∷ [])) ≡ true
+    back e = from (fields_of (line_at r).bytes) refl e
 
 module _ (r : List ℕ) (starts : starts_with eqb r (103 ∷ 9 ∷ []) ≡ true) where
   pub gate_word_lem : Worded r gate_word (drop 2 r)
@@ -474,31 +499,45 @@ pub ruleset gate_rules = (gate_wrong, gate_above, gate_bad, gate_goes)
 
 -- ---- `end`
 
+-- a text that starts with a line, and its LF
+pub line_there : (w r : List ℕ) → free line_feed w ≡ true → starts_with eqb r (w ++ (line_feed ∷ [])) ≡ true → line_at r ≡ record { bytes = w; ended = true }
+line_there w r f e =
+    ap first_line
+    (ap lines_of (starts_true (w ++ (line_feed ∷ [])) r e ∙ append_assoc w (line_feed ∷ []) (drop (length (w ++ (line_feed ∷ []))) r))
+    ∙ lines_cut w (drop (length (w ++ (line_feed ∷ []))) r) f)
+
+pub there_line : (w r : List ℕ) → (line_at r).ended ≡ true → (line_at r).bytes ≡ w → starts_with eqb r (w ++ (line_feed ∷ [])) ≡ true
+there_line w r d b =
+    ap (λ (x : List ℕ). starts_with eqb x (w ++ (line_feed ∷ [])))
+    ((cut_first r d).text
+    ∙ ap (λ (x : List ℕ). x ++ (line_feed ∷ drop (line_size (line_at r)) r)) b
+    ∙ sym (append_assoc w (line_feed ∷ []) (drop (line_size (line_at r)) r)))
+    ∙ true_starts (w ++ (line_feed ∷ [])) (drop (line_size (line_at r)) r)
+
 end_line_lem : (r : List ℕ) → starts_with eqb r (101 ∷ 110 ∷ 100 ∷ 10 ∷ []) ≡ is_end (line_at r)
-unfolding lines_of same
+unfolding free
 end_line_lem r =
     same_test _ _
-    (λ e. ap (λ (x : List ℕ). is_end (line_at x)) (starts_true (101 ∷ 110 ∷ 100 ∷ 10 ∷ []) r e))
+    (λ e. let l = line_there end_word r refl e in both (ap (λ (x : Line). x.ended) l) (true_same (line_at r).bytes end_word (ap (λ (x : Line). x.bytes) l)))
     (λ e.
     let (d, b) = and_parts (line_at r).ended (same (line_at r).bytes end_word) e in
-    ap (λ (x : List ℕ). starts_with eqb x (101 ∷ 110 ∷ 100 ∷ 10 ∷ []))
-    ((cut_first r d).text ∙ ap (λ (x : List ℕ). x ++ (line_feed ∷ drop (line_size (line_at r)) r)) (same_true (line_at r).bytes end_word b)))
+    there_line end_word r d (same_true (line_at r).bytes end_word b))
 
 pub ends_there : (text : List ℕ) (at : ℕ) → starts_with eqb (take (length text - at) (drop at text)) (101 ∷ 110 ∷ 100 ∷ 10 ∷ []) ≡ is_end (line_at (drop at text))
 ends_there text at = starts_there text at (101 ∷ 110 ∷ 100 ∷ 10 ∷ []) ∙ end_line_lem (drop at text)
 
--- ---- the header
+-- ---- the line count
 
-pub header_other : (r : List ℕ) → starts_with eqb r (108 ∷ 105 ∷ 110 ∷ 101 ∷ 115 ∷ 9 ∷ []) ≡ false → header_next r ≡ refused wrong_form 0
-unfolding header_fields
-header_other r e = then_refused _ _ wrong_form 0 (go (fields_of (line_at r).bytes) refl)
+pub count_other : (r : List ℕ) → starts_with eqb r (108 ∷ 105 ∷ 110 ∷ 101 ∷ 115 ∷ 9 ∷ []) ≡ false → count_next r ≡ refused wrong_form 0
+unfolding count_fields
+count_other r e = then_refused _ _ wrong_form 0 (go (fields_of (line_at r).bytes) refl)
   where
     no : (f k : List ℕ) (fs : List (List ℕ)) → fields_of (line_at r).bytes ≡ f ∷ k ∷ fs → same f lines_word ≡ false
     no f k fs q =
         not_held (same f lines_word) (λ s.
         refuted e (word_starts lines_word r k fs (q ∙ ap (λ (x : List ℕ). x ∷ k ∷ fs) (same_true f lines_word s))))
 
-    go : (fs : List (List ℕ)) → fields_of (line_at r).bytes ≡ fs → header_fields (line_at r).ended fs ≡ refused wrong_form 0
+    go : (fs : List (List ℕ)) → fields_of (line_at r).bytes ≡ fs → count_fields (line_at r).ended fs ≡ refused wrong_form 0
     go [] q = refl
     go (f ∷ []) q = refl
     go (f ∷ k ∷ []) q = demand_failed {A = ℕ} _ _ _ _ (no f k [] q)
@@ -510,8 +549,8 @@ last_test ended [] n = demand ended wrong_form 0 (served n)
 last_test ended (x ∷ fs) n = refused wrong_form 0
 
 header_started : (ended : Bool) (k : List ℕ) (fs : List (List ℕ))
-    → header_fields ended (lines_word ∷ k ∷ fs) ≡ and_then (number_of 0 k) (λ n. demand (line_count_good n) bad_line_count 0 (last_test ended fs n))
-unfolding header_fields
+    → count_fields ended (lines_word ∷ k ∷ fs) ≡ and_then (number_of 0 k) (λ n. demand (line_count_good n) bad_line_count 0 (last_test ended fs n))
+unfolding count_fields
 header_started ended k [] = demand_met {A = ℕ} _ _ _ _ (same_self lines_word)
 header_started ended k (x ∷ fs) = demand_met {A = ℕ} _ _ _ _ (same_self lines_word)
 
@@ -526,15 +565,15 @@ module _ (r : List ℕ) (starts : starts_with eqb r (108 ∷ 105 ∷ 110 ∷ 101
   after : List ℕ
   after = drop (length (field_at (drop 6 r))) (drop 6 r)
 
-  header_parts : header_on (line_at r)
+  header_parts : count_on (line_at r)
       ≡ and_then (number_of 0 (field_at (drop 6 r))) (λ n. demand (line_count_good n) bad_line_count 0 (last_test (line_at r).ended (later_fields (fields_of (line_at after).bytes)) n))
   unfolding after
   header_parts =
-      ap (header_fields (line_at r).ended) (header_word.fields ∙ ap (λ (fs : List (List ℕ)). lines_word ∷ fs) (parted (drop 6 r)).fields)
+      ap (count_fields (line_at r).ended) (header_word.fields ∙ ap (λ (fs : List (List ℕ)). lines_word ∷ fs) (parted (drop 6 r)).fields)
       ∙ header_started (line_at r).ended (field_at (drop 6 r)) (later_fields (fields_of (line_at after).bytes))
 
-  pub header_wrong : None ≡ numeral_at 6 (number_of 0 (field_at (drop 6 r))) → header_next r ≡ refused wrong_form 0
-  header_wrong e = then_refused _ _ wrong_form 0 (header_parts ∙ then_refused _ _ wrong_form 0 (number_none 0 6 (field_at (drop 6 r)) e))
+  pub count_wrong : None ≡ numeral_at 6 (number_of 0 (field_at (drop 6 r))) → count_next r ≡ refused wrong_form 0
+  count_wrong e = then_refused _ _ wrong_form 0 (header_parts ∙ then_refused _ _ wrong_form 0 (number_none 0 6 (field_at (drop 6 r)) e))
 
   module _ (m : Numeral) (read : Some m ≡ numeral_at 6 (number_of 0 (field_at (drop 6 r)))) where
     told : number_of 0 (field_at (drop 6 r)) ≡ served m.value
@@ -546,11 +585,11 @@ module _ (r : List ℕ) (starts : starts_with eqb r (108 ∷ 105 ∷ 110 ∷ 101
     number_length : length (field_at (drop 6 r)) ≡ width m.value
     number_length = ap length (text_number 0 (field_at (drop 6 r)) m.value told).1 ∙ number_width m.value
 
-    pub header_outside : line_count_good m.value ≡ false → header_next r ≡ refused bad_line_count 0
-    header_outside e = then_refused _ _ bad_line_count 0 (header_parts ∙ then_served _ _ m.value told ∙ demand_failed {A = ℕ} _ _ _ _ e)
+    pub count_outside : line_count_good m.value ≡ false → count_next r ≡ refused bad_line_count 0
+    count_outside e = then_refused _ _ bad_line_count 0 (header_parts ∙ then_served _ _ m.value told ∙ demand_failed {A = ℕ} _ _ _ _ e)
 
     module _ (inside : line_count_good m.value ≡ true) where
-      header_last : header_on (line_at r) ≡ last_test (line_at r).ended (later_fields (fields_of (line_at after).bytes)) m.value
+      header_last : count_on (line_at r) ≡ last_test (line_at r).ended (later_fields (fields_of (line_at after).bytes)) m.value
       header_last = header_parts ∙ then_served _ _ m.value told ∙ demand_met {A = ℕ} _ _ _ _ inside
 
       after_is : after ≡ drop (6 + width m.value) r
@@ -576,8 +615,8 @@ module _ (r : List ℕ) (starts : starts_with eqb r (108 ∷ 105 ∷ 110 ∷ 101
       first_after h =
           default_any r m.next 0 10 h ∙ byte_at r m.next ∙ ap (λ (x : List ℕ). get_or x 0 10) (ap (λ (k : ℕ). drop k r) after_number ∙ sym after_is)
 
-      pub header_missing : length r ≤ m.next → header_next r ≡ refused wrong_form 0
-      header_missing h =
+      pub count_missing : length r ≤ m.next → count_next r ≡ refused wrong_form 0
+      count_missing h =
           let z : length after ≡ 0 = omega (arith, after_length, after_number) in
           then_refused _ _ wrong_form 0
           (header_last
@@ -587,8 +626,8 @@ module _ (r : List ℕ) (starts : starts_with eqb r (108 ∷ 105 ∷ 110 ∷ 101
           no_tab [] z e = let y : ◌≡◌ {A = ℕ} 10 9 = e in omega arith
           no_tab (b ∷ x) z e = omega arith
 
-      pub header_further : m.next < length r → (get_or r m.next 0 ≡ 10 → ⊥) → header_next r ≡ refused wrong_form 0
-      header_further h ne = then_refused _ _ wrong_form 0 (header_last ∙ go (later_fields (fields_of (line_at after).bytes)) refl)
+      pub count_further : m.next < length r → (get_or r m.next 0 ≡ 10 → ⊥) → count_next r ≡ refused wrong_form 0
+      count_further h ne = then_refused _ _ wrong_form 0 (header_last ∙ go (later_fields (fields_of (line_at after).bytes)) refl)
         where
           tabs : (x : List ℕ) → field_at x ≡ [] → (get_or x 0 10 ≡ 10 → ⊥) → get_or x 0 10 ≡ tab
           tabs [] e q = absurd (q refl)
@@ -605,17 +644,17 @@ module _ (r : List ℕ) (starts : starts_with eqb r (108 ∷ 105 ∷ 110 ∷ 101
               absurd (parts_some tab (line_at (drop 1 after)).bytes
               (sym (ap later_fields (tabbed_line after (tabs after after_stop (λ e. ne (first_after h ∙ e)))).fields) ∙ q))
 
-      pub header_good : m.next < length r → get_or r m.next 0 ≡ 10 → header_next r ≡ served (record { lines = m.value; next = m.next + 1 })
-      header_good h e =
+      pub count_good : m.next < length r → get_or r m.next 0 ≡ 10 → count_next r ≡ served (record { value = m.value; next = m.next + 1 })
+      count_good h e =
           let nt : get_or after 0 10 ≡ tab → ⊥ = λ q. ten (sym e ∙ first_after h ∙ q) in
           let (d, s) = end_there after after_stop nt (omega (arith, after_length, after_number)) in
           let z : line_size (line_at r) ≡ m.next + 1 = omega (arith, after_size, after_number) in
           then_served _ _ m.value
           (header_last
           ∙ ap₂ (λ (b : Bool) (fs : List (List ℕ)). last_test b fs m.value) (after_ended ∙ d) (end_fields after after_stop nt))
-          ∙ ap (λ (k : ℕ). served (record { lines = m.value; next = k })) z
+          ∙ ap (λ (k : ℕ). served (record { value = m.value; next = k })) z
         where
           ten : ◌≡◌ {A = ℕ} 10 tab → ⊥
           ten q = omega arith
 
-pub ruleset header_rules = (header_other, header_wrong, header_outside, header_missing, header_further, header_good)
+pub ruleset count_rules = (count_other, count_wrong, count_outside, count_missing, count_further, count_good)

@@ -1,5 +1,5 @@
 -- `text::pair::CascadeRead::read` meets its contract. Assumes nothing.
-use Rattle.std.proofs.Common.{ℕ, ◌+◌, sym, ap, ◌∙◌}
+use Rattle.std.proofs.Common.{ℕ, ◌+◌, sym, ap, ap₂, ◌∙◌}
 use Rattle.std.proofs.lemmas.Result.{err_from_is_err_and}
 use Rattle.circuit.specs.Outcome.{refused, served}
 use Rattle.circuit.specs.Refusal.{wrong_form}
@@ -15,11 +15,11 @@ returns-in_err-start c =
 
 pub returns-then-start-text : goal.returns-then-start-text
 returns-then-start-text c =
-    ap (λ (k : ℕ). refused wrong_form (k + 2)) (sym (gates_length c.in_ok-start.start.cascade.words.now))
+    ap₂ (λ (m k : ℕ). refused wrong_form (m + k + 2)) c.mark_lines.ensures.0 (sym (gates_length c.in_ok-start.start.cascade.words.now))
     ∙ sym (whole_after c.args.text.now _ (sym c.in_ok-start.ensures) c.if-start-text.true)
 
 pub returns : goal.returns
 returns c =
     let s = c.in_ok-start.start.cascade in
-    ap (λ (k : ℕ). served (record { lines = s.lines; gates = gates_of s.words.now; taken = k })) (sym c.if-start-text.false)
+    ap (λ (k : ℕ). served (record { header = s.header; gates = gates_of s.words.now; taken = k })) (sym c.if-start-text.false)
     ∙ sym (whole_good c.args.text.now _ (sym c.in_ok-start.ensures) c.if-start-text.false)

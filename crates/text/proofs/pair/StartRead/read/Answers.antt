@@ -8,7 +8,7 @@ use Rattle.text.proofs.pair.StartRead.read.Goals as goal
 use Rattle.text.proofs.pair.StartRead.read.Goals.{In_ok-counts}
 
 -- the file was read
-whole : (c : In_ok-counts) → FileRead c.args.text.now c.in_ok-counts.counts.lines c.in_ok-counts.counts.gates c.in_ok-counts.counts.taken c.read.new.out
+whole : (c : In_ok-counts) → FileRead c.args.text.now c.in_ok-counts.counts.header c.in_ok-counts.counts.gates c.in_ok-counts.counts.taken c.read.new.out
 whole c = file_read _ (length c.args.room.now) c.requires _ _ _ c.read.new.out _ refl (sym c.in_ok-counts.ensures.answer) c.in_ok-counts.ensures.buffer
 
 pub returns-in_err-counts : goal.returns-in_err-counts
@@ -28,4 +28,4 @@ invariant_of-result c = record { cascade = own_count _ _ (whole (goal.at.invaria
 pub returns : goal.returns
 returns c =
     let w = whole (goal.at.returns c).In_ok-counts in
-    ap (λ (gs : List Gate). served (record { lines = c.in_ok-counts.counts.lines; gates = gs; taken = c.in_ok-counts.counts.taken })) w.gates_are ∙ sym w.is
+    ap (λ (gs : List Gate). served (record { header = c.in_ok-counts.counts.header; gates = gs; taken = c.in_ok-counts.counts.taken })) w.gates_are ∙ sym w.is

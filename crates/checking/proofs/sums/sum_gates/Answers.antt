@@ -1,12 +1,11 @@
--- `checking::clauses::list_sizes` meets its contract.
-use Rattle.std.proofs.Common.{◌≡◌, ℕ, ◌+◌, ◌^◌, ◌%◌, ◌/◌, ◌≤◌, true, length, sym, ap, ◌∙◌, subst, arith}
+-- `checking::sums::sum_gates` meets its contract.
+use Rattle.std.proofs.Common.{◌≡◌, ℕ, ◌+◌, ◌^◌, ◌%◌, ◌≤◌, true, sym, ap, ◌∙◌, subst, arith}
 use lib.Bits.{bit_or}
 use Rattle.circuit.specs.Gate.{max_lines, valid}
-use Rattle.circuit.specs.Outcome.{served}
 use Rattle.circuit.proofs.Promises.{then_refused, valid_facts, next_bad}
-use Rattle.checking.proofs.lemmas.clauses.Loop.{controls_more, controls_few, Summed, summed_start, summed_next, summed, summed_all}
-use Rattle.checking.proofs.clauses.list_sizes.Goals as goal
-use Rattle.checking.proofs.clauses.list_sizes.Goals.{After-control_count-k, Else-not-valid}
+use Rattle.checking.proofs.lemmas.clauses.Loop.{controls_more, controls_few, Summed, summed_start, summed_next, summed_all}
+use Rattle.checking.proofs.sums.sum_gates.Goals as goal
+use Rattle.checking.proofs.sums.sum_gates.Goals.{After-control_count-k, Else-not-valid}
 
 pub loop-i-init : goal.loop-i-init
 loop-i-init c = summed_start c.args.n c.args.words.now
@@ -43,6 +42,4 @@ loop-i-preserved c =
     c.extra_variables-variables.result c.extra_clauses-clauses.result c.control_count-k.ensures c.extra_variables-variables.ensures c.extra_clauses-clauses.ensures)
 
 pub returns : goal.returns
-returns c =
-    ap (λ (k : ℕ). served (summed c.args.n (length c.args.words.now / 3) c.loop-i.variables c.loop-i.clauses c.loop-i.controls k)) c.count.ensures.0
-    ∙ summed_all c.args.n c.args.words.now _ _ _ c.loop-i.hit c.loop-i.i (omega arith) c.loop-i.invariant
+returns c = summed_all c.args.n c.args.words.now _ _ _ c.loop-i.hit c.loop-i.i (omega arith) c.loop-i.invariant
