@@ -57,11 +57,7 @@ pub extern "C" fn cascade_read(text: &[u8], out: &mut [u64]) -> CascadeReadAnswe
 }
 
 #[unsafe(no_mangle)]
-pub extern "C" fn cascade_write(
-    header: Header,
-    words: &[u64],
-    out: &mut [u8],
-) -> CascadeWriteAnswer
+pub extern "C" fn cascade_write(header: Header, words: &[u64], out: &mut [u8]) -> CascadeWriteAnswer
     ensures { Yields result out.new (write_answer (write_outcome header words.now (length out.old))) (write_buffer header words.now out.old) }
 {
     match circuit::file::write(header, words, out) {
