@@ -23,9 +23,7 @@ pub fn emit(n: u64, words: &[u64], out: &mut [i16]) -> SizesAnswer {
     };
     let mut current = inputs();
     let mut used = n as i16;
-    for &gate in words.as_chunks().0 {
-        rest = put_gate(gate, &mut current, &mut used, rest);
-    }
+    rest = put_gates(words.as_chunks().0.iter(), &mut current, &mut used, rest);
     put_differences(plain::unmarked(n), &inputs(), &current, used, rest);
     answer
 }
@@ -51,56 +49,55 @@ pub fn pair_emit(ha: Header, a: &[u64], hb: Header, b: &[u64], out: &mut [i16]) 
     }
     let (mut first, mut second) = (inputs(), inputs());
     let mut used = ha.lines as i16;
-    for &gate in a.as_chunks().0 {
-        rest = put_gate(gate, &mut first, &mut used, rest);
-    }
+    let [of_a, of_b] = [a, b].map(|words| words.as_chunks().0.iter());
+    rest = put_gates(of_a, &mut first, &mut used, rest);
     if ha.constants | ha.junk != 0 {
-        for &gate in b.as_chunks().0 {
-            rest = put_gate(gate, &mut second, &mut used, rest);
-        }
+        rest = put_gates(of_b, &mut second, &mut used, rest);
     } else {
-        for &gate in b.as_chunks().0.iter().rev() {
-            rest = put_gate(gate, &mut first, &mut used, rest);
-        }
+        rest = put_gates(of_b.rev(), &mut first, &mut used, rest);
         (first, second) = (second, first);
     }
     put_differences(ha, &first, &second, used, rest);
     answer
 }
 
-/// The clauses of a gate; what is left.
-#[inline(always)]
-fn put_gate<'a>(
-    [positive, negative, target]: [u64; 3],
+/// The clauses of the gates; what is left.
+#[inline(never)]
+fn put_gates<'a, 'g>(
+    gates: impl Iterator<Item = &'g [u64; 3]>,
     current: &mut Current,
-    used: &mut i16,
-    rest: &'a mut [i16],
+    variables: &mut i16,
+    mut rest: &'a mut [i16],
 ) -> &'a mut [i16] {
-    let target = target as usize % 64;
-    let v = current[target];
-    let lines = positive | negative;
-    let left = match lines.count_ones() as usize {
-        0 => {
-            *used += 1;
-            put(rest, [1, 2, *used, v])
+    let mut used = *variables;
+    for &[positive, negative, target] in gates {
+        let target = target as usize % 64;
+        let v = current[target];
+        let lines = positive | negative;
+        match lines.count_ones() as usize {
+            0 => {
+                rest = put(rest, [1, 2, used + 1, v]);
+                used += 1;
+            }
+            1 => {
+                let c = literal(positive, lines, current);
+                rest = put(rest, [1, 3, -(used + 1), v, c]);
+                used += 1;
+            }
+            k => {
+                let p = used + 1;
+                rest = put(rest, [0, k as i16 + 1, p]);
+                let (long, after) = rest.split_at_mut(k);
+                let (short, after) = after.split_at_mut(4 * k);
+                put_controls(positive, lines, current, p, long, short.as_chunks_mut().0);
+                rest = put(after, [1, 3, -(p + 1), v, p]);
+                used += 2;
+            }
         }
-        1 => {
-            let c = literal(positive, lines, current);
-            *used += 1;
-            put(rest, [1, 3, -*used, v, c])
-        }
-        k => {
-            let p = *used + 1;
-            let rest = put(rest, [0, k as i16 + 1, p]);
-            let (long, after) = rest.split_at_mut(k);
-            let (short, after) = after.split_at_mut(4 * k);
-            put_controls(positive, lines, current, p, long, short.as_chunks_mut().0);
-            *used += 2;
-            put(after, [1, 3, -*used, v, p])
-        }
-    };
-    current[target] = *used;
-    left
+        current[target] = used;
+    }
+    *variables = used;
+    rest
 }
 
 /// The words at the start; what is left.

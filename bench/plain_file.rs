@@ -260,8 +260,7 @@ fn put_marks(
     at
 }
 
-/// The gate lines. Within `write` this code changes with what stands before it, and takes 0.6 to 1.9 times as
-/// long.
+/// The gate lines.
 #[inline(never)]
 fn put_gates(out: &mut [u8], mut at: usize, words: &[u64]) -> usize {
     for gate in words.chunks_exact(3) {
