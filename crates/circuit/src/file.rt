@@ -28,6 +28,7 @@ pub struct ReadCounts {
 }
 
 // The counts of a cascade with this header whose gate lines start at line `first` and at a position; else 1, 3, 4, 5 or 6 by line.
+#[inline(never)]
 fn judge(text: &[u8], h: Header, first: u64, start: usize) -> Result<ReadCounts, Refusal>
     requires { (start ≤ length text.now) × (h.lines ≤ max_lines) × (first ≤ start) }
     ensures { outcome_of result ≡ counts_from h first start text.now }

@@ -140,6 +140,17 @@ pub(crate) fn header(text: &[u8]) -> Result<HeaderNext, Refusal>
     ensures { outcome_of result ≡ header_next text.now }
 {
     let lines = crate::file::scan::line_count(text)?;
+    let next = lines.next;
+    // Without marks no group is read, which takes less time.
+    if !starts(text, next, true) {
+        if !starts(text, next, false) {
+            return Ok(HeaderNext {
+                header: Header::unmarked(lines.value),
+                place: 1,
+                next,
+            });
+        }
+    }
     let constants = marks(text, true, lines.value, 1, lines.next)?;
     let junk = marks(text, false, lines.value, constants.place, constants.next)?;
     Ok(HeaderNext {

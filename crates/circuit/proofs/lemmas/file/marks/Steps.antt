@@ -6,6 +6,7 @@ use Rattle.circuit.specs.declared.file.marks.MarksNext.{MarksNext}
 use Rattle.circuit.specs.declared.file.marks.HeaderNext.{HeaderNext}
 use Rattle.circuit.specs.declared.file.scan.Numeral.{Numeral}
 use Rattle.circuit.specs.Gate.{max_lines}
+use Rattle.circuit.specs.Header.{unmarked}
 use Rattle.circuit.specs.Outcome.{Outcome, served, refused, and_then}
 use Rattle.circuit.specs.Text.{line_feed}
 use Rattle.circuit.specs.File.{Line, first_line, later_lines, lines_of, line_size, starts_mark, Marks, no_marks, mark_on, Group, group_from, count_on, header_of, read_from, Reading, reading}
@@ -192,6 +193,16 @@ counted text m e =
     facts : (n : ℕ) (o : Outcome ℕ) → HeaderFound (line_at text) o → o ≡ served n → (n ≤ max_lines) × ((line_at text).ended ≡ true)
     facts n o (HeaderFound.good k low high b d) q = let x : k ≡ n = cc in (omega arith, d)
     facts n o (HeaderFound.bad number y) q = absurd (never q refl)
+
+-- a header without mark lines
+pub header_plain : (text : List ℕ) (m : Numeral) → count_next text ≡ served m → starts_mark true (line_at (drop m.next text)) ≡ false → starts_mark false (line_at (drop m.next text)) ≡ false
+    → header_next text ≡ served (record { header = unmarked m.value; place = 1; next = m.next })
+header_plain text m e s t =
+    let c = counted text m e in
+    let none : MarksNext = record { mask = 0; values = 0; place = 1; next = m.next } in
+    then_served _ _ m e
+    ∙ then_served _ _ none (grouping_end true m.value 1 m.next text none (grouping_start true m.value 1 m.next text c.inside c.early) s)
+    ∙ then_served _ _ none (grouping_end false m.value 1 m.next text none (grouping_start false m.value 1 m.next text c.inside c.early) t)
 
 -- a reading from the header on
 pub record Started (text : List ℕ) (h : Header) (first next : ℕ) : Type 0 where
