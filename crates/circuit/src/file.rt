@@ -28,6 +28,7 @@ pub struct ReadCounts {
 }
 
 // The counts of a cascade with this header whose gate lines start at line `first` and at a position; else 1, 3, 4, 5 or 6 by line.
+// Not inlined: a loop of its own takes less time (docs/DECISIONS.md, Speed).
 #[inline(never)]
 fn judge(text: &[u8], h: Header, first: u64, start: usize) -> Result<ReadCounts, Refusal>
     requires { (start ≤ length text.now) × (h.lines ≤ max_lines) × (first ≤ start) }
@@ -84,7 +85,8 @@ fn put_lines(words: &[u64], out: &mut [u8]) -> usize
     at + crate::file::put::put(&mut out[at..], b"end\n")
 }
 
-// Writes the text of a cascade, and tells how many bytes it is.
+// Writes the text of a cascade, and tells how many bytes it is. Not inlined, as `judge`.
+#[inline(never)]
 fn put_text(h: Header, words: &[u64], out: &mut [u8]) -> usize
     requires { (h.lines ≤ max_lines) × (marks_good h ≡ true) × (all_valid max_lines (gates_of words.now) ≡ true) × (length (text_of h (gates_of words.now)) ≤ length out.old) }
     ensures { Put result out.new (text_of h (gates_of words.now)) out.old }
