@@ -108,7 +108,7 @@ enum cascade_number {
     CASCADE_BAD_MARK = 14,          /* a mark on no line of the cascade, or value 1 on a line that is no constant; of a file: a mark on no line or not above the one before, at the file line */
     CASCADE_MARKS_DIFFER = 15       /* two cascades with different marks */
 };
-/* File lines count from 0, the header being 0; a missing line has the next index. Gates and states
+/* File lines count from 0, the line `lines` being 0; a missing line has the next index. Gates and states
  * count from 0. Of two cascades, the place of 7 is the index within the one that it was found in. */
 
 /* How two gates match in a step. */
