@@ -1,7 +1,7 @@
 -- Clauses in words, and words read back.
 use Rattle.std.specs.Prelude.{◌≡◌, ℕ, zero, suc, ◌^◌, ◌<◌, cond, List, [], ◌∷◌, ◌++◌, length, take, drop, ℤ, pos, negsuc, ◌≢◌, nat_le}
 use Rattle.std.proofs.Math.Option.{Option, none, some}
-use Rattle.std.specs.Int.{Width, w16}
+use Rattle.std.specs.Int.{Width, w32}
 use mir.Val.{hbits}
 use Rattle.bits.specs.Lists.{All}
 use Rattle.checking.specs.Clauses.{Clause, OR, XOR}
@@ -65,7 +65,7 @@ pub record BadAt (ws : List ℤ) (i : ℕ) : Type 0 where
 
 -- the width of a clause word, `ClauseWord` in the code; a signed one holds the numbers from −word_limit to word_limit − 1
 abbrev pub word_width : Width
-word_width = w16
+word_width = w32
 
 abbrev pub word_limit : ℕ
 word_limit = 2 ^ hbits word_width

@@ -10,7 +10,7 @@ use circuit::header::Header;
 use circuit::refusal::Refusal;
 
 // A word of a clause list: a kind, a count or a literal. Its width is `word_width` (Stored).
-pub type ClauseWord = i16;
+pub type ClauseWord = i32;
 
 // The variables, clauses and words of a clause list.
 #[derive(Clone, Copy, Debug, PartialEq, Eq)]

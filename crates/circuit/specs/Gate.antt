@@ -9,10 +9,10 @@ max_lines = 64
 
 -- the gates of a cascade, and of a miter
 abbrev pub max_gates : ℕ
-max_gates = 1024
+max_gates = 16384
 
 abbrev pub max_miter_gates : ℕ
-max_miter_gates = 2048
+max_miter_gates = 32768
 
 -- the gate without controls
 abbrev pub not_gate : ℕ → Gate

@@ -1,7 +1,7 @@
 -- The refusals of documents 01 and 02 by number.
 use Rattle.std.specs.Prelude.{ℕ}
 use Rattle.circuit.specs.declared.refusal.Refusal.{Refusal}
-use Rattle.circuit.specs.declared.refusal.Refusal.TheVariants.{WrongForm, BadLineCount, LineOutside, TargetControlled, NotRising, TooManyGates, NoGate, LineCountsDiffer, BadState, NoRoom, BadWordCount, AgreeingState, TooWide, BadMark, MarksDiffer}
+use Rattle.circuit.specs.declared.refusal.Refusal.TheVariants.{WrongForm, BadLineCount, LineOutside, TargetControlled, NotRising, TooManyGates, NoGate, LineCountsDiffer, BadState, NoRoom, BadWordCount, AgreeingState, TooWide, BadMark, MarksDiffer, WordTooWide}
 
 -- a line of the wrong form, a missing `end` or LF
 abbrev pub wrong_form : ℕ
@@ -63,6 +63,10 @@ bad_mark = 14
 abbrev pub marks_differ : ℕ
 marks_differ = 15
 
+-- a word of a clause list outside −32,768 to 32,767
+abbrev pub word_too_wide : ℕ
+word_too_wide = 16
+
 -- a refusal's number
 abbrev pub refusal_number : Refusal → ℕ
 refusal_number (WrongForm place) = wrong_form
@@ -80,8 +84,9 @@ refusal_number (AgreeingState place) = agreeing_state
 refusal_number TooWide = too_wide
 refusal_number (BadMark place) = bad_mark
 refusal_number MarksDiffer = marks_differ
+refusal_number (WordTooWide place) = word_too_wide
 
--- its place: the line of a file, the gate or the list index; else 0
+-- its place: the line of a file, the gate, the word or the list index; else 0
 abbrev pub refusal_place : Refusal → ℕ
 refusal_place (WrongForm place) = place
 refusal_place BadLineCount = 0
@@ -98,3 +103,4 @@ refusal_place (AgreeingState place) = place
 refusal_place TooWide = 0
 refusal_place (BadMark place) = place
 refusal_place MarksDiffer = 0
+refusal_place (WordTooWide place) = place

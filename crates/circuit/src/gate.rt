@@ -73,10 +73,10 @@ impl Gate {
     pub const MAX_LINES: u64 = 64;
 
     // Gates of a cascade.
-    pub const MAX_GATES: usize = 1024;
+    pub const MAX_GATES: usize = 16384;
 
     // Gates of a miter.
-    pub const MAX_MITER_GATES: usize = 2048;
+    pub const MAX_MITER_GATES: usize = 32768;
 
     // The lines of a sweep, at most.
     pub const MAX_SWEEP_LINES: u64 = 16;

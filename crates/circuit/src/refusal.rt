@@ -35,6 +35,8 @@ pub enum Refusal {
     BadMark(u64),
     // Two cascades have different marks.
     MarksDiffer,
+    // A word of a clause list is outside −32,768 to 32,767.
+    WordTooWide(u64),
 }
 
 impl Refusal {
@@ -57,10 +59,11 @@ impl Refusal {
             Refusal::TooWide => 13,
             Refusal::BadMark(_) => 14,
             Refusal::MarksDiffer => 15,
+            Refusal::WordTooWide(_) => 16,
         }
     }
 
-    // The line of a file, the gate or the list index; else 0.
+    // The line of a file, the gate, the word or the list index; else 0.
     pub fn place(self) -> u64
         ensures { result ≡ refusal_place self }
     {
@@ -73,7 +76,8 @@ impl Refusal {
             | Refusal::NoGate(place)
             | Refusal::BadState(place)
             | Refusal::AgreeingState(place)
-            | Refusal::BadMark(place) => place,
+            | Refusal::BadMark(place)
+            | Refusal::WordTooWide(place) => place,
             _ => 0,
         }
     }
