@@ -26,7 +26,7 @@ pub extern "C" fn cascade_pair_emit(
     a: &[u64],
     b_header: Header,
     b: &[u64],
-    out: &mut [i16],
+    out: &mut [i32],
 ) -> CascadeSizesAnswer
     ensures { Yields result out.new (sizes_answer (pair_emit_outcome a_header a.now b_header b.now (length out.old))) (pair_emit_buffer a_header a.now b_header b.now out.old) }
 {

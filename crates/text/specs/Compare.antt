@@ -2,7 +2,7 @@
 use Rattle.std.specs.Prelude.{cond, List, [], ◌∷◌, ◌++◌, ℕ, ◌*◌, ◌^◌, ◌≤◌, ◌==◌, nat_le, length}
 use Rattle.circuit.specs.declared.gate.Gate.{Gate}
 use Rattle.circuit.specs.declared.header.Header.{Header}
-use Rattle.circuit.specs.Gate.{max_gates, max_miter_gates}
+use Rattle.circuit.specs.Gate.{max_lines}
 use Rattle.circuit.specs.Header.{marked, same_marks}
 use Rattle.circuit.specs.Outcome.{Outcome, demand, written}
 use Rattle.circuit.specs.Refusal.{line_counts_differ, marks_differ, no_room}
@@ -15,27 +15,30 @@ use Rattle.checking.specs.Stored.{stored}
 use Rattle.text.specs.Answers.{fit_outcome}
 use Rattle.text.specs.Dimacs.{dimacs_of}
 use Rattle.text.specs.Formula.{Formula, formula_of, pair_formula}
-use Rattle.text.specs.FileOutcome.{FileOutcome, answered, of_both, of_file, further, numbers_text, answer_text}
+use Rattle.text.specs.FileOutcome.{FileOutcome, answered, of_both, of_that, of_file, further, numbers_text, answer_text}
 use Rattle.text.specs.Plain.{plain_clauses}
 use Rattle.text.specs.WholeFile.{whole_file}
 
--- a file has 262,144 bytes at most, and a clause list 262,144 words
+-- a file has 262,144 bytes at most and its cascade 8,192 gates, and a clause list 262,144 words
 abbrev pub max_file : ℕ
 max_file = 262144
+
+abbrev pub max_file_gates : ℕ
+max_file_gates = 8192
 
 abbrev pub max_list : ℕ
 max_list = 262144
 
 -- the words that a file's cascade and a miter have at most
 abbrev pub file_words : ℕ
-file_words = 3 * max_gates
+file_words = 3 * max_file_gates
 
 abbrev pub miter_words : ℕ
-miter_words = 3 * max_miter_gates
+miter_words = 2 * file_words
 
--- no text has more bytes: sixteen for each word of the clause list, and eighteen for the header
+-- no text has more bytes: seven for each word of the clause list, fifty-one for each gate and each line, whose XOR stands in it as ORs, and nineteen for the header
 abbrev pub max_compared : ℕ
-max_compared = 4194322
+max_compared = 7 * max_list + 51 * (2 * max_file_gates + max_lines) + 19
 
 -- ---- the files
 
@@ -51,15 +54,15 @@ cascades h a b = record { header = h; first = a; second = b }
 -- the second file beside the first one's cascade: its own refusal, then 8, 15
 unfoldable pub second_file : Header → List Gate → List ℕ → FileOutcome CascadePair
 second_file h gs second =
-    of_file 2 (whole_file second) (λ d.
+    of_file 2 (whole_file max_file_gates second) (λ d.
     of_both (h.lines == d.header.lines) line_counts_differ (of_both (same_marks h d.header) marks_differ (answered (cascades h gs d.gates))))
 
--- more than 262,144 bytes: 10; the first file; the second one
+-- more than 262,144 bytes: 10, with the file's number; the first file, 10 for more than 8,192 gates; the second one
 unfoldable pub files_of : List ℕ → List ℕ → FileOutcome CascadePair
 files_of first second =
-    of_both (nat_le (length first) max_file) no_room
-    (of_both (nat_le (length second) max_file) no_room
-    (of_file 1 (whole_file first) (λ c. second_file c.header c.gates second)))
+    of_that 1 (nat_le (length first) max_file) no_room
+    (of_that 2 (nat_le (length second) max_file) no_room
+    (of_file 1 (whole_file max_file_gates first) (λ c. second_file c.header c.gates second)))
 
 -- ---- the comparison
 

@@ -88,7 +88,7 @@ pub record CompareLaws : Type 0 where
   -- the call writes the text exactly where the rooms and the buffer are long enough
   pub call : (first second : List ℕ) (lent : Rooms) (out : List ℕ) → WritesWhere (RoomsFit lent × (length (compare_text first second) ≤ length out))
       (compare_outcome first second lent (length out)) (compare_text first second) out (compare_buffer first second lent out)
-  -- every text fits a buffer of 4,194,322 bytes
+  -- every text fits a buffer of 2,673,875 bytes
   pub text_fits : (first second : List ℕ) → length (compare_text first second) ≤ max_compared
   pub room_enough : (first second : List ℕ) (lent : Rooms) (room : ℕ) → RoomsFit lent → max_compared ≤ room
       → compare_outcome first second lent room ≡ served (length (compare_text first second))

@@ -33,6 +33,10 @@ map_answer f (refused_at number file place) = refused_at number file place
 abbrev pub of_both : {A : Type 0} → Bool → ℕ → FileOutcome A → FileOutcome A
 of_both test number more = cond test more (refused_at number 0 0)
 
+-- the same, said of that file
+abbrev pub of_that : {A : Type 0} → ℕ → Bool → ℕ → FileOutcome A → FileOutcome A
+of_that file test number more = cond test more (refused_at number file 0)
+
 -- goes on with what is read from a file; what is wrong with it is said of that file
 abbrev pub of_file : {A B : Type 0} → ℕ → Outcome A → (A → FileOutcome B) → FileOutcome B
 of_file file (served a) more = more a

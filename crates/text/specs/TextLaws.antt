@@ -7,7 +7,7 @@ use Rattle.circuit.specs.Outcome.{served}
 use Rattle.circuit.specs.Refusal.{line_counts_differ, marks_differ, no_room}
 use Rattle.circuit.specs.Text.{line_feed, text_of}
 use Rattle.circuit.specs.File.{fields_of}
-use Rattle.circuit.specs.FileLaws.{FileCascade, FileRefused}
+use Rattle.circuit.specs.FileLaws.{FileCascade}
 use Rattle.circuit.specs.Header.{unmarked}
 use Rattle.checking.specs.Miter.{miter_gates}
 use Rattle.checking.specs.Clauses.{Clause, OR, clauses_of, variables_of}
@@ -18,15 +18,15 @@ use Rattle.checking.specs.Satisfaction.{ClausesWithin}
 use Rattle.text.specs.Dimacs.{decimal, clauses_text, header_text, Dimacs, dimacs_of, number_read, dimacs_read}
 use Rattle.text.specs.BytesTell.{StartsProblem, TextTells}
 use Rattle.text.specs.Answers.{WritesWhere}
-use Rattle.text.specs.WholeFile.{WholeRefused}
+use Rattle.text.specs.WholeFile.{FileWithin, WithinRefused, WholeRefused}
 use Rattle.text.specs.Rows.{RowsHold, text_rows}
 use Rattle.text.specs.FileOutcome.{refused_word, refusal_text, answer_text}
-use Rattle.text.specs.Tomiter.{max_input, max_words, max_text, verdict, tomiter_text, tomiter_outcome, tomiter_buffer}
+use Rattle.text.specs.Tomiter.{max_input, max_input_gates, max_words, max_text, verdict, tomiter_text, tomiter_outcome, tomiter_buffer}
 
 -- the input is the files of two cascades with the header h, and nothing is too long
 pub record Fitting (input : List ℕ) (h : Header) (a b : List Gate) : Type 0 where
-  pub first : FileCascade h a
-  pub second : FileCascade h b
+  pub first : FileWithin max_input_gates h a
+  pub second : FileWithin max_input_gates h b
   pub files : input ≡ text_of h a ++ text_of h b
   pub bytes : length input ≤ max_input
   pub words : length (stored (pair_clauses h a b)) ≤ max_words
@@ -36,16 +36,16 @@ pub data ProgramRefused (input : List ℕ) : ℕ → ℕ → ℕ → Type 0 wher
   -- more than 65,536 bytes
   too_long : max_input < length input → ProgramRefused input no_room 0 0
   -- the first file; the second one, to its last byte, after a first that is good
-  first_file : (number place : ℕ) → length input ≤ max_input → FileRefused input number place → ProgramRefused input number 1 place
-  in_second_file : (h : Header) (a : List Gate) (rest : List ℕ) (number place : ℕ) → length input ≤ max_input → FileCascade h a → input ≡ text_of h a ++ rest
-      → WholeRefused rest number place → ProgramRefused input number 2 place
+  first_file : (number place : ℕ) → length input ≤ max_input → WithinRefused max_input_gates input number place → ProgramRefused input number 1 place
+  in_second_file : (h : Header) (a : List Gate) (rest : List ℕ) (number place : ℕ) → length input ≤ max_input → FileWithin max_input_gates h a → input ≡ text_of h a ++ rest
+      → WholeRefused max_input_gates rest number place → ProgramRefused input number 2 place
   -- line counts that differ, and then marks
-  lines_differ : (ha : Header) (a : List Gate) (hb : Header) (b : List Gate) → length input ≤ max_input → FileCascade ha a → FileCascade hb b
+  lines_differ : (ha : Header) (a : List Gate) (hb : Header) (b : List Gate) → length input ≤ max_input → FileWithin max_input_gates ha a → FileWithin max_input_gates hb b
       → input ≡ text_of ha a ++ text_of hb b → (ha.lines ≡ hb.lines → ⊥) → ProgramRefused input line_counts_differ 0 0
-  other_marks : (ha : Header) (a : List Gate) (hb : Header) (b : List Gate) → length input ≤ max_input → FileCascade ha a → FileCascade hb b
+  other_marks : (ha : Header) (a : List Gate) (hb : Header) (b : List Gate) → length input ≤ max_input → FileWithin max_input_gates ha a → FileWithin max_input_gates hb b
       → input ≡ text_of ha a ++ text_of hb b → ha.lines ≡ hb.lines → (ha ≡ hb → ⊥) → ProgramRefused input marks_differ 0 0
   -- a clause list of more than 16,384 words
-  list_long : (h : Header) (a b : List Gate) → length input ≤ max_input → FileCascade h a → FileCascade h b
+  list_long : (h : Header) (a b : List Gate) → length input ≤ max_input → FileWithin max_input_gates h a → FileWithin max_input_gates h b
       → input ≡ text_of h a ++ text_of h b → max_words < length (stored (pair_clauses h a b)) → ProgramRefused input no_room 0 0
 
 -- what a text is to an input: clauses that tell on which states the cascades of its two files differ, or the refusal of what is wrong with it
@@ -90,6 +90,11 @@ pub record TextLaws : Type 0 where
   pub refusal_fields : (number file place : ℕ) → fields_of (refusal_text number file place) ≡ refused_word ∷ decimal number ∷ decimal file ∷ (decimal place ++ (line_feed ∷ [])) ∷ []
   pub refusal_apart : (number file place number' file' place' : ℕ) → refusal_text number file place ≡ refusal_text number' file' place'
       → (number ≡ number') × (file ≡ file') × (place ≡ place')
+  -- such a program refuses a file of more than 1,024 gates with 10 and the file's number, whatever stands after its `end`
+  pub first_large : (program : List ℕ → List ℕ) → ProgramLaws program → (h : Header) (a : List Gate) (rest : List ℕ) → FileCascade h a → max_input_gates < length a
+      → length (text_of h a ++ rest) ≤ max_input → program (text_of h a ++ rest) ≡ refusal_text no_room 1 0
+  pub second_large : (program : List ℕ → List ℕ) → ProgramLaws program → (h k : Header) (a b : List Gate) (rest : List ℕ) → FileWithin max_input_gates h a → FileCascade k b → max_input_gates < length b
+      → length (text_of h a ++ (text_of k b ++ rest)) ≤ max_input → program (text_of h a ++ (text_of k b ++ rest)) ≡ refusal_text no_room 2 0
   -- our text is that of such a program, by the pair's clauses, and every such program writes it
   pub program : ProgramLaws tomiter_text
   pub as_built : AsBuilt tomiter_text

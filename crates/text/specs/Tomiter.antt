@@ -5,7 +5,6 @@ use Rattle.circuit.specs.declared.header.Header.{Header}
 use Rattle.circuit.specs.Header.{same_marks}
 use Rattle.circuit.specs.Outcome.{Outcome}
 use Rattle.circuit.specs.Refusal.{line_counts_differ, marks_differ, no_room}
-use Rattle.circuit.specs.File.{reading}
 use Rattle.checking.specs.Pair.{pair_clauses}
 use Rattle.checking.specs.Stored.{stored}
 use Rattle.text.specs.Answers.{fit_outcome, fit_buffer}
@@ -13,11 +12,14 @@ use Rattle.text.specs.Dimacs.{dimacs_of}
 use Rattle.text.specs.Formula.{Formula, pair_formula}
 use Rattle.text.specs.FileOutcome.{FileOutcome, answered, of_both, of_file, answer_text}
 use Rattle.text.specs.BytesTell.{BytesTell}
-use Rattle.text.specs.WholeFile.{whole_file}
+use Rattle.text.specs.WholeFile.{file_within, whole_file}
 
--- the input has 65,536 bytes at most, and the clause buffer 16,384 words
+-- the input has 65,536 bytes at most, each of its files 1,024 gates, and the clause buffer 16,384 words
 abbrev pub max_input : ℕ
 max_input = 65536
+
+abbrev pub max_input_gates : ℕ
+max_input_gates = 1024
 
 abbrev pub max_words : ℕ
 max_words = 16384
@@ -34,15 +36,15 @@ list_verdict h a b = of_both (nat_le (length (stored (pair_clauses h a b))) max_
 unfoldable pub pair_verdict : Header → List Gate → Header → List Gate → FileOutcome Formula
 pair_verdict ha a hb b = of_both (ha.lines == hb.lines) line_counts_differ (of_both (same_marks ha hb) marks_differ (list_verdict ha a b))
 
--- the second file, to its last byte
+-- the second file, to its last byte; 10 for more than 1,024 gates comes before what is after its `end`
 unfoldable pub second_verdict : Header → List Gate → List ℕ → FileOutcome Formula
-second_verdict h gs text = of_file 2 (whole_file text) (λ c. pair_verdict h gs c.header c.gates)
+second_verdict h gs text = of_file 2 (whole_file max_input_gates text) (λ c. pair_verdict h gs c.header c.gates)
 
--- more than 65,536 bytes: 10; the first file; the second one, from where the first one's reading stops
+-- more than 65,536 bytes: 10; the first file, 10 for more than 1,024 gates; the second one, from where the first one's reading stops
 unfoldable pub verdict : List ℕ → FileOutcome Formula
 verdict input =
     of_both (nat_le (length input) max_input) no_room
-    (of_file 1 (reading input) (λ c. second_verdict c.header c.gates (drop c.taken input)))
+    (of_file 1 (file_within max_input_gates input) (λ c. second_verdict c.header c.gates (drop c.taken input)))
 
 abbrev pub verdict_text : FileOutcome Formula → List ℕ
 verdict_text v = answer_text (λ f. dimacs_of f.variables f.clauses) v

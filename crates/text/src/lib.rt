@@ -24,21 +24,27 @@ mod put;
 mod refused;
 mod stored;
 
-// The bytes of the longest input and of the longest text.
+// The bytes of the longest input, the gates of each of its files, the words of its clause list, and the bytes of the longest text.
 pub const MAX_INPUT: usize = 65536;
+
+pub const MAX_INPUT_GATES: usize = 1024;
+
+pub const MAX_WORDS: usize = 16384;
 
 pub const MAX_TEXT: usize = 98321;
 
-// The bytes of the longest file of a comparison, the words of a file's cascade, of a miter and of the longest clause list, and the bytes of the longest text.
+// The bytes of the longest file of a comparison, its gates, the words of its cascade, of a miter and of the longest clause list, and the bytes of the longest text.
 pub const MAX_FILE: usize = 262144;
 
-pub const FILE_WORDS: usize = 3072;
+pub const MAX_FILE_GATES: usize = 8192;
 
-pub const MITER_WORDS: usize = 6144;
+pub const FILE_WORDS: usize = 24576;
+
+pub const MITER_WORDS: usize = 49152;
 
 pub const MAX_LIST: usize = 262144;
 
-pub const MAX_COMPARED: usize = 4194322;
+pub const MAX_COMPARED: usize = 2673875;
 
 // The bytes of the longest text of an input that was checked.
 pub const MAX_CHECKED: usize = 137;
