@@ -14,7 +14,6 @@ pub use Rattle.checking.proofs.lemmas.faults.Unmarked.{unmarked_laws}
 pub use Rattle.checking.proofs.lemmas.faults.Refusals.{refusal_laws}
 -- calls on two cascades
 pub use Rattle.checking.proofs.lemmas.miter.Laws.{miter_refused}
-pub use Rattle.checking.proofs.lemmas.check.Laws.{uncalled_refused, uncalled_served, uncalled_clauses}
 pub use Rattle.checking.proofs.lemmas.compare.Laws.{HeadedGates, headed_gates, agree_state, differ_state, says_only, sweep_says, difference_made, refused_pick, made_pick}
 -- clauses: what the list is made of, what satisfies it, and how it is stored and emitted
 pub use Rattle.checking.proofs.lemmas.clauses.Maps.{clauses_none, clauses_next, differences_none, differences_next, list_parts}
