@@ -22,11 +22,11 @@ use Rattle.text.specs.FileOutcome.{FileOutcome, answered, refused_at}
 use Rattle.text.specs.Compare.{max_list, max_compared, CascadePair, files_of, left_formula, swept_as, compared, compared_files, comparison, comparison_text, compared_text, compare_text, Rooms, RoomsFit, compare_outcome}
 use Rattle.text.specs.TwoFiles.{TwoFiles, FilesRefused, first_long, second_long, first_file, in_second_file, lines_differ, other_marks}
 use Rattle.text.proofs.Decimal.{decimal_few}
-use Rattle.text.proofs.Sizes.{variable_few, whole_few}
+use Rattle.text.proofs.Sizes.{whole_few}
 use Rattle.text.proofs.Rooms.{rooms_good}
 use Rattle.text.proofs.Verdicts.{Judged, judged}
 use Rattle.text.proofs.Pairs.{listable}
-use Rattle.text.proofs.Reduced.{found, left_variables, left_short, left_within}
+use Rattle.text.proofs.Reduced.{found, left_variables, left_short, left_within, left_xors}
 use Rattle.text.proofs.Compares.{by_cases}
 use Rattle.text.proofs.plain.Laws.{plain_few}
 use Rattle.text.proofs.answer.Laws.{fit_fits, digits_few, differ_long, refusal_few, header_long}
@@ -57,16 +57,17 @@ module _ (first second : List ℕ) (h : Header) (a b : List Gate) (t : TwoFiles 
       let l = s.0.permitted.state in
       omega (arith, differ_long x (run a x) (run b x), digits_few x (below x l), digits_few (run a x) (below _ (run_below h.lines a t.first_good.cascade.gates x l)), digits_few (run b x) (below _ (run_below h.lines b t.second_good.cascade.gates x l)))
 
-  header_few : (v m : ℕ) → v ≤ max_variables → m ≤ max_list → length (header_text v m) ≤ 18
-  header_few v m l k = omega (arith, header_long v m, variable_few v l, decimal_few 5 m (omega arith), decimal_few 0 0 (omega arith))
+  header_few : (v m : ℕ) → v ≤ max_variables → m ≤ max_list → length (header_text v m) ≤ 19
+  header_few v m l k = omega (arith, header_long v m, decimal_few 4 v (omega arith), decimal_few 5 m (omega arith), decimal_few 0 0 (omega arith))
 
   abbrev f : Formula
   f = left_formula h a b
 
   list_few : length (stored f.clauses) ≤ max_list → length (dimacs_of f.variables (plain_clauses f.clauses)) ≤ max_compared
   list_few few =
-      let (x, y) = plain_few f.clauses (left_short h a b (listable h a b t.first_good t.second_good)) (left_within h a b (listable h a b t.first_good t.second_good)) in
-      omega (arith, x, few, header_few f.variables (length (plain_clauses f.clauses)) (left_variables h a b (listable h a b t.first_good t.second_good)) (omega (arith, y)), dimacs_long f.variables (plain_clauses f.clauses))
+      let l = listable h a b t.first_good.cascade t.second_good.cascade in
+      let (x, y) = plain_few f.clauses (left_short h a b l) (left_within h a b l) in
+      omega (arith, x, left_xors h a b l, few, l.lines, t.first_good.gates, t.second_good.gates, header_few f.variables (length (plain_clauses f.clauses)) (left_variables h a b l) (omega (arith, y)), dimacs_long f.variables (plain_clauses f.clauses))
 
   pair_few : length (compared_text (compared h a b)) ≤ max_compared
   pair_few =

@@ -2,7 +2,7 @@
 use mathlib.Core.Path.{◌≡◌, refl, sym, ap, subst}
 use mathlib.Core.Bool.{Bool}
 use mathlib.Core.List.{List, [], ◌∷◌, ◌++◌}
-use Prim.Native.Nat.{ℕ, suc, ◌+◌, ◌*◌, ◌≤◌, ◌<◌}
+use Prim.Native.Nat.{ℕ, suc, ◌+◌, ◌*◌, ◌^◌, ◌≤◌, ◌<◌}
 use native.Mathlib.Nat.{le_trans}
 use native.Mathlib.Omega.{arith}
 use lib.Dec.{leb}
@@ -10,11 +10,11 @@ use lib.IntN.{ℤ, pos, negsuc}
 use lib.ListN.{length, drop, length-append}
 use borrow.Author.Tests.{leb-true}
 use Rattle.bits.proofs.Bools.{either}
+use Rattle.std.proofs.Math.Nat.{suc-mul}
 use Rattle.circuit.specs.declared.gate.Gate.{Gate}
 use Rattle.circuit.specs.declared.header.Header.{Header}
 use Rattle.circuit.specs.Outcome.{Outcome, served, refused, before, then, Fails, fails}
 use Rattle.circuit.specs.Refusal.{wrong_form}
-use Rattle.circuit.specs.Text.{line_feed}
 use Rattle.circuit.specs.File.{Line, Reading, reading, line_after_end}
 use Rattle.circuit.specs.FileLaws.{FileCascade, CountOffence, no_lines, no_number, outside, MarkOffence, no_mark_line, beyond, mark_not_rising, mark_no_end, ControlsOffence, form, value, later, LineOffence, no_gate_line, many, target_form, target_value, controls, controlled, controls_not_rising, FileRefused, on_count_line, on_mark_line, later_line}
 use Rattle.circuit.specs.FileLaws as laws
@@ -33,34 +33,34 @@ use Rattle.text.proofs.Decimal.{decimal_few}
 use Rattle.text.proofs.FileOutcome.{both_met, both_failed}
 use Rattle.text.proofs.WholeFile.{WholeJudged, whole_judged}
 use Rattle.text.proofs.Pairs.{by_headers, headers_met, lines_apart, marks_apart, Listable, listable, list_within, variables_few}
-use Rattle.text.proofs.answer.Laws.{fit_fits, refusal_few}
+use Rattle.text.proofs.answer.Laws.{fit_fits, refusal_few, header_long}
 
 -- ---- the text of a clause list
 
--- the number of a variable has four digits at most
-pub variable_few : (v : ℕ) → v ≤ max_variables → length (decimal v) ≤ 4
-variable_few v h = decimal_few 3 v (omega arith)
+-- the variables have d + 1 digits at most
+module _ (d v : ℕ) (digits : v < 10 ^ suc d) where
+  literal_few : (l : ℤ) → variable_of l ≤ v → length (literal_text l) ≤ d + 2
+  literal_few (pos i) s = omega (arith, decimal_few d i (omega arith))
+  literal_few (negsuc i) s = omega (arith, decimal_few d (suc i) (omega arith))
 
-pub literal_few : (v : ℕ) (l : ℤ) → v ≤ max_variables → variable_of l ≤ v → length (literal_text l) ≤ 5
-literal_few v (pos i) h s = omega (arith, variable_few i (omega arith))
-literal_few v (negsuc i) h s = omega (arith, variable_few (suc i) (omega arith))
+  -- with its blank
+  pub literals_few : (ls : List ℤ) → LiteralsWithin v ls → length (literals_text ls) ≤ length ls * (d + 3)
+  unfolding literals_text
+  literals_few [] w = omega arith
+  literals_few (l ∷ ls) w =
+      omega (arith, suc-mul (length ls) (d + 3), literal_few l w.0.1, literals_few ls w.1, length-append (literal_text l ++ (blank ∷ [])) (literals_text ls), length-append (literal_text l) (blank ∷ []))
 
-pub literals_few : (v : ℕ) (ls : List ℤ) → v ≤ max_variables → LiteralsWithin v ls → length (literals_text ls) ≤ 6 * length ls
-unfolding literals_text
-literals_few v [] h w = omega arith
-literals_few v (l ∷ ls) h w =
-    omega (arith, literal_few v l h w.0.1, literals_few v ls h w.1, length-append (literal_text l ++ (blank ∷ [])) (literals_text ls), length-append (literal_text l) (blank ∷ []))
+  -- the blank of no literals is one byte
+  pub body_few : (ls : List ℤ) → LiteralsWithin v ls → length (body_text ls) ≤ length ls * (d + 3) + 1
+  body_few [] w = omega arith
+  body_few (l ∷ ls) w = omega (arith, literals_few (l ∷ ls) w)
 
--- the blank of no literals is one byte
-pub body_few : (v : ℕ) (ls : List ℤ) → v ≤ max_variables → LiteralsWithin v ls → length (body_text ls) ≤ 6 * length ls + 1
-body_few v [] h w = omega arith
-body_few v (l ∷ ls) h w = omega (arith, literals_few v (l ∷ ls) h w)
+-- four digits at most: six bytes a word
+clause_few : (v : ℕ) (c : Clause) → v < 10000 → LiteralsWithin v (clause_literals c) → length (clause_text c) ≤ 6 * length (stored_clause c)
+clause_few v (OR ls) h w = omega (arith, body_few 3 v h ls w, length-append (body_text ls) closing)
+clause_few v (XOR ls) h w = omega (arith, body_few 3 v h ls w, length-append (body_text ls) closing)
 
-clause_few : (v : ℕ) (c : Clause) → v ≤ max_variables → LiteralsWithin v (clause_literals c) → length (clause_text c) ≤ 6 * length (stored_clause c)
-clause_few v (OR ls) h w = omega (arith, body_few v ls h w, length-append (body_text ls) closing)
-clause_few v (XOR ls) h w = omega (arith, body_few v ls h w, length-append (body_text ls) closing)
-
-clauses_few : (v : ℕ) (cs : List Clause) → v ≤ max_variables → ClausesWithin v cs → length (clauses_text cs) ≤ 6 * length (stored cs)
+clauses_few : (v : ℕ) (cs : List Clause) → v < 10000 → ClausesWithin v cs → length (clauses_text cs) ≤ 6 * length (stored cs)
 unfolding clauses_text
 clauses_few v [] h w = omega arith
 clauses_few v (c ∷ cs) h w =
@@ -71,17 +71,15 @@ count_few [] = omega arith
 count_few (OR ls ∷ cs) = omega (arith, count_few cs, ap length (stored_next (OR ls) cs), length-append ls (stored cs))
 count_few (XOR ls ∷ cs) = omega (arith, count_few cs, ap length (stored_next (XOR ls) cs), length-append ls (stored cs))
 
-header_few : (v m : ℕ) → v ≤ max_variables → m ≤ max_words → length (header_text v m) ≤ 17
-unfolding header_text
-header_few v m h l =
-    omega (arith, variable_few v h, decimal_few 4 m (omega arith), length-append (decimal v) (blank ∷ (decimal m ++ (line_feed ∷ []))), length-append (decimal m) (line_feed ∷ []))
+header_few : (v m : ℕ) → v < 10000 → m ≤ max_words → length (header_text v m) ≤ 17
+header_few v m h l = omega (arith, header_long v m, decimal_few 3 v h, decimal_few 4 m (omega arith), decimal_few 0 0 (omega arith))
 
 -- ---- what a verdict says
 
 -- so few variables and words, or so small numbers
 abbrev Small : FileOutcome Formula → Type 0
-Small (answered f) = (f.variables ≤ max_variables) × (ClausesWithin f.variables f.clauses) × (length (stored f.clauses) ≤ max_words)
-Small (refused_at number file place) = (number < 100) × (file < 10) × (place < 10000)
+Small (answered f) = (f.variables < 10000) × (ClausesWithin f.variables f.clauses) × (length (stored f.clauses) ≤ max_words)
+Small (refused_at number file place) = (number < 100) × (file < 10) × (place < 100000)
 
 small_text : (v : FileOutcome Formula) → Small v → length (verdict_text v) ≤ max_text
 unfolding dimacs_of
