@@ -20,11 +20,11 @@ use Rattle.circuit.specs.FileLaws.{FileCascade, CountOffence, no_lines, no_numbe
 use Rattle.circuit.specs.FileLaws as laws
 use Rattle.circuit.proofs.Promises.{reader, mark_lines_few}
 use Rattle.checking.specs.Pair.{pair_clauses}
-use Rattle.checking.specs.Clauses.{Clause, OR, XOR, max_variables}
+use Rattle.checking.specs.Clauses.{Clause, OR, XOR}
 use Rattle.checking.specs.Satisfaction.{variable_of, LiteralsWithin, clause_literals, ClausesWithin}
 use Rattle.checking.specs.Stored.{stored_clause, stored}
 use Rattle.checking.proofs.Promises.{stored_next}
-use Rattle.text.specs.Dimacs.{blank, decimal, literal_text, literals_text, body_text, closing, clause_text, clauses_text, header_text, dimacs_of}
+use Rattle.text.specs.Dimacs.{blank, literal_text, literals_text, body_text, closing, clause_text, clauses_text, header_text, dimacs_of}
 use Rattle.text.specs.Formula.{Formula}
 use Rattle.text.specs.WholeFile.{whole_file, WholeRefused}
 use Rattle.text.specs.FileOutcome.{FileOutcome, answered, refused_at, of_file}
