@@ -49,13 +49,13 @@ dimacs_long v ps = length-append (header_text v (length ps)) (clauses_text ps)
 
 module _ (first second : List ℕ) (h : Header) (a b : List Gate) (t : TwoFiles first second h a b) where
   below : (k : ℕ) → k < 2 ^ h.lines → k < 2 ^ 64
-  below k l = omega (arith, pow_mono {i = h.lines} {j = 64} t.first_good.lines_high)
+  below k l = omega (arith, pow_mono {i = h.lines} {j = 64} t.first_good.cascade.lines_high)
 
   difference_few : (d : Difference) → sweep.Says h a b (served d) → length (comparison_text (swept_as a b d)) ≤ max_compared
   difference_few none s = omega arith
   difference_few (lowest x) s =
       let l = s.0.permitted.state in
-      omega (arith, differ_long x (run a x) (run b x), digits_few x (below x l), digits_few (run a x) (below _ (run_below h.lines a t.first_good.gates x l)), digits_few (run b x) (below _ (run_below h.lines b t.second_good.gates x l)))
+      omega (arith, differ_long x (run a x) (run b x), digits_few x (below x l), digits_few (run a x) (below _ (run_below h.lines a t.first_good.cascade.gates x l)), digits_few (run b x) (below _ (run_below h.lines b t.second_good.cascade.gates x l)))
 
   header_few : (v m : ℕ) → v ≤ max_variables → m ≤ max_list → length (header_text v m) ≤ 19
   header_few v m l k = omega (arith, header_long v m, decimal_few 4 v (omega arith), decimal_few 5 m (omega arith), decimal_few 0 0 (omega arith))

@@ -82,8 +82,8 @@ bytes_tell input out told last e l k s starts =
       header = h;
       first = a;
       second = b;
-      first_good = f.first;
-      second_good = f.second;
+      first_good = f.first.cascade;
+      second_good = f.second.cascade;
       files = f.files;
       told = subst (λ (text : List ℕ). TextTells text h a b) (sym same) (text_told input h a b f);
     }
