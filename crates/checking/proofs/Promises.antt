@@ -18,6 +18,7 @@ pub use Rattle.checking.proofs.lemmas.compare.Laws.{HeadedGates, headed_gates, a
 -- clauses: what the list is made of, what satisfies it, and how it is stored and emitted
 pub use Rattle.checking.proofs.lemmas.clauses.Maps.{clauses_none, clauses_next, differences_none, differences_next, list_parts}
 pub use Rattle.checking.proofs.lemmas.clauses.Tests.{some_true, odd_true, holds_or, holds_xor, value_neg, satisfies_none, satisfies_next, satisfies_append}
+pub use Rattle.checking.proofs.lemmas.clauses.Forced.{length_up_from}
 pub use Rattle.checking.proofs.lemmas.clauses.Within.{neg_size, neg_within}
 pub use Rattle.checking.proofs.lemmas.clauses.Meaning.{tells_same}
 pub use Rattle.checking.proofs.lemmas.clauses.Reading.{stored_none, stored_next, stored_append, read_back}
@@ -26,5 +27,5 @@ pub use Rattle.checking.proofs.lemmas.clauses.Answers.{emit_cascade}
 pub use Rattle.checking.proofs.lemmas.pair.Parts.{marked_parts, unmarked_clauses, unmarked_variables}
 pub use Rattle.checking.proofs.lemmas.pair.Meaning.{tells_unmarked, pair_tells}
 pub use Rattle.checking.proofs.lemmas.pair.Alone.{differs_for_same, tells_for_same}
-pub use Rattle.checking.proofs.lemmas.pair_emission.Fits.{pair_within, pair_variables_few}
+pub use Rattle.checking.proofs.lemmas.pair_emission.Fits.{counted_few, pair_within, pair_variables_few}
 pub use Rattle.checking.proofs.lemmas.pair_emission.Answers.{pair_emit_good, pair_emit_wrong, pair_emit_leaves}
