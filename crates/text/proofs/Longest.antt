@@ -19,7 +19,7 @@ use Rattle.text.specs.Dimacs.{header_text, clauses_text, dimacs_of}
 use Rattle.text.specs.Plain.{plain_clauses}
 use Rattle.text.specs.Formula.{Formula}
 use Rattle.text.specs.FileOutcome.{FileOutcome, answered, refused_at}
-use Rattle.text.specs.Compare.{max_list, max_compared, CascadePair, files_of, left_formula, swept_as, compared, compared_files, comparison, comparison_text, compared_text, compare_text, Rooms, RoomsFit, compare_outcome}
+use Rattle.text.specs.Compare.{max_file_gates, max_list, max_compared, CascadePair, files_of, left_formula, swept_as, compared, compared_files, comparison, comparison_text, compared_text, compare_text, Rooms, RoomsFit, compare_outcome}
 use Rattle.text.specs.TwoFiles.{TwoFiles, FilesRefused, first_long, second_long, first_file, in_second_file, lines_differ, other_marks}
 use Rattle.text.proofs.Decimal.{decimal_few}
 use Rattle.text.proofs.Sizes.{whole_few}
@@ -33,11 +33,11 @@ use Rattle.text.proofs.answer.Laws.{fit_fits, digits_few, differ_long, refusal_f
 
 -- ---- refusals
 
-pub refused_few : (first second : List ℕ) (number file place : ℕ) → FilesRefused first second number file place → (number < 100) × (file < 10) × (place < 10000)
+pub refused_few : (first second : List ℕ) (number file place : ℕ) → FilesRefused first second number file place → (number < 100) × (file < 10) × (place < 100000)
 refused_few first second _ _ _ (first_long _) = (omega arith, omega arith, omega arith)
 refused_few first second _ _ _ (second_long _ _) = (omega arith, omega arith, omega arith)
-refused_few first second _ _ _ (first_file number place _ _ w) = let (a, b) = whole_few first number place w in (a, omega arith, b)
-refused_few first second _ _ _ (in_second_file h a number place _ _ _ _ w) = let (x, y) = whole_few second number place w in (x, omega arith, y)
+refused_few first second _ _ _ (first_file number place _ _ w) = let (a, b) = whole_few max_file_gates first number place w in (a, omega arith, b)
+refused_few first second _ _ _ (in_second_file h a number place _ _ _ _ w) = let (x, y) = whole_few max_file_gates second number place w in (x, omega arith, y)
 refused_few first second _ _ _ (lines_differ ha a hb b _ _ _ _ _ _ _) = (omega arith, omega arith, omega arith)
 refused_few first second _ _ _ (other_marks ha a hb b _ _ _ _ _ _ _ _) = (omega arith, omega arith, omega arith)
 
@@ -65,7 +65,7 @@ module _ (first second : List ℕ) (h : Header) (a b : List Gate) (t : TwoFiles 
 
   list_few : length (stored f.clauses) ≤ max_list → length (dimacs_of f.variables (plain_clauses f.clauses)) ≤ max_compared
   list_few few =
-      let l = listable h a b t.first_good.cascade t.second_good.cascade in
+      let l = listable h a b t.first_good t.second_good in
       let (x, y) = plain_few f.clauses (left_short h a b l) (left_within h a b l) in
       omega (arith, x, left_xors h a b l, few, l.lines, t.first_good.gates, t.second_good.gates, header_few f.variables (length (plain_clauses f.clauses)) (left_variables h a b l) (omega (arith, y)), dimacs_long f.variables (plain_clauses f.clauses))
 

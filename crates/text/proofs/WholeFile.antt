@@ -15,7 +15,7 @@ use Rattle.circuit.specs.Outcome.{Outcome, served, refused, then, fails}
 use Rattle.circuit.specs.Refusal.{wrong_form, no_room}
 use Rattle.circuit.specs.Text.{text_of}
 use Rattle.circuit.specs.File.{Reading, reading, line_after_end}
-use Rattle.circuit.specs.FileLaws.{FileCascade, ReadAs}
+use Rattle.circuit.specs.FileLaws.{FileCascade}
 use Rattle.circuit.proofs.Promises.{reader, read_as, demand_met, demand_failed, demanded, then_served, then_refused, then_both, wrong_refused, fails_refused}
 use Rattle.text.specs.WholeFile.{FileWithin, ReadWithin, WithinRefused, WholeRefused, file_within, whole_file}
 
@@ -38,10 +38,10 @@ module _ (most : ℕ) where
   unfolding file_within
   within_as text c = (
     (λ e.
-    let (d, r, m) = then_both (reading text) _ c e in
-    let (few, s) = demanded (leb (length d.gates) most) no_room 0 (served d) c m in
-    let f : d ≡ c = cc in
-    subst (ReadWithin most text) f (record { read = (read_as text d).0 r; gates = leb-true _ _ few })),
+        let (d, r, m) = then_both (reading text) _ c e in
+        let (few, s) = demanded (leb (length d.gates) most) no_room 0 (served d) c m in
+        let f : d ≡ c = cc in
+        subst (ReadWithin most text) f (record { read = (read_as text d).0 r; gates = leb-true _ _ few })),
     (λ w. then_served _ _ c ((read_as text c).1 w.read) ∙ demand_met _ _ _ _ (le-leb _ _ w.gates)),
   )
 

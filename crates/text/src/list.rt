@@ -40,6 +40,10 @@ pub(crate) fn list(input: &[u8], clauses: &mut [ClauseWord]) -> Result<Totals, F
     let mut a = [0u64; Gate::WORDS * crate::MAX_INPUT_GATES];
     let mut b = [0u64; Gate::WORDS * crate::MAX_INPUT_GATES];
     let first = File::First.of(StartRead::read(input, crate::MAX_INPUT_GATES, &mut a))?;
-    let second = File::Second.of(CascadeRead::read(&input[first.taken..], crate::MAX_INPUT_GATES, &mut b))?;
+    let second = File::Second.of(CascadeRead::read(
+        &input[first.taken..],
+        crate::MAX_INPUT_GATES,
+        &mut b,
+    ))?;
     list_pair(first.cascade, second, clauses)
 }

@@ -1,5 +1,5 @@
 -- `text::pair::StartRead::read` meets its contract. Assumes nothing.
-use Rattle.std.proofs.Common.{◌≡◌, ◌*◌, ◌++◌, length, take, drop, List, sym, ap, ◌∙◌, arith, length-take-le}
+use Rattle.std.proofs.Common.{◌*◌, ◌++◌, take, drop, List, sym, ap, ◌∙◌, arith, length-take-le}
 use Rattle.std.proofs.lemmas.Result.{err_from_is_err_and}
 use Rattle.circuit.specs.declared.gate.Gate.{Gate}
 use Rattle.circuit.specs.Outcome.{served}
