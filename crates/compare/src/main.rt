@@ -30,11 +30,7 @@ fn answer(
     text::compare(first, second, out, a, b, miter, clauses).unwrap()
 }
 
-// A room for clauses, and one for the text. Of their own, as the prover cannot look through arrays of these sizes in the function that uses them.
-fn clause_room() -> [ClauseWord; text::MAX_LIST] {
-    [0; text::MAX_LIST]
-}
-
+// A room for the text. Of its own, as the prover cannot look through an array of this size in the function that uses it.
 fn text_room() -> [u8; text::MAX_COMPARED] {
     [0u8; text::MAX_COMPARED]
 }
@@ -44,7 +40,7 @@ fn respond(rt: &(impl Print + Eprint), first: &[u8], second: &[u8]) {
     let mut a = [0u64; text::FILE_WORDS];
     let mut b = [0u64; text::FILE_WORDS];
     let mut miter = [0u64; text::MITER_WORDS];
-    let mut clauses = clause_room();
+    let mut clauses: [ClauseWord; text::MAX_LIST] = [0; text::MAX_LIST];
     let mut out = text_room();
     let size = answer(
         &mut out,

@@ -79,6 +79,10 @@ listable h a b x y =
     let d = y.cascade in
     record { lines = c.lines_high; marks = c.marks; few = omega (arith, c.few, d.few); first = c.gates; second = d.gates }
 
+-- how many gates their miter has
+pub miter_length : (a b : List Gate) → length (miter_gates a b) ≡ length a + length b
+miter_length a b = length-append a (inverse b) ∙ ap (λ (k : ℕ). length a + k) (inverse_length b)
+
 module _ (h : Header) (a b : List Gate) (l : Listable h a b) where
   pub list_tells : TellsFor h (pair_variables h a b) (pair_clauses h a b) a b
   list_tells = pair_tells h a b l.marks l.lines l.first l.second
@@ -92,9 +96,8 @@ module _ (h : Header) (a b : List Gate) (l : Listable h a b) where
   pub list_below : ClausesWithin max_variables (pair_clauses h a b)
   list_below = within_more (pair_variables h a b) max_variables (pair_clauses h a b) variables_few list_within
 
-  -- the gates of their miter
   pub miter_few : length (miter_gates a b) ≤ max_miter_gates
-  miter_few = omega (arith, l.few, length-append a (inverse b), inverse_length b)
+  miter_few = omega (arith, l.few, miter_length a b)
 
   pub miter_valid : all_valid h.lines (miter_gates a b) ≡ true
   miter_valid = valid_append h.lines a (inverse b) l.first (inverse_valid h.lines b l.second)

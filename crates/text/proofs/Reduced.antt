@@ -28,9 +28,9 @@ use Rattle.checking.proofs.Promises.{miter_laws, reduce_laws, sweep_says, clause
 use Rattle.text.specs.Formula.{Formula, formula_of, pair_formula}
 use Rattle.text.specs.Compare.{gates_left, alone, left_formula}
 use Rattle.text.specs.private.Words.{AllShort}
-use Rattle.text.proofs.Pairs.{Listable, list_tells, variables_few, miter_few, miter_valid}
+use Rattle.text.proofs.Pairs.{Listable, list_tells, variables_few, miter_length, miter_few, miter_valid}
 use Rattle.text.proofs.plain.Short.{list_short, pair_short, within_more}
-use Rattle.text.proofs.plain.Xors.{xors, miter_length, list_xors, pair_xors}
+use Rattle.text.proofs.plain.Xors.{xors, list_xors, pair_xors}
 
 -- ---- one list of gates
 

@@ -58,7 +58,7 @@ pub once_good : FileCascade plain once
 unfolding all_valid valid
 once_good = record { lines_low = omega arith; lines_high = omega arith; marks = unmarked_good 1; few = omega arith; gates = refl }
 
--- of few gates
+-- of at most so many gates
 pub none_within : (most : ℕ) → FileWithin most plain []
 none_within most = record { cascade = none_good; gates = omega arith }
 

@@ -49,7 +49,7 @@ impl<'a> StartRead<'a> {
     ghost use Rattle.text.specs.WholeFile.{file_within};
     ghost use Rattle.text.specs.private.Files.{reading_of};
 
-    // The cascade of at most so many gates at the start of a text; else what is wrong with it. Reading tells 10 itself, of a room for no more gates.
+    // The cascade of at most `most` gates at the start of a text; else what is wrong with it. The reading itself tells 10, as it has room for no more.
     pub(crate) fn read(
         text: &[u8],
         most: usize,
@@ -78,7 +78,7 @@ impl<'a> CascadeRead<'a> {
     ghost use Rattle.text.specs.WholeFile.{whole_file};
     ghost use Rattle.text.specs.private.Files.{whole_of};
 
-    // The cascade of a file, which has no byte after its `end`.
+    // The cascade of at most `most` gates of a file, which has no byte after its `end`; else what is wrong with it.
     pub(crate) fn read(
         text: &[u8],
         most: usize,

@@ -19,7 +19,6 @@ use Rattle.circuit.specs.Outcome.{Outcome, served, refused, demand, before, then
 use Rattle.circuit.specs.Refusal.{line_counts_differ, marks_differ, no_room, refusal_number, refusal_place}
 use Rattle.circuit.specs.Words.{gates_of, words_of, all_valid, Cascade, Headed, HeadersDiffer, other_lines, other_marks}
 use Rattle.circuit.proofs.Promises.{never, same_refusal, demand_met, demand_failed, demanded, gates_length, gates_words, words_length, headed_pair_refused, read_as, read_served, read_refused, read_leaves}
-use Rattle.circuit.specs.Text.{text_of}
 use Rattle.circuit.specs.File.{Reading, read_outcome, read_buffer}
 use Rattle.circuit.specs.declared.file.ReadCounts.{ReadCounts}
 use Rattle.circuit.specs.FileLaws.{ReadRefused, ReadAs}
@@ -191,12 +190,10 @@ own_words h ws c = record { count = length ws / 3; cascade = c }
 pub record FileRead (text : List ℕ) (most : ℕ) (h : Header) (gates taken : ℕ) (buffer : List ℕ) : Type 0 where
   pub cascade : List Gate
   pub is : file_within most text ≡ served (record { header = h; gates = cascade; taken = taken })
-  pub count : gates ≡ length cascade
   pub few : gates ≤ most
   pub inside : 3 * gates ≤ length buffer
   pub words : FileWords h (take (3 * gates) buffer)
   pub gates_are : gates_of (take (3 * gates) buffer) ≡ cascade
-  pub within : taken ≤ length text
 
 abbrev counts : Header → ℕ → ℕ → ReadCounts
 counts h gates taken = record { header = h; gates = gates; taken = taken }
@@ -226,7 +223,6 @@ module _ (text : List ℕ) (most : ℕ) (out : List ℕ) (is : length out ≡ 3 
       record {
         cascade = hs;
         is = (within_as most text c).1 (record { read = r; gates = omega (arith, s.fits, is) });
-        count = s.gates;
         few = omega (arith, s.gates, s.fits, is);
         inside = omega (arith, ap length stands, over_length (words_of hs) out (omega arith));
         words =
@@ -247,7 +243,6 @@ module _ (text : List ℕ) (most : ℕ) (out : List ℕ) (is : length out ≡ 3 
                   };
             });
         gates_are = ap gates_of t ∙ gates_words hs;
-        within = omega (arith, ap length s.starts, length-append (text_of h hs) s.rest, s.taken);
       }
 
 -- what follows the room stands behind it
@@ -257,12 +252,10 @@ read_within {text} {most} {h} {gates} {taken} {buffer} rest r =
     record {
       cascade = r.cascade;
       is = r.is;
-      count = r.count;
       few = r.few;
       inside = omega (arith, r.inside, length-append buffer rest);
       words = subst (FileWords h) (sym e) r.words;
       gates_are = ap gates_of e ∙ r.gates_are;
-      within = r.within;
     }
 
 -- ---- the second file

@@ -5,20 +5,18 @@ use mathlib.Core.List.{List, [], ◌∷◌, ◌++◌, map}
 use Prim.Native.Nat.{ℕ, suc, ◌+◌, ◌≤◌}
 use native.Mathlib.Omega.{arith}
 use lib.IntN.{ℤ}
-use lib.ListN.{length, length-append}
+use lib.ListN.{length}
 use Rattle.bits.specs.Digits.{lines_in}
 use Rattle.bits.proofs.Bools.{either}
 use Rattle.circuit.specs.declared.gate.Gate.{Gate}
 use Rattle.circuit.specs.declared.header.Header.{Header}
 use Rattle.circuit.specs.Header.{marked}
 use Rattle.circuit.specs.Gate.{controls_of}
-use Rattle.circuit.specs.Inverse.{inverse}
-use Rattle.circuit.proofs.Promises.{inverse_length}
 use Rattle.checking.specs.Clauses.{Clause, OR, XOR, plus, minus, input_of, moved, used_by, literal_of, implied, gate_clauses, gates_clauses, used_after, current_after, targeted, up_from, difference_clause, difference_clauses, clauses_of}
 use Rattle.checking.specs.Miter.{miter_gates}
 use Rattle.checking.specs.Pair.{constant_clause, constant_clauses, counted_lines, either_targets, used_after_both, pair_clauses}
-use Rattle.checking.specs.Stored.{stored_clause, stored}
-use Rattle.checking.proofs.Promises.{stored_next, clauses_none, clauses_next, differences_none, differences_next, list_parts, length_up_from, marked_parts, unmarked_clauses, counted_few}
+use Rattle.checking.proofs.Promises.{clauses_none, clauses_next, differences_none, differences_next, list_parts, length_up_from, marked_parts, unmarked_clauses, counted_few}
+use Rattle.text.proofs.Pairs.{miter_length}
 
 abbrev pub xors : List Clause → ℕ
 xors [] = 0
@@ -30,11 +28,11 @@ xors_append [] ds = omega arith
 xors_append (OR ls ∷ cs) ds = omega (arith, xors_append cs ds)
 xors_append (XOR ls ∷ cs) ds = omega (arith, xors_append cs ds)
 
--- no more than words
-pub xors_few : (cs : List Clause) → xors cs ≤ length (stored cs)
+-- no more than clauses
+pub xors_few : (cs : List Clause) → xors cs ≤ length cs
 xors_few [] = omega arith
-xors_few (OR ls ∷ cs) = omega (arith, xors_few cs, ap length (stored_next (OR ls) cs), length-append (stored_clause (OR ls)) (stored cs))
-xors_few (XOR ls ∷ cs) = omega (arith, xors_few cs, ap length (stored_next (XOR ls) cs), length-append (stored_clause (XOR ls)) (stored cs))
+xors_few (OR ls ∷ cs) = omega (arith, xors_few cs)
+xors_few (XOR ls ∷ cs) = omega (arith, xors_few cs)
 
 -- ---- one a gate
 
@@ -77,9 +75,6 @@ list_xors n gs =
     let lines : List Clause = difference_clauses (targeted gs) input_of (current_after n input_of gs) (used_after n gs) (up_from 0 n) in
     let last : List Clause = OR (map plus (up_from (suc (used_after n gs)) n)) ∷ [] in
     omega (arith, ap xors (list_parts n gs), xors_append (gates_clauses n input_of gs) (lines ++ last), xors_append lines last, gates_xors n input_of gs, lines_xors (targeted gs) input_of (current_after n input_of gs) (used_after n gs) (up_from 0 n), length_up_from 0 n)
-
-pub miter_length : (a b : List Gate) → length (miter_gates a b) ≡ length a + length b
-miter_length a b = length-append a (inverse b) ∙ ap (λ (k : ℕ). length a + k) (inverse_length b)
 
 pub pair_xors : (h : Header) (a b : List Gate) → xors (pair_clauses h a b) ≤ length a + length b + h.lines
 pair_xors h a b = either (marked h) both one

@@ -11,6 +11,7 @@ use Rattle.text.specs.Dimacs.{clauses_text}
 use Rattle.text.specs.Plain.{plain_clauses}
 use Rattle.text.specs.Compare.{max_list}
 use Rattle.text.specs.private.Words.{stored_in, clause_of, plain_record, StoresList, plain_sizes}
+use Rattle.text.proofs.Sizes.{count_few}
 use Rattle.text.proofs.plain.Laws.{plain_few}
 use Rattle.text.proofs.plain.Xors.{xors_few}
 use Rattle.text.proofs.stored.Laws.{stored_in_lem, plain_step, plain_text_step, no_text, no_plain}
@@ -30,7 +31,7 @@ sizing_start ws s =
     record {
       bytes_sum = omega arith;
       clauses_sum = omega arith;
-      bytes_few = omega (arith, a, xors_few s.clauses, l, s.few, ap (λ (cs : List Clause). length (clauses_text (plain_clauses cs))) e);
+      bytes_few = omega (arith, a, xors_few s.clauses, count_few s.clauses, l, s.few, ap (λ (cs : List Clause). length (clauses_text (plain_clauses cs))) e);
       clauses_few = omega (arith, b, l, s.few, ap (λ (cs : List Clause). length (plain_clauses cs)) e);
     }
 
