@@ -5,3 +5,4 @@ pub mod Sizes
 pub mod Step
 pub mod Reduce
 pub mod Compare
+pub mod Widths

@@ -13,3 +13,4 @@ pub mod reduce;
 pub mod run;
 pub mod sizes;
 pub mod step;
+pub mod widths;

@@ -1,7 +1,8 @@
--- `Equality` has demand 3, `EqualityLaws` what it shuts out, `Listed` answers and buffers of a clause list, `StandIns` the laws of `specs/StandIns.antt`, and `Rows` the fact about document 01's table; the laws of each module stand in its own folder.
+-- `Equality` has demand 3, `EqualityLaws` what it shuts out, `Listed` answers and buffers of a clause list, `Each` a test of each element of a list, `StandIns` the laws of `specs/StandIns.antt`, and `Rows` the fact about document 01's table; the laws of each module stand in its own folder.
 pub mod StandIns
 pub mod Rows
 pub mod Listed
+pub mod Each
 pub mod Equality
 pub mod EqualityLaws
 pub mod check
@@ -15,3 +16,4 @@ pub mod pair
 pub mod pair_emission
 pub mod reduce
 pub mod step
+pub mod widths

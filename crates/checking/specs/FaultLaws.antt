@@ -10,7 +10,7 @@ use Rattle.circuit.specs.Words.{gates_of, gate_in, all_valid}
 use Rattle.circuit.specs.Run.{run, DiffersFor}
 use Rattle.checking.specs.Compare.{Agree, Difference, none, lowest_from, Says}
 use Rattle.checking.specs.Faults.{is_free, missing, gate_faults, gate_masks, mask_where, fault_masks, fault_outcome, fault_buffer}
-use Rattle.checking.specs.RefusalLaws.{Every}
+use Rattle.checking.specs.Each.{Every}
 
 -- ---- the sweep
 

@@ -11,6 +11,7 @@ use Rattle.circuit.specs.Refusal.{bad_state, agreeing_state, no_room}
 use Rattle.circuit.specs.Words.{gates_of, headed_pair_outcome}
 use Rattle.circuit.specs.Run.{run}
 use Rattle.checking.specs.Compare.{outputs_differ}
+use Rattle.checking.specs.Each.{each_from}
 
 -- line k is neither target nor control
 abbrev pub is_free : Gate → ℕ → Bool
@@ -57,11 +58,6 @@ masks_from n before (g ∷ gs) xs = map (λ fault. mask_where n (stands fault be
 
 abbrev pub fault_masks : ℕ → List Gate → List ℕ → List ℕ
 fault_masks n suspect xs = masks_from n [] suspect xs
-
--- the number of states; refused at the first that fails the test; i is the index of the list's first
-unfoldable pub each_from : (ℕ → Bool) → ℕ → ℕ → List ℕ → Outcome ℕ
-each_from test number i [] = served i
-each_from test number i (x ∷ xs) = demand (test x) number i (each_from test number (i + 1) xs)
 
 -- 2, 14, 11, 6, 7 for each, 8, 15, 9 over the whole list, 12
 unfoldable pub fault_check : Header → List ℕ → Header → List ℕ → List ℕ → Outcome ℕ

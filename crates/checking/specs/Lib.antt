@@ -27,9 +27,11 @@ pub mod EqualityLaws
 pub mod PairLaws
 pub mod EmitLaws
 pub mod Rows
+pub mod Each
 pub mod Compare
 pub mod Faults
 pub mod RefusalLaws
+pub mod Widths
 pub mod FaultLaws
 pub mod UnmarkedLaws
 pub mod Laws

@@ -8,6 +8,7 @@ use Rattle.circuit.specs.Words.{gates_of, PairRefused, HeadedPair, HeadedPairRef
 use Rattle.circuit.specs.declared.words.Counts.{Counts}
 use Rattle.circuit.specs.Run.{DiffersFor}
 use Rattle.checking.specs.Compare.{Agree, max_sweep_lines, Difference, difference_outcome, Says, differs_outcome, pick_outcome}
+use Rattle.checking.specs.Each.{Every, AtFirst}
 use Rattle.checking.specs.Faults.{gate_masks, fault_outcome}
 
 -- what is wrong with a sweep: with the pair, or 13 for a good pair on more lines than a sweep has
@@ -17,20 +18,6 @@ SweepRefused ha a hb b = Wrong (HeadedPairRefused ha a hb b) (HeadedPair ha a hb
 -- what is wrong with an input check: with the pair, or 9 for a good pair and a state that is not permitted
 abbrev pub DiffersRefused : Header → List ℕ → Header → List ℕ → ℕ → ℕ → ℕ → Type 0
 DiffersRefused ha a hb b x = Wrong (HeadedPairRefused ha a hb b) (HeadedPair ha a hb b) (λ c. Fails (Permitted ha x → ⊥) bad_state 0)
-
--- every state of a list is good
-abbrev pub Every : (ℕ → Type 0) → List ℕ → Type 0
-Every Good states = (j : ℕ) → j < length states → Good (slice_index states j)
-
--- the state at index i is bad, and every one before it is good
-pub record First (Good Bad : ℕ → Type 0) (states : List ℕ) (i : ℕ) : Type 0 where
-  pub inside : i < length states
-  pub before : (j : ℕ) → j < i → Good (slice_index states j)
-  pub here : Bad (slice_index states i)
-
--- a list is refused with a number, at its first bad state
-pub data AtFirst (Good Bad : ℕ → Type 0) (states : List ℕ) (number : ℕ) : ℕ → ℕ → Type 0 where
-  at_first : (i : ℕ) → First Good Bad states i → AtFirst Good Bad states number number i
 
 -- what is wrong with a pair and a list of states: with the pair; 9 at the first state that is not permitted; where there is none, 12 at the first state on which the two agree
 abbrev pub StatesRefused : Header → List ℕ → Header → List ℕ → List ℕ → ℕ → ℕ → Type 0

@@ -70,9 +70,13 @@ word_width = w32
 abbrev pub word_limit : ℕ
 word_limit = 2 ^ hbits word_width
 
+-- −limit to limit − 1
+abbrev pub FitsIn : ℕ → ℤ → Type 0
+FitsIn limit (pos v) = v < limit
+FitsIn limit (negsuc i) = i < limit
+
 abbrev pub FitsWord : ℤ → Type 0
-FitsWord (pos v) = v < word_limit
-FitsWord (negsuc i) = i < word_limit
+FitsWord w = FitsIn word_limit w
 
 abbrev pub AllFit : List ℤ → Type 0
 AllFit ws = All FitsWord ws

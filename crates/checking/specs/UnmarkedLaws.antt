@@ -13,7 +13,8 @@ use Rattle.checking.specs.Emit.{emit_outcome, emit_buffer}
 use Rattle.checking.specs.Pair.{pair_sizes_outcome, pair_emit_outcome, pair_emit_buffer}
 use Rattle.circuit.specs.Run.{run, Equal, Differs}
 use Rattle.checking.specs.Compare.{max_sweep_lines, Difference, none, lowest, difference_outcome, Says, differs_outcome}
-use Rattle.checking.specs.Faults.{gate_masks, fault_masks, each_from, fault_outcome, fault_buffer}
+use Rattle.checking.specs.Each.{each_from}
+use Rattle.checking.specs.Faults.{gate_masks, fault_masks, fault_outcome, fault_buffer}
 
 -- whether two cascades give different outputs on x
 abbrev pub unequal_on : List Gate → List Gate → ℕ → Bool

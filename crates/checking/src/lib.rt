@@ -16,6 +16,7 @@ pub mod reduce;
 pub mod step;
 mod sums;
 mod tested;
+pub mod widths;
 
 // Has no effect: its contract is the record of this crate's laws.
 pub fn laws()

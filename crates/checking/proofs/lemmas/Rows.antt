@@ -14,7 +14,8 @@ use Rattle.checking.specs.Step.{scan_from, search_from, replaced, step_gates, fi
 use Rattle.checking.specs.Miter.{miter_outcome, miter_buffer}
 use Rattle.checking.specs.Clauses.{up_from, targeted}
 use Rattle.checking.specs.Sizes.{gates_sizes, lines_sizes, sizes_of, sizes_outcome}
-use Rattle.checking.specs.Faults.{everywhere, mask_where, masks_from, each_from, fault_check, fault_outcome, fault_buffer}
+use Rattle.checking.specs.Each.{each_from}
+use Rattle.checking.specs.Faults.{everywhere, mask_where, masks_from, fault_check, fault_outcome, fault_buffer}
 use Rattle.checking.specs.Rows.{rows, passing_rows, RowsHold, RowLaws}
 
 rows_right : RowsHold rows

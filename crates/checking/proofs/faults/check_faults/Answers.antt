@@ -1,7 +1,8 @@
 -- `checking::faults::check_faults` meets its contract. Assumes nothing.
 use Rattle.std.proofs.Common.{sym}
 use Rattle.checking.proofs.lemmas.compare.Laws.{pair_gates}
-use Rattle.checking.proofs.lemmas.faults.Loops.{each_met, each_failed, fault_state, fault_agree, fault_good}
+use Rattle.checking.proofs.lemmas.Each.{each_met, each_failed}
+use Rattle.checking.proofs.lemmas.faults.Loops.{fault_state, fault_agree, fault_good}
 use Rattle.checking.proofs.faults.check_faults.Goals as goal
 
 pub returns-in-Some : goal.returns-in-Some

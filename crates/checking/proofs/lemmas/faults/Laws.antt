@@ -19,7 +19,8 @@ use Rattle.circuit.specs.Run.{run, DiffersFor}
 use Rattle.circuit.proofs.Promises.{written_served, written_refused, cascade_count, fires_lines, lines_fires, valid_by_lines, lines_valid, valid_more, apply_gate, inverted_fired, inverted_idle, run_append, gate_valid, run_next}
 use Rattle.checking.specs.Compare.{Agree}
 use Rattle.checking.specs.Faults.{is_free, missing, missing_control, gate_masks, everywhere, stands, mask_where, masks_from, fault_masks, fault_outcome, fault_buffer}
-use Rattle.checking.specs.RefusalLaws.{Every, StatesGood}
+use Rattle.checking.specs.Each.{Every}
+use Rattle.checking.specs.RefusalLaws.{StatesGood}
 use Rattle.checking.specs.FaultLaws.{state_at, Candidate, Masking, mask_place, MasksStand, repaired_at, Repairs, with_control}
 use Rattle.checking.proofs.lemmas.faults.Masks.{mask_bit}
 use Rattle.checking.proofs.lemmas.faults.Loops.{masks_length}
@@ -244,7 +245,7 @@ excluded h suspect reference xs i k positive few v differ inside below free out 
     not_held _ (λ e. out (stands_candidate n suspect xs i positive k below (both free e))) in
     let (j, l, e) = every_fails (missing positive k g) (take i suspect) xs fails in
     let same = repair_leaves (missing positive k) (with_control positive k) suspect i inside (control_repairs positive k g w (omega arith) free) (get_or xs j 0) e in
-    let d = differ j l in
+    let d = differ j l 0 in
     (j, l, record { permitted = d.permitted; line = d.line; counts = d.counts; outputs = λ q. d.outputs (ap (λ (y : ℕ). bit y d.line) (sym same) ∙ q) })
 
 -- ---- the call
@@ -303,4 +304,4 @@ module _ (ha : Header) (a : List ℕ) (hb : Header) (b states out : List ℕ) (k
       let (j, l, d) =
       excluded ha (gates_of a) (gates_of b) states i line positive c.lines_high c.gates call.differing
       (omega (arith, suspect_count)) below free (λ x. true≢false (sym ((lines i line positive h).1 x) ∙ t)) in
-      absurd (d.outputs (agree j l d.line d.counts)))
+      absurd (d.outputs (agree j l 0 d.line d.counts)))

@@ -18,7 +18,8 @@ use Rattle.circuit.specs.Words.{gates_of, gate_at, headed_pair_outcome, Cascade}
 use Rattle.circuit.specs.declared.words.Counts.{Counts}
 use Rattle.circuit.proofs.Promises.{demand_met, demand_failed, then_served, then_refused, then_both, told, gates_next, gates_end, headed_pair_served}
 use Rattle.checking.specs.Compare.{outputs_differ}
-use Rattle.checking.specs.Faults.{is_free, Fault, missing_control, gate_faults, gate_masks, stands, mask_where, masks_from, fault_masks, each_from, fault_check, fault_outcome, fault_buffer, everywhere}
+use Rattle.checking.specs.Each.{each_from}
+use Rattle.checking.specs.Faults.{is_free, Fault, missing_control, gate_faults, gate_masks, stands, mask_where, masks_from, fault_masks, fault_check, fault_outcome, fault_buffer, everywhere}
 use Rattle.checking.specs.private.Narrowing.{kept, narrowed, narrowed_by}
 use Rattle.checking.proofs.lemmas.faults.Masks.{same_mask, narrowed_by_lem}
 
@@ -129,29 +130,6 @@ states_next gs xs ms last i x h e f =
 pub states_end : (gs : List Gate) (xs ms : List ℕ) (i : ℕ) → length xs ≤ i → narrowed_by gs (drop i xs) ms ≡ ms
 unfolding narrowed_by
 states_end gs xs ms i h = ap (λ (l : List ℕ). narrowed_by gs l ms) (drop_of_length-le xs h)
-
--- ---- the tests of the states
-
-module _ (test : ℕ → Bool) (number : ℕ) where
-  -- the number of states before the first that fails
-  abbrev met : List ℕ → ℕ
-  met xs = prefix_len (λ x. not (not (test x))) xs
-
-  by_state : (i n m : ℕ) (b : Bool) (rest : Outcome ℕ) → rest ≡ cond (ltb n m) (refused number (i + 1 + n)) (served (i + 1 + m))
-      → let k = cond (not (not b)) (1 + n) 0 in demand b number i rest ≡ cond (ltb k (suc m)) (refused number (i + k)) (served (i + suc m))
-  by_state i n m true rest e = grind (arith, common_steps)
-  by_state i n m false rest e = grind (arith, common_steps)
-
-  each_told : (i : ℕ) (xs : List ℕ) → each_from test number i xs ≡ cond (ltb (met xs) (length xs)) (refused number (i + met xs)) (served (i + length xs))
-  unfolding each_from
-  each_told i [] = let e : i ≡ i + 0 = omega arith in ap served e
-  each_told i (x ∷ xs) = by_state i (met xs) (length xs) (test x) _ (each_told (i + 1) xs)
-
-  pub each_met : (xs : List ℕ) → position (λ x. not (test x)) xs ≡ None → each_from test number 0 xs ≡ served (length xs)
-  each_met xs e = let t = each_told 0 xs in grind (arith, common_steps)
-
-  pub each_failed : (xs : List ℕ) (i : ℕ) → position (λ x. not (test x)) xs ≡ Some i → each_from test number 0 xs ≡ refused number i
-  each_failed xs i e = let t = each_told 0 xs in grind (arith, common_steps)
 
 -- ---- what the call answers and leaves
 

@@ -10,90 +10,12 @@ use Rattle.circuit.specs.declared.words.Counts.{Counts}
 use Rattle.circuit.specs.Run.{DiffersFor}
 use Rattle.circuit.proofs.Promises.{never, unserved, demand_met, demand_failed, demanded, then_both, same_refusal, wrong_refused, fails_refused, same_refused, above, pair_refused, permits_lines, lines_permit, permits_exactly, not_permitted, headed_pair_served, served_headed_pair, headed_pair_refused, headed_pair_wrong}
 use Rattle.checking.specs.Compare.{outputs_differ, Agree, max_sweep_lines, Difference, difference_outcome, Says, differs_outcome, pick_outcome}
-use Rattle.checking.specs.Faults.{gate_masks, each_from, fault_check, fault_outcome}
-use Rattle.checking.specs.RefusalLaws.{SweepRefused, DiffersRefused, Every, First, AtFirst, at_first, StatesRefused, StatesGood, MasksRefused, RefusalLaws}
+use Rattle.checking.specs.Each.{each_from, Every, AtFirst}
+use Rattle.checking.specs.Faults.{gate_masks, fault_check, fault_outcome}
+use Rattle.checking.specs.RefusalLaws.{SweepRefused, DiffersRefused, StatesRefused, StatesGood, MasksRefused, RefusalLaws}
+use Rattle.checking.proofs.lemmas.Each.{each_good, each_wrong}
 use Rattle.checking.proofs.lemmas.compare.Laws.{HeadedGates, headed_gates, agree_state, differ_state, says_only, sweep_says, difference_made, differs_made}
 use Rattle.checking.proofs.lemmas.faults.Loops.{fault_good, fault_made}
-
--- ---- the tests of the states
-
--- one state more in front
-before_next : (Good : ℕ → Type 0) (s : ℕ) (xs : List ℕ) (i : ℕ) → Good s → ((j : ℕ) → j < i → Good (get_or xs j 0)) → (j : ℕ) → j < suc i → Good (get_or (s ∷ xs) j 0)
-before_next Good s xs i g f zero h = g
-before_next Good s xs i g f (suc j) h = f j (omega arith)
-
-module _ (test : ℕ → Bool) (number : ℕ) where
-  abbrev Met : ℕ → Type 0
-  Met x = test x ≡ true
-
-  abbrev Failed : ℕ → Type 0
-  Failed x = test x ≡ false
-
-  -- served exactly where every state meets the test
-  each_served : (i : ℕ) (xs : List ℕ) (k : ℕ) → each_from test number i xs ≡ served k → Every Met xs
-  unfolding each_from
-  each_served i [] k e = λ j h. absurd (omega arith)
-  each_served i (s ∷ xs) k e =
-      let (t, f) = demanded (test s) number i (each_from test number (i + 1) xs) k e in
-      before_next Met s xs (length xs) t (each_served (i + 1) xs k f)
-
-  served_each : (i : ℕ) (xs : List ℕ) → Every Met xs → each_from test number i xs ≡ served (i + length xs)
-  unfolding each_from
-  served_each i [] f = let e : i ≡ i + 0 = omega arith in ap served e
-  served_each i (s ∷ xs) f =
-      let e : i + 1 + length xs ≡ i + suc (length xs) = omega arith in
-      demand_met _ _ _ _ (f 0 (omega arith)) ∙ served_each (i + 1) xs (λ j h. f (suc j) (omega arith)) ∙ ap served e
-
-  -- refused exactly at the first that does not
-  each_refused : (F : ℕ → ℕ → Type 0) (i : ℕ) (xs : List ℕ) → ((j : ℕ) → First Met Failed xs j → F number (i + j))
-      → (x y : ℕ) → each_from test number i xs ≡ refused x y → F x y
-  unfolding each_from
-  each_refused F i [] f x y e = absurd (never refl e)
-  each_refused F i (s ∷ xs) f x y e =
-      either (test s)
-      (λ t. each_refused F (i + 1) xs (λ j w. subst (F number) (omega arith) (f (suc j) (later t j w))) x y (sym (demand_met _ _ _ _ t) ∙ e))
-      (λ t. same_refusal F (sym (demand_failed _ _ _ _ t) ∙ e) (subst (F number) (omega arith) (f 0 (record { inside = omega arith; before = λ j h. absurd (omega arith); here = t }))))
-    where
-      later : Met s → (j : ℕ) → First Met Failed xs j → First Met Failed (s ∷ xs) (suc j)
-      later t j w = record { inside = omega (arith, w.inside); before = before_next Met s xs j t w.before; here = w.here }
-
-  refused_each : (i : ℕ) (xs : List ℕ) (j : ℕ) → First Met Failed xs j → each_from test number i xs ≡ refused number (i + j)
-  unfolding each_from
-  refused_each i [] j f = absurd (omega (arith, f.inside))
-  refused_each i (s ∷ xs) zero f = let e : i ≡ i + 0 = omega arith in demand_failed _ _ _ _ f.here ∙ ap (refused number) e
-  refused_each i (s ∷ xs) (suc j) f =
-      let e : i + 1 + j ≡ i + suc j = omega arith in
-      demand_met _ _ _ _ (f.before 0 (omega arith))
-      ∙ refused_each (i + 1) xs j (record { inside = omega (arith, f.inside); before = λ l h. f.before (suc l) (omega arith); here = f.here })
-      ∙ ap (refused number) e
-
--- a list of states, by a test that says what it should of each that has a property which all of them have
-module _ (test : ℕ → Bool) (number : ℕ) (Within Good Bad : ℕ → Type 0) (yes : (x : ℕ) → Within x → (test x ≡ true) ↔ Good x) (no : (x : ℕ) → Within x → (test x ≡ false) ↔ Bad x)
-    (xs : List ℕ) (within : Every Within xs) where
-  each_good : (k : ℕ) → (each_from test number 0 xs ≡ served k) ↔ ((k ≡ length xs) × Every Good xs)
-  each_good k = (
-    (λ e.
-        let f = each_served test number 0 xs k e in
-        let n : k ≡ 0 + length xs = unserved (sym e ∙ served_each test number 0 xs f) in
-        (omega arith, (λ j h. (yes _ (within j h)).0 (f j h)))),
-    (λ (n, f). served_each test number 0 xs (λ j h. (yes _ (within j h)).1 (f j h)) ∙ ap served (omega arith)),
-  )
-
-  told_good : (i : ℕ) → First (λ x. test x ≡ true) (λ x. test x ≡ false) xs i → First Good Bad xs i
-  told_good i f = record { inside = f.inside; before = λ j h. (yes _ (within j (omega (arith, f.inside)))).0 (f.before j h); here = (no _ (within i f.inside)).0 f.here }
-
-  good_told : (i : ℕ) → First Good Bad xs i → First (λ x. test x ≡ true) (λ x. test x ≡ false) xs i
-  good_told i f = record { inside = f.inside; before = λ j h. (yes _ (within j (omega (arith, f.inside)))).1 (f.before j h); here = (no _ (within i f.inside)).1 f.here }
-
-  each_wrong : (x y : ℕ) → (each_from test number 0 xs ≡ refused x y) ↔ AtFirst Good Bad xs number x y
-  each_wrong x y = (
-    each_refused test number (AtFirst Good Bad xs number) 0 xs
-        (λ j f. subst (AtFirst Good Bad xs number number) (omega arith) (at_first j (told_good j f))) x y,
-    back x y,
-  )
-    where
-      back : (x y : ℕ) → AtFirst Good Bad xs number x y → each_from test number 0 xs ≡ refused x y
-      back _ _ (at_first i f) = refused_each test number 0 xs i (good_told i f) ∙ ap (refused number) (omega arith)
 
 -- ---- each call
 
@@ -163,10 +85,10 @@ module _ (ha : Header) (a : List ℕ) (hb : Header) (b : List ℕ) where
       good = headed_gates ha a hb b c pair
 
       all_allowed : (k : ℕ) → (each_from (permits ha) bad_state 0 xs ≡ served k) ↔ ((k ≡ length xs) × Every (Permitted ha) xs)
-      all_allowed = each_good (permits ha) bad_state (λ x. Unit {0}) _ (λ x. Permitted ha x → ⊥) (λ x u. permits_exactly ha x good.marks) (λ x u. not_permitted ha x good.marks) xs (λ j h. tt)
+      all_allowed = each_good (permits ha) bad_state (λ x. Unit {0}) _ (λ x. Permitted ha x → ⊥) (λ x u. permits_exactly ha x good.marks) (λ x u. not_permitted ha x good.marks) xs (λ j h d. tt)
 
       first_forbidden : (x y : ℕ) → (each_from (permits ha) bad_state 0 xs ≡ refused x y) ↔ AtFirst (Permitted ha) (λ x. Permitted ha x → ⊥) xs bad_state x y
-      first_forbidden = each_wrong (permits ha) bad_state (λ x. Unit {0}) _ _ (λ x u. permits_exactly ha x good.marks) (λ x u. not_permitted ha x good.marks) xs (λ j h. tt)
+      first_forbidden = each_wrong (permits ha) bad_state (λ x. Unit {0}) _ _ (λ x u. permits_exactly ha x good.marks) (λ x u. not_permitted ha x good.marks) xs (λ j h d. tt)
 
       module _ (allowed : Every (Permitted ha) xs) where
         all_differing : (k : ℕ) → (each_from differing agreeing_state 0 xs ≡ served k) ↔ ((k ≡ length xs) × Every (DiffersFor ha (gates_of a) (gates_of b)) xs)
@@ -195,7 +117,7 @@ module _ (ha : Header) (a : List ℕ) (hb : Header) (b : List ℕ) where
 
         good_check : StatesGood ha a hb b xs gates → fault_check ha a hb b xs ≡ served gates
         good_check s =
-            let allowed : Every (Permitted ha) xs = λ j h. (s.differing j h).permitted in
+            let allowed : Every (Permitted ha) xs = λ j h d. (s.differing j h d).permitted in
             fault_good ha a hb b xs _ (served_headed_pair ha a hb b _ s.pair) _ ((all_allowed _ s.pair (length xs)).1 (refl, allowed)) _
             ((all_differing _ s.pair allowed (length xs)).1 (refl, s.differing))
 

@@ -9,7 +9,8 @@ use Rattle.circuit.specs.Words.{gates_of, all_valid}
 use Rattle.circuit.specs.Run.{run}
 use Rattle.circuit.proofs.Promises.{unmarked_permits, unmarked_state, unmarked_alike, unmarked_pair, unmarked_equal, unmarked_differs, agrees_alike}
 use Rattle.checking.specs.Compare.{outputs_differ, Agree, max_sweep_lines, Difference, none, lowest, lowest_from, difference_outcome, Says, differs_outcome}
-use Rattle.checking.specs.Faults.{fault_masks, each_from, fault_check, fault_outcome, fault_buffer}
+use Rattle.checking.specs.Each.{each_from}
+use Rattle.checking.specs.Faults.{fault_masks, fault_check, fault_outcome, fault_buffer}
 use Rattle.checking.proofs.lemmas.pair_emission.Unmarked.{sizes_same, emission_same, emitted_same}
 use Rattle.checking.specs.UnmarkedLaws.{unequal_on, lowest_unequal, unmarked_sweep, UnmarkedSays, unmarked_input, unmarked_faults, UnmarkedLaws}
 

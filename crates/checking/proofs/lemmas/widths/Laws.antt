@@ -1,0 +1,45 @@
+-- What the calls that make a list of words wide or narrow answer and leave. Assumes nothing.
+use Rattle.std.proofs.Common.{◌≡◌, ℕ, ◌<◌, ◌≤◌, Bool, true, false, leb, ltb, ◌↔◌, List, length, get_or, ℤ, pos, negsuc, sym, ap, ◌∙◌, arith, true≢false, le-leb, leb-true}
+use mir.Val.{SFits, to_z, of_z}
+use mir.ValLaws.{to_z-of_z}
+use mir.Syntax.{w16, w32}
+use Rattle.bits.proofs.Bools.{not_held}
+use Rattle.circuit.specs.Outcome.{served, refused}
+use Rattle.circuit.specs.Refusal.{word_too_wide}
+use Rattle.circuit.proofs.Promises.{above}
+use Rattle.checking.specs.Each.{each_from, Every, AtFirst}
+use Rattle.checking.specs.Widths.{narrow_limit, Narrow, is_narrow}
+use Rattle.checking.proofs.lemmas.Each.{each_good, each_wrong}
+
+-- ---- one word
+
+narrow_word : (w : ℤ) → (is_narrow w ≡ true) ↔ Narrow w
+narrow_word (pos v) = ((λ t. omega (arith, leb-true _ _ t)), (λ h. le-leb _ _ (omega arith)))
+narrow_word (negsuc i) = ((λ t. omega (arith, leb-true _ _ t)), (λ h. le-leb _ _ (omega arith)))
+
+wide_word : (w : ℤ) → (is_narrow w ≡ false) ↔ (Narrow w → ⊥)
+wide_word w = (
+  (λ e h. true≢false (sym ((narrow_word w).1 h) ∙ e)),
+  (λ f. not_held (is_narrow w) (λ t. f ((narrow_word w).0 t))),
+)
+
+narrow_fits : (w : ℤ) → Narrow w → SFits w16 w
+narrow_fits (pos v) h = record { sfits = omega arith }
+narrow_fits (negsuc i) h = record { sfits = omega arith }
+
+wide_fits : (w : ℤ) → Narrow w → SFits w32 w
+wide_fits (pos v) h = record { sfits = omega arith }
+wide_fits (negsuc i) h = record { sfits = omega arith }
+
+-- such a word in 32 bits, cut to 16, is itself
+pub cut_same : (w : ℤ) → Narrow w → to_z w16 (of_z w16 (to_z w32 (of_z w32 w))) ≡ w
+cut_same w h = ap (λ (z : ℤ). to_z w16 (of_z w16 z)) (to_z-of_z w32 w (wide_fits w h)) ∙ to_z-of_z w16 w (narrow_fits w h)
+
+-- ---- a list
+
+module _ (ws : List ℤ) where
+  pub all_narrow : (k : ℕ) → (each_from is_narrow word_too_wide 0 ws ≡ served k) ↔ ((k ≡ length ws) × Every Narrow ws)
+  all_narrow = each_good is_narrow word_too_wide (λ w. Unit {0}) _ (λ w. Narrow w → ⊥) (λ w u. narrow_word w) (λ w u. wide_word w) ws (λ j h d. tt)
+
+  pub first_wide : (number place : ℕ) → (each_from is_narrow word_too_wide 0 ws ≡ refused number place) ↔ AtFirst Narrow (λ w. Narrow w → ⊥) ws word_too_wide number place
+  first_wide = each_wrong is_narrow word_too_wide (λ w. Unit {0}) _ _ (λ w u. narrow_word w) (λ w u. wide_word w) ws (λ j h d. tt)
