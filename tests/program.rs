@@ -13,6 +13,7 @@ mod inputs;
 mod random;
 #[allow(dead_code)]
 mod reference;
+#[allow(dead_code)]
 mod solver;
 
 use random::Random;
