@@ -430,6 +430,31 @@ fn check_all(random: &mut Random, seen: &mut Seen) {
     check_bytes(seen);
 }
 
+/// The rooms of a program are within 6 MiB of stack, also for the longest files that it takes.
+fn check_stack(seen: &mut Seen) {
+    let full = |lines, gates: u64| -> Vec<Gate> { (0..gates).map(|k| full_gate(lines, k % lines)).collect() };
+    let unmarked = Header::unmarked(64);
+    let long = reference::text_of(unmarked, &full(64, 810));
+    let many = reference::text_of(Header::unmarked(8), &full(8, MOST_GATES as u64));
+    let none = |lines| reference::text_of(Header::unmarked(lines), &[]);
+    for (first, second) in [(&long, &long), (&long, &none(64)), (&many, &none(8))] {
+        seen.put(first, second);
+        let state = "0".repeat(reference::read_text(first).expect("a file").header.lines as usize);
+        let (right, kind) = compared(first, second);
+        for (program, words, right) in [(&seen.compare, &[][..], right), (&seen.check_input, &[&state[..]][..], checked(first, second, &state).0)] {
+            let output = Command::new("sh")
+                .args(["-c", "ulimit -s 6144 && exec \"$0\" \"$@\"", program])
+                .arg(seen.folder.join("first"))
+                .arg(seen.folder.join("second"))
+                .args(words)
+                .output()
+                .expect("the program runs");
+            assert!(output.status.success() && output.stdout == right.as_bytes(), "{program} with a stack of 6 MiB, {kind}: {:?}", output.status);
+        }
+        seen.cases += 2;
+    }
+}
+
 /// A file that cannot be read is told by its name, on both outputs.
 fn check_unread(compare: &str, check_input: &str) {
     for (program, words) in [(compare, &["/nonexistent/one", "/dev/null"][..]), (compare, &["/dev/null", "/"][..]), (compare, &[][..]), (check_input, &["/dev/null"][..])] {
@@ -459,6 +484,7 @@ fn main() {
     check_unread(&compare, &check_input);
     let mut seen = Seen { compare, check_input, cases: 0, kinds: BTreeMap::new(), folder };
     check_all(&mut Random::new(seed), &mut seen);
+    check_stack(&mut seen);
     std::fs::remove_dir_all(&seen.folder).expect("the folder goes");
     let mut wanted: Vec<String> = ["check: agree", "check: agree, a junk line differs", "check: differ", "check: refused 9", "check: refused 9, a constant", "check: refused 15", "clauses, no line counts"].map(String::from).to_vec();
     for verdict in ["equal, reduction", "equal, sweep", "differ", "clauses"] {
