@@ -408,25 +408,26 @@ fn long_pair(random: &mut Random) -> (Vec<Gate>, Vec<Gate>) {
 /// marks by that of the two. A model of each pair that differs spells an input on which it does.
 fn check_long(random: &mut Random) {
     let (mut equal, mut differ) = (0, 0);
+    let marked = Header { lines: 64, constants: 1 << 9 | 1 << 30, values: 1 << 30, junk: 1 << 40 | 1 << 9 };
     for round in 0..2 * LONG_PAIRS {
-        let marks = [0, 1 << 9 | 1 << 30, 1 << 30, 1 << 40 | 1 << 9];
-        let header = match round % 2 {
-            0 => unmarked(64),
-            _ => Header { lines: 64, constants: marks[1], values: marks[2], junk: marks[3] },
-        };
+        let header = if round % 2 == 0 { unmarked(64) } else { marked };
         let (a, mut b) = long_pair(random);
-        let list = |b: &[Gate]| match round % 2 {
-            0 => emit(64, &miter(64, &a, b)),
-            _ => lists::pair(header, &a.concat(), &b.concat()),
+        let model = |b: &[Gate]| {
+            let list = match round % 2 {
+                0 => emit(64, &miter(64, &a, b)),
+                _ => lists::pair(header, &a.concat(), &b.concat()),
+            };
+            solver::model(64, dimacs(&list).as_bytes())
         };
-        assert_eq!(solver::model(64, dimacs(&list(&b)).as_bytes()), None, "an equal pair of long cascades has a model");
+        assert_eq!(model(&b), None, "an equal pair of long cascades has a model");
         equal += 1;
+        // another target of the same group
         let at = random.index(b.len());
-        b[at][2] = 4 * (b[at][2] / 4) + (b[at][2] + 1) % 4;
-        b[at][0] &= !(1 << b[at][2]);
-        b[at][1] &= !(1 << b[at][2]);
+        let [positive, negative, target] = b[at];
+        let other = 4 * (target / 4) + (target + 1) % 4;
+        b[at] = [positive & !(1 << other), negative & !(1 << other), other];
         let differs = |input: u64| (simulate(&a, input) ^ simulate(&b, input)) & !header.junk != 0;
-        match solver::model(64, dimacs(&list(&b)).as_bytes()) {
+        match model(&b) {
             Some(input) => {
                 assert_eq!((input ^ header.values) & header.constants, 0, "a model breaks a constant");
                 assert!(differs(input), "a model spells an input on which the two agree");

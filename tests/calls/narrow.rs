@@ -1,5 +1,5 @@
 //! cascade_narrow, and the laws that what it gives is widened back to the same words and reads back to the
-//! same clauses; also on lists that the library emits.
+//! same clauses; also on lists that the library emits, of pairs and of cascades.
 
 use crate::calls::{emit, widen};
 use crate::capi::{self, WordsAnswer};
@@ -47,7 +47,8 @@ const CLASSES: &[&str] = &[
     "served: widened again",
     "served: a clause list",
     "served: words that are no clause list",
-    "served: a list of the library",
+    "served: a list of the library, of a pair",
+    "served: a list of the library, of a pair with marks",
     "served: a list of the library, 32,767 variables",
     "16: one word alone",
     "16: the first word of several",
@@ -87,11 +88,17 @@ pub fn section(random: &mut Random) -> Counts {
     }
     for _ in 0..EMITTED {
         let lines = 1 + random.below(8);
-        let gates = random.index(20);
-        let cascade = inputs::good_cascade(random, lines, gates);
-        let number = emitted(&cascade, random, &mut counts);
-        compare(&cascade, "a list of few variables fits", number, 0);
-        counts.add("served: a list of the library");
+        let marks = inputs::good_marks(random, lines);
+        let pair = [random.index(10), random.index(10)]
+            .map(|gates| inputs::good_cascade(random, lines, gates).with_marks(marks));
+        let list = list_of_pair(&pair);
+        let length = list.len();
+        let number = one(list, length, random, &mut counts);
+        compare(&pair, "a list of few variables fits", number, 0);
+        counts.add(match pair[0].header().marked() {
+            true => "served: a list of the library, of a pair with marks",
+            false => "served: a list of the library, of a pair",
+        });
     }
     each_bound(random, &mut counts);
     let longest = inputs::longest(random);
@@ -137,7 +144,21 @@ fn each_bound(random: &mut Random, counts: &mut Counts) {
     }
 }
 
-/// Narrows the list that the library emits, and returns the number of the answer.
+/// The list that the library emits for two cascades.
+fn list_of_pair([a, b]: &[Cascade; 2]) -> Vec<i32> {
+    let (ha, hb) = (a.header(), b.header());
+    let sizes = reference::pair_sizes(ha, &a.words, hb, &b.words).expect("two cascades");
+    let (ha, hb) = (expected::header(ha), expected::header(hb));
+    let (mut first, mut second) = (Buffer::new(&a.words), Buffer::new(&b.words));
+    let mut list = Buffer::new(&vec![0; sizes.words as usize]);
+    let (a_len, b_len, out_len) = (first.len(), second.len(), list.len());
+    let (a, b, out) = (first.pointer(), second.pointer(), list.pointer());
+    let answer = unsafe { capi::cascade_pair_emit(ha, a, a_len, hb, b, b_len, out, out_len) };
+    compare(&"a pair", "an emission is served", answer.number, 0);
+    list.contents().to_vec()
+}
+
+/// Narrows the list that the library emits for a cascade, and returns the number of the answer.
 fn emitted(cascade: &Cascade, random: &mut Random, counts: &mut Counts) -> u64 {
     let sizes = reference::sizes(cascade.lines, &cascade.words).expect("a cascade");
     let mut list = Buffer::new(&vec![0; sizes.words as usize]);
