@@ -68,7 +68,7 @@ pub fn section(random: &mut Random) -> Counts {
         check(&Case { given, missing }, &mut counts);
     });
     let most = CASCADE_GATES;
-    for (lines, gates, states) in [(64, most, 1), (64, most, 3), (1, 0, 0), (64, 0, 0)] {
+    for (lines, gates, states) in [(64, most, 0), (64, most, 1), (64, most, 3), (1, 0, 0), (64, 0, 0)] {
         for marked in [false, true] {
             let right = inputs::good_cascade(random, lines, gates);
             with_missing(random, right, states, marked, &mut counts);
