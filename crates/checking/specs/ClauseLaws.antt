@@ -5,10 +5,10 @@ use Rattle.circuit.specs.declared.gate.Gate.{Gate}
 use Rattle.circuit.specs.Gate.{max_lines, max_miter_gates}
 use Rattle.circuit.specs.Words.{all_valid}
 use Rattle.circuit.specs.Run.{run}
-use Rattle.checking.specs.Clauses.{Clause, input_of, gates_clauses, used_after, clauses_of, variables_of, count_p}
+use Rattle.checking.specs.Clauses.{Clause, input_of, gates_clauses, used_after, clauses_of, variables_of, max_variables, count_p}
 use Rattle.checking.specs.Satisfaction.{variable, satisfies, spelled, Tells}
 use Rattle.checking.specs.Forced.{traced, forced}
-use Rattle.checking.specs.Stored.{stored, clauses_in, clauses_read, bad_record, BadAt, AllFit}
+use Rattle.checking.specs.Stored.{stored, clauses_in, clauses_read, bad_record, BadAt, AllFit, word_limit}
 use Rattle.checking.specs.Sizes.{totals, sizes_of}
 use Rattle.checking.specs.ClauseRows.{RowsHold, clause_rows, WordsHold, words_rows}
 
@@ -28,9 +28,10 @@ pub record ClauseLaws : Type 0 where
   pub read_back : (cs : List Clause) (rest : List ℤ) → clauses_in (take (length (stored cs)) (stored cs ++ rest)) ≡ clauses_read cs
   pub read_stored : (ws : List ℤ) (cs : List Clause) → clauses_in ws ≡ clauses_read cs → ws ≡ stored cs
   pub read_bad : (ws : List ℤ) (i : ℕ) → clauses_in ws ≡ bad_record i → BadAt ws i
-  -- each variable is an input, a gate's w, a p or a d; there are two at most for each line and each gate, and every number of a list fits a word
+  -- each variable is an input, a gate's w, a p or a d; there are two at most for each line and each gate; by the limits no list of a miter has more variables than a word holds numbers, and no clause more literals; so every number of a list fits a word
   pub variables_counted : (n : ℕ) (gs : List Gate) → variables_of n gs ≡ n + (length gs + count_p gs) + n
   pub variables_few : (n : ℕ) (gs : List Gate) → variables_of n gs ≤ 2 * n + 2 * length gs
+  pub limits_fit : (max_variables < word_limit) × (max_lines + 3 < word_limit)
   pub words_fit : (n : ℕ) (gs : List Gate) → n ≤ max_lines → length gs ≤ max_miter_gates → all_valid n gs ≡ true → AllFit (stored (clauses_of n gs))
   -- the sums gate by gate are the variables, clauses and words of the list
   pub sizes_list : (n : ℕ) (gs : List Gate) → n ≤ max_lines → all_valid n gs ≡ true

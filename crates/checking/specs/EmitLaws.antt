@@ -11,7 +11,7 @@ use Rattle.checking.specs.Stored.{stored}
 use Rattle.checking.specs.Sizes.{totals, sizes_outcome}
 use Rattle.checking.specs.Emit.{emit_outcome, emit_buffer}
 
--- a cascade of at most 2,048 gates; t has the variables, clauses and words of its list
+-- a cascade of no more gates than a miter may have; t has the variables, clauses and words of its list
 pub record Counted (n : ℕ) (ws : List ℕ) (t : Totals) : Type 0 where
   pub gates : ℕ
   pub good : Cascade n ws max_miter_gates gates

@@ -11,6 +11,7 @@ use Rattle.checking.specs.PairEmitLaws.{PairEmitLaws}
 use Rattle.checking.specs.Rows.{RowLaws}
 use Rattle.checking.specs.RefusalLaws.{RefusalLaws}
 use Rattle.checking.specs.FaultLaws.{FaultLaws}
+use Rattle.checking.specs.WidthLaws.{WidthLaws}
 use Rattle.checking.specs.UnmarkedLaws.{UnmarkedLaws}
 
 pub record CheckingLaws : Type 0 where
@@ -28,5 +29,7 @@ pub record CheckingLaws : Type 0 where
   pub rows : RowLaws
   pub refusals : RefusalLaws
   pub faults : FaultLaws
+  -- words of 16 and of 32 bits
+  pub widths : WidthLaws
   -- two cascades without marks compared
   pub unmarked : UnmarkedLaws

@@ -32,6 +32,7 @@ pub mod Compare
 pub mod Faults
 pub mod RefusalLaws
 pub mod Widths
+pub mod WidthLaws
 pub mod FaultLaws
 pub mod UnmarkedLaws
 pub mod Laws

@@ -15,7 +15,7 @@ use Rattle.checking.specs.Stored.{stored, AllFit}
 use Rattle.checking.specs.Sizes.{totals, sizes_of}
 use Rattle.checking.specs.Pair.{pair_clauses, pair_variables, pair_sizes_of, pair_sizes_outcome, pair_emit_outcome, pair_emit_buffer}
 
--- two cascades with the same header, of at most 1,024 gates each; t has the variables, clauses and words of their list
+-- two cascades with the same header, of no more gates each than a cascade may have; t has the variables, clauses and words of their list
 pub record PairCounted (ha : Header) (a : List ℕ) (hb : Header) (b : List ℕ) (t : Totals) : Type 0 where
   pub counts : Counts
   pub good : HeadedPair ha a hb b counts

@@ -30,7 +30,7 @@ pub record ToldFor (h : Header) (a b : List ℕ) (totals : Totals) (buffer : Lis
   pub counted : length clauses ≡ totals.clauses
   pub tells : TellsFor h totals.variables clauses (gates_of a) (gates_of b)
 
--- the same of headers and words that were judged: they are those of cascades with the same header, of at most 1,024 gates each
+-- the same of headers and words that were judged: they are those of cascades with the same header, of no more gates each than a cascade may have
 pub record PairToldOf (ha : Header) (a : List ℕ) (hb : Header) (b : List ℕ) (totals : Totals) (buffer : List ℤ) : Type 0 where
   pub first : ℕ
   pub first_good : Headed ha a max_gates first

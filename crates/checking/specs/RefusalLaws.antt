@@ -1,5 +1,5 @@
 -- What is proved of the refusals of the sweep, the input check, the pick and the faults: the number and the place, in the words of documents 01 and 02.
-use Rattle.std.specs.Prelude.{◌≡◌, ℕ, ◌*◌, ◌<◌, ◌≤◌, true, false, ◌↔◌, List, length, slice_index}
+use Rattle.std.specs.Prelude.{◌≡◌, ℕ, ◌*◌, ◌<◌, ◌≤◌, true, false, ◌↔◌, List, length}
 use Rattle.circuit.specs.declared.header.Header.{Header}
 use Rattle.circuit.specs.Header.{Permitted}
 use Rattle.circuit.specs.Outcome.{served, refused, Wrong, Fails}

@@ -15,7 +15,7 @@ pub record Told (n : ℕ) (a b : List ℕ) (totals : Totals) (buffer : List ℤ)
   pub counted : length clauses ≡ totals.clauses
   pub tells : Tells n totals.variables clauses (gates_of a) (gates_of b)
 
--- the same of words that were judged: they are those of cascades on as many lines, of at most 1,024 gates
+-- the same of words that were judged: they are those of cascades on as many lines, of no more gates each than a cascade may have
 pub record ToldOf (na : ℕ) (a : List ℕ) (nb : ℕ) (b : List ℕ) (totals : Totals) (buffer : List ℤ) : Type 0 where
   pub first : ℕ
   pub first_good : Cascade na a max_gates first

@@ -9,7 +9,7 @@ ghost use Rattle.checking.specs.private.Emitter.{literal_word, literals_in, cont
 use crate::clauses::ClauseWord;
 use circuit::gate::Gate;
 
-// The number as a word. With `as`: an i16 is no From of a u64, and try_from would have to be unwrapped.
+// The number as a word. With `as`: a clause word is no From of a u64, and try_from would have to be unwrapped.
 pub(crate) fn number(x: u64) -> ClauseWord
     requires { x < word_limit }
     ensures { result ≡ pos x }

@@ -116,7 +116,7 @@ closed_gate i ended t cs =
     (demand (not (among t cs)) target_controlled i
     (demand (rising_from 0 cs) not_rising i (served (gate_of t cs))))
 
--- by its fields, after so many gate lines: 6 for the 1,025th line that starts `g` tab, then 1, 3 by field, 4, 5
+-- by its fields, after so many gate lines: 6 for a line that starts `g` tab after the most gates that a cascade may have, then 1, 3 by field, 4, 5
 unfoldable pub gate_fields : ℕ → ℕ → ℕ → Bool → List (List ℕ) → Outcome Gate
 gate_fields n i count ended [] = refused wrong_form i
 gate_fields n i count ended (f ∷ []) = refused wrong_form i

@@ -87,7 +87,7 @@ pub record GoodFields (n : ℕ) (l : Line) (k : ℕ) (cs : List Control) : Type 
 pub data LineOffence (n i count : ℕ) (l : Line) : ℕ → Type 0 where
   -- it does not start `g` tab, and is not `end` with its LF
   no_gate_line : ((t : List ℕ) (fs : List (List ℕ)) → fields_of l.bytes ≢ gate_word ∷ t ∷ fs) → (l.bytes ≡ end_word → l.ended ≢ true) → LineOffence n i count l wrong_form
-  -- it starts `g` tab, and 1,024 gate lines stand before it
+  -- it starts `g` tab, and as many gate lines stand before it as a cascade may have
   many : (t : List ℕ) (fs : List (List ℕ)) → fields_of l.bytes ≡ gate_word ∷ t ∷ fs → max_gates ≤ count → LineOffence n i count l too_many_gates
   -- the target's form, its value, then the controls
   target_form : (t : List ℕ) (fs : List (List ℕ)) → fields_of l.bytes ≡ gate_word ∷ t ∷ fs → count < max_gates → ((k : ℕ) → NumberField t k → ⊥) → LineOffence n i count l wrong_form

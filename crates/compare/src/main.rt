@@ -7,9 +7,6 @@ ghost use Rattle.text.specs.Compare.{max_list, max_compared, file_words, miter_w
 
 use checking::clauses::ClauseWord;
 
-// One byte more than a file may have.
-const FILE: usize = text::MAX_FILE + 1;
-
 // Writes what the program answers to two files, which always fits, and tells how many bytes it is.
 fn answer(
     out: &mut [u8],
@@ -30,11 +27,7 @@ fn answer(
     text::compare(first, second, out, a, b, miter, clauses).unwrap()
 }
 
-// A room for clauses, and one for the text. Of their own, as the prover cannot look through arrays of these sizes in the function that uses them.
-fn clause_room() -> [ClauseWord; text::MAX_LIST] {
-    [0; text::MAX_LIST]
-}
-
+// A room for the text. Of its own, as the prover cannot look through an array of this size in the function that uses it.
 fn text_room() -> [u8; text::MAX_COMPARED] {
     [0u8; text::MAX_COMPARED]
 }
@@ -44,7 +37,7 @@ fn respond(rt: &(impl Print + Eprint), first: &[u8], second: &[u8]) {
     let mut a = [0u64; text::FILE_WORDS];
     let mut b = [0u64; text::FILE_WORDS];
     let mut miter = [0u64; text::MITER_WORDS];
-    let mut clauses = clause_room();
+    let mut clauses: [ClauseWord; text::MAX_LIST] = [0; text::MAX_LIST];
     let mut out = text_room();
     let size = answer(
         &mut out,
@@ -59,8 +52,8 @@ fn respond(rt: &(impl Print + Eprint), first: &[u8], second: &[u8]) {
 }
 
 fn main(rt: HostRuntime) {
-    let mut first = [0u8; FILE];
-    let mut second = [0u8; FILE];
+    let mut first = text::file_room();
+    let mut second = text::file_room();
     if let Ok((a, b)) = streams::read_two(&rt, &mut first, &mut second) {
         respond(&rt, &first[..a], &second[..b]);
     }

@@ -7,7 +7,7 @@ use circuit::header::Header;
 
 // Lines, gates and bytes taken.
 fn print_read(rt: &impl Print, text: &[u8]) {
-    let mut out = [0u64; 3072];
+    let mut out = [0u64; 49152];
     match circuit::file::read(text, &mut out) {
         Ok(counts) => rows::print_row(
             rt,
@@ -62,9 +62,9 @@ fn put_long(out: &mut [u8], gates: usize, last: &[u8]) -> usize
 
 // A text of so many gate lines on 64 lines, and then these bytes.
 fn print_long(rt: &impl Print, gates: usize, last: &[u8]) {
-    let mut text = [0u8; 4200];
+    let mut text = [0u8; 65600];
     let at = put_long(&mut text, gates, last);
-    if at <= 4200 {
+    if at <= 65600 {
         print_read(rt, &text[0..at]);
     }
 }
@@ -96,9 +96,9 @@ fn main(rt: HostRuntime) {
     print_read(&rt, b"lines\t4\ng\t9\t?\nend\n");
     print_read(&rt, b"lines\t2\ng\t0\t+0\nend\n");
     print_read(&rt, b"lines\t9\ng\t0\t+3\t-3\nend\n");
-    // 1,024 gate lines are read; the 1,025th is 6.
-    print_long(&rt, 1024, b"end\n");
-    print_long(&rt, 1025, b"end\n");
+    // 16,384 gate lines are read; the 16,385th is 6.
+    print_long(&rt, 16384, b"end\n");
+    print_long(&rt, 16385, b"end\n");
     // The text of t1+0 t0 on two lines; refusal 7; 10 for a text of 33 bytes.
     print_write(&rt, 2, &[1, 0, 1, 0, 0, 0]);
     print_write(&rt, 2, &[0, 0, 0, 1, 0, 0]);

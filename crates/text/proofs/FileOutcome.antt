@@ -5,7 +5,7 @@ use Prim.Native.Nat.{ℕ}
 use native.Mathlib.Omega.{arith}
 use Rattle.bits.proofs.Bools.{cond-true, cond-false}
 use Rattle.circuit.specs.Outcome.{Outcome, served, refused}
-use Rattle.text.specs.FileOutcome.{FileOutcome, answered, refused_at, of_both, of_file}
+use Rattle.text.specs.FileOutcome.{FileOutcome, answered, refused_at, of_both, of_that, of_file}
 
 -- an outcome is a value or a refusal, and not both
 pub not_refused : {A : Type 0} {a : A} {number file place : ℕ} → refused_at number file place ≡ answered a → ⊥
@@ -23,12 +23,19 @@ same_at {A} F {u} {v} {w} {x} {y} {z} e f =
     subst (F x y) r (subst (λ (k : ℕ). F x k w) q (subst (λ (k : ℕ). F k v w) p f))
 
 -- a test
+module _ {A : Type 0} (file : ℕ) (test : Bool) (number : ℕ) (more : FileOutcome A) where
+  pub that_met : test ≡ true → of_that file test number more ≡ more
+  that_met e = cond-true test more (refused_at number file 0) e
+
+  pub that_failed : test ≡ false → of_that file test number more ≡ refused_at number file 0
+  that_failed e = cond-false test more (refused_at number file 0) e
+
 module _ {A : Type 0} (test : Bool) (number : ℕ) (more : FileOutcome A) where
   pub both_met : test ≡ true → of_both test number more ≡ more
-  both_met e = cond-true test more (refused_at number 0 0) e
+  both_met = that_met 0 test number more
 
   pub both_failed : test ≡ false → of_both test number more ≡ refused_at number 0 0
-  both_failed e = cond-false test more (refused_at number 0 0) e
+  both_failed = that_failed 0 test number more
 
 pub both_passed : {A : Type 0} (test : Bool) (number : ℕ) (more : FileOutcome A) (a : A) → of_both test number more ≡ answered a → (test ≡ true) × (more ≡ answered a)
 both_passed true number more a e = (refl, e)

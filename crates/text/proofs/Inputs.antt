@@ -109,7 +109,7 @@ module _ (first second : List ℕ) (h : Header) (a b : List Gate) (t : TwoFiles 
     outputs_are =
         told_of (state_text h.lines x)
         ∙ ap answer (state_back h.lines x p.state)
-        ∙ ap checked_text (both_met (permits h x) _ _ (lines_permit h x t.first_good.marks p))
+        ∙ ap checked_text (both_met (permits h x) _ _ (lines_permit h x t.first_good.cascade.marks p))
 
     said_alike : alike h (run a x) (run b x) ≡ true → check_text first second (state_text h.lines x) ≡ said_of agree_word h.lines a b x
     unfolding outputs_text
@@ -120,7 +120,7 @@ module _ (first second : List ℕ) (h : Header) (a b : List Gate) (t : TwoFiles 
     said_apart e = outputs_are ∙ ap (λ (w : List ℕ). said_of w h.lines a b x) (cond-false (alike h (run a x) (run b x)) _ _ e)
 
   unlike : (x : ℕ) → DiffersFor h a b x ↔ (Permitted h x × (alike h (run a x) (run b x) ≡ false))
-  unlike = differs_unlike h a b t.first_good.gates t.second_good.gates
+  unlike = differs_unlike h a b t.first_good.cascade.gates t.second_good.cascade.gates
 
   pub agree_told : (x : ℕ) → Permitted h x → (DiffersFor h a b x → ⊥) → check_text first second (state_text h.lines x) ≡ said_of agree_word h.lines a b x
   agree_told x p same =
@@ -148,7 +148,7 @@ module _ (program : List ℕ → List ℕ → List ℕ → List ℕ) (other : Li
   module _ (h : Header) (a b : List Gate) (t : TwoFiles first second h a b) where
     on_state : (x : ℕ) → Permitted h x → program first second (state_text h.lines x) ≡ other first second (state_text h.lines x)
     on_state x allowed =
-        let unlike = differs_unlike h a b t.first_good.gates t.second_good.gates x in
+        let unlike = differs_unlike h a b t.first_good.cascade.gates t.second_good.cascade.gates x in
         either (alike h (run a x) (run b x))
         (λ u.
         let same : DiffersFor h a b x → ⊥ = λ d. refuted (unlike.0 d).1 u in
@@ -169,7 +169,7 @@ module _ (program : List ℕ → List ℕ → List ℕ → List ℕ) (other : Li
         none_such state (λ y allowed r.
         let f : some x ≡ some y = sym e ∙ ap (state_read h.lines) r ∙ state_back h.lines y allowed.state in
         let g : y ≡ x = cc in
-        refuted u (ap (permits h) (sym g) ∙ lines_permit h y t.first_good.marks allowed)))
+        refuted u (ap (permits h) (sym g) ∙ lines_permit h y t.first_good.cascade.marks allowed)))
     on_text state none e =
         none_such state (λ x allowed s.
         let g = sym e ∙ ap (state_read h.lines) s ∙ state_back h.lines x allowed.state in
@@ -199,7 +199,7 @@ on_few h a b few (some x) =
 on_few h a b few none = omega (arith, refusal_few 9 0 0 (omega arith) (omega arith) (omega arith))
 
 files_few : (first second state : List ℕ) (f : FileOutcome CascadePair) → Judged first second f → length (checked_text (checked_files f state)) ≤ max_checked
-files_few first second state (answered p) t = on_few p.header p.first p.second t.first_good.lines_high (state_read p.header.lines state)
+files_few first second state (answered p) t = on_few p.header p.first p.second t.first_good.cascade.lines_high (state_read p.header.lines state)
 files_few first second state (refused_at number file place) f = let (x, y, z) = refused_few first second number file place f in omega (arith, refusal_few number file place x y z)
 
 pub text_fits : (first second state : List ℕ) → length (check_text first second state) ≤ max_checked

@@ -19,25 +19,25 @@ use Rattle.text.specs.Dimacs.{header_text, clauses_text, dimacs_of}
 use Rattle.text.specs.Plain.{plain_clauses}
 use Rattle.text.specs.Formula.{Formula}
 use Rattle.text.specs.FileOutcome.{FileOutcome, answered, refused_at}
-use Rattle.text.specs.Compare.{max_list, max_compared, CascadePair, files_of, left_formula, swept_as, compared, compared_files, comparison, comparison_text, compared_text, compare_text, Rooms, RoomsFit, compare_outcome}
+use Rattle.text.specs.Compare.{max_file_gates, max_list, max_compared, CascadePair, files_of, left_formula, swept_as, compared, compared_files, comparison, comparison_text, compared_text, compare_text, Rooms, RoomsFit, compare_outcome}
 use Rattle.text.specs.TwoFiles.{TwoFiles, FilesRefused, first_long, second_long, first_file, in_second_file, lines_differ, other_marks}
 use Rattle.text.proofs.Decimal.{decimal_few}
-use Rattle.text.proofs.Sizes.{variable_few, whole_few}
+use Rattle.text.proofs.Sizes.{whole_few}
 use Rattle.text.proofs.Rooms.{rooms_good}
 use Rattle.text.proofs.Verdicts.{Judged, judged}
 use Rattle.text.proofs.Pairs.{listable}
-use Rattle.text.proofs.Reduced.{found, left_variables, left_short, left_within}
+use Rattle.text.proofs.Reduced.{found, left_variables, left_short, left_within, left_xors}
 use Rattle.text.proofs.Compares.{by_cases}
 use Rattle.text.proofs.plain.Laws.{plain_few}
 use Rattle.text.proofs.answer.Laws.{fit_fits, digits_few, differ_long, refusal_few, header_long}
 
 -- ---- refusals
 
-pub refused_few : (first second : List ℕ) (number file place : ℕ) → FilesRefused first second number file place → (number < 100) × (file < 10) × (place < 10000)
+pub refused_few : (first second : List ℕ) (number file place : ℕ) → FilesRefused first second number file place → (number < 100) × (file < 10) × (place < 100000)
 refused_few first second _ _ _ (first_long _) = (omega arith, omega arith, omega arith)
 refused_few first second _ _ _ (second_long _ _) = (omega arith, omega arith, omega arith)
-refused_few first second _ _ _ (first_file number place _ _ w) = let (a, b) = whole_few first number place w in (a, omega arith, b)
-refused_few first second _ _ _ (in_second_file h a number place _ _ _ _ w) = let (x, y) = whole_few second number place w in (x, omega arith, y)
+refused_few first second _ _ _ (first_file number place _ _ w) = let (a, b) = whole_few max_file_gates first number place w in (a, omega arith, b)
+refused_few first second _ _ _ (in_second_file h a number place _ _ _ _ w) = let (x, y) = whole_few max_file_gates second number place w in (x, omega arith, y)
 refused_few first second _ _ _ (lines_differ ha a hb b _ _ _ _ _ _ _) = (omega arith, omega arith, omega arith)
 refused_few first second _ _ _ (other_marks ha a hb b _ _ _ _ _ _ _ _) = (omega arith, omega arith, omega arith)
 
@@ -49,24 +49,25 @@ dimacs_long v ps = length-append (header_text v (length ps)) (clauses_text ps)
 
 module _ (first second : List ℕ) (h : Header) (a b : List Gate) (t : TwoFiles first second h a b) where
   below : (k : ℕ) → k < 2 ^ h.lines → k < 2 ^ 64
-  below k l = omega (arith, pow_mono {i = h.lines} {j = 64} t.first_good.lines_high)
+  below k l = omega (arith, pow_mono {i = h.lines} {j = 64} t.first_good.cascade.lines_high)
 
   difference_few : (d : Difference) → sweep.Says h a b (served d) → length (comparison_text (swept_as a b d)) ≤ max_compared
   difference_few none s = omega arith
   difference_few (lowest x) s =
       let l = s.0.permitted.state in
-      omega (arith, differ_long x (run a x) (run b x), digits_few x (below x l), digits_few (run a x) (below _ (run_below h.lines a t.first_good.gates x l)), digits_few (run b x) (below _ (run_below h.lines b t.second_good.gates x l)))
+      omega (arith, differ_long x (run a x) (run b x), digits_few x (below x l), digits_few (run a x) (below _ (run_below h.lines a t.first_good.cascade.gates x l)), digits_few (run b x) (below _ (run_below h.lines b t.second_good.cascade.gates x l)))
 
-  header_few : (v m : ℕ) → v ≤ max_variables → m ≤ max_list → length (header_text v m) ≤ 18
-  header_few v m l k = omega (arith, header_long v m, variable_few v l, decimal_few 5 m (omega arith), decimal_few 0 0 (omega arith))
+  header_few : (v m : ℕ) → v ≤ max_variables → m ≤ max_list → length (header_text v m) ≤ 19
+  header_few v m l k = omega (arith, header_long v m, decimal_few 4 v (omega arith), decimal_few 5 m (omega arith), decimal_few 0 0 (omega arith))
 
   abbrev f : Formula
   f = left_formula h a b
 
   list_few : length (stored f.clauses) ≤ max_list → length (dimacs_of f.variables (plain_clauses f.clauses)) ≤ max_compared
   list_few few =
-      let (x, y) = plain_few f.clauses (left_short h a b (listable h a b t.first_good t.second_good)) (left_within h a b (listable h a b t.first_good t.second_good)) in
-      omega (arith, x, few, header_few f.variables (length (plain_clauses f.clauses)) (left_variables h a b (listable h a b t.first_good t.second_good)) (omega (arith, y)), dimacs_long f.variables (plain_clauses f.clauses))
+      let l = listable h a b t.first_good t.second_good in
+      let (x, y) = plain_few f.clauses (left_short h a b l) (left_within h a b l) in
+      omega (arith, x, left_xors h a b l, few, l.lines, t.first_good.gates, t.second_good.gates, header_few f.variables (length (plain_clauses f.clauses)) (left_variables h a b l) (omega (arith, y)), dimacs_long f.variables (plain_clauses f.clauses))
 
   pair_few : length (compared_text (compared h a b)) ≤ max_compared
   pair_few =

@@ -20,7 +20,7 @@ use Rattle.checking.specs.FaultLaws.{without_constants, all_counted}
 use Rattle.text.specs.Dimacs.{Dimacs, header_text, dimacs_read}
 use Rattle.text.specs.FileOutcome.{FileOutcome, answered, refused_at, refusal_text, answer_text}
 use Rattle.text.specs.BytesTell.{TextTells}
-use Rattle.text.specs.Compare.{CascadePair, cascades, files_of, Comparison, gates_left, left_formula, swept_as, compared, compared_files, comparison, compared_text, compare_text, equal_text, differ_text}
+use Rattle.text.specs.Compare.{max_file_gates, CascadePair, cascades, files_of, Comparison, gates_left, left_formula, swept_as, compared, compared_files, comparison, compared_text, compare_text, equal_text, differ_text}
 use Rattle.text.specs.TwoFiles.{TwoFiles, FilesRefused}
 use Rattle.text.specs.CompareLaws.{MayWrite, refuses, overflows, reduces, sweeps, differs, asks, Compares}
 use Rattle.text.proofs.FileOutcome.{not_refused, unanswered}
@@ -30,7 +30,7 @@ use Rattle.text.proofs.Verdicts.{judged_is}
 use Rattle.text.proofs.Pairs.{listable}
 use Rattle.text.proofs.Reduced.{found}
 use Rattle.text.proofs.Compares.{by_none, by_sweep, by_clauses, list_fits, list_long}
-use Rattle.text.proofs.StandIns.{once, plain, none_good, once_good, once_differs, first, second, first_bytes, second_bytes, junk_line, junk_equal, junk_files, constant_line, controlled, constant_equal, controlled_acts, constant_files, two_files}
+use Rattle.text.proofs.StandIns.{once, plain, none_within, once_within, once_differs, first, second, first_bytes, second_bytes, junk_line, junk_equal, junk_files, constant_line, controlled, constant_equal, controlled_acts, constant_files, two_files}
 
 -- ---- the files decide the cascades
 
@@ -92,7 +92,15 @@ refused_told program one two number file place r laws = refused_case one two num
 -- ---- NOT and nothing, on one line
 
 files : TwoFiles first second plain once []
-files = record { first_good = once_good; second_good = none_good; first_text = refl; second_text = refl; first_bytes = first_bytes; second_bytes = second_bytes }
+files =
+    record {
+      first_good = once_within max_file_gates (omega arith);
+      second_good = none_within max_file_gates;
+      first_text = refl;
+      second_text = refl;
+      first_bytes = first_bytes;
+      second_bytes = second_bytes;
+    }
 
 these : (h : Header) (a b : List Gate) → TwoFiles first second h a b → Same h plain a b once []
 these h a b t = same first second h plain a b once [] t files

@@ -2,7 +2,7 @@
 use mathlib.Core.Path.{◌≡◌, ap, ◌∙◌}
 use mathlib.Core.Bool.{true}
 use mathlib.Core.List.{List}
-use Prim.Native.Nat.{◌+◌, ◌≤◌}
+use Prim.Native.Nat.{ℕ, ◌+◌, ◌≤◌}
 use native.Mathlib.Omega.{arith}
 use lib.Dec.{eqb}
 use lib.ListN.{length, length-append}
@@ -16,13 +16,13 @@ use Rattle.circuit.specs.Refusal.{line_counts_differ, marks_differ}
 use Rattle.circuit.specs.Words.{all_valid}
 use Rattle.circuit.specs.Inverse.{inverse}
 use Rattle.circuit.proofs.Promises.{valid_append, inverse_length, inverse_valid, same_header, header_same}
-use Rattle.circuit.specs.FileLaws.{FileCascade}
 use Rattle.checking.specs.Miter.{miter_gates}
 use Rattle.checking.specs.Clauses.{max_variables}
 use Rattle.checking.specs.Pair.{pair_clauses, pair_variables}
 use Rattle.checking.specs.PairTold.{TellsFor}
 use Rattle.checking.specs.Satisfaction.{ClausesWithin}
 use Rattle.checking.proofs.Promises.{pair_tells, pair_within, pair_variables_few}
+use Rattle.text.specs.WholeFile.{FileWithin}
 use Rattle.text.specs.FileOutcome.{FileOutcome, answered, refused_at, of_both}
 use Rattle.text.proofs.FileOutcome.{both_met, both_failed, both_passed}
 use Rattle.text.proofs.plain.Short.{within_more}
@@ -73,8 +73,15 @@ pub record Listable (h : Header) (a b : List Gate) : Type 0 where
   pub first : all_valid h.lines a ≡ true
   pub second : all_valid h.lines b ≡ true
 
-pub listable : (h : Header) (a b : List Gate) → FileCascade h a → FileCascade h b → Listable h a b
-listable h a b x y = record { lines = x.lines_high; marks = x.marks; few = omega (arith, x.few, y.few); first = x.gates; second = y.gates }
+pub listable : {most : ℕ} (h : Header) (a b : List Gate) → FileWithin most h a → FileWithin most h b → Listable h a b
+listable h a b x y =
+    let c = x.cascade in
+    let d = y.cascade in
+    record { lines = c.lines_high; marks = c.marks; few = omega (arith, c.few, d.few); first = c.gates; second = d.gates }
+
+-- how many gates their miter has
+pub miter_length : (a b : List Gate) → length (miter_gates a b) ≡ length a + length b
+miter_length a b = length-append a (inverse b) ∙ ap (λ (k : ℕ). length a + k) (inverse_length b)
 
 module _ (h : Header) (a b : List Gate) (l : Listable h a b) where
   pub list_tells : TellsFor h (pair_variables h a b) (pair_clauses h a b) a b
@@ -89,9 +96,8 @@ module _ (h : Header) (a b : List Gate) (l : Listable h a b) where
   pub list_below : ClausesWithin max_variables (pair_clauses h a b)
   list_below = within_more (pair_variables h a b) max_variables (pair_clauses h a b) variables_few list_within
 
-  -- the gates of their miter
   pub miter_few : length (miter_gates a b) ≤ max_miter_gates
-  miter_few = omega (arith, l.few, length-append a (inverse b), inverse_length b)
+  miter_few = omega (arith, l.few, miter_length a b)
 
   pub miter_valid : all_valid h.lines (miter_gates a b) ≡ true
   miter_valid = valid_append h.lines a (inverse b) l.first (inverse_valid h.lines b l.second)

@@ -1,23 +1,29 @@
 -- What the program writes: clauses or a refusal, each told by its bytes. Assumes nothing.
 use mathlib.Core.Path.{◌≡◌, refl, sym, ap, subst, ◌∙◌}
-use mathlib.Core.List.{List}
-use Prim.Native.Nat.{ℕ, ◌≤◌}
+use mathlib.Core.List.{List, ◌++◌}
+use Prim.Native.Nat.{ℕ, ◌≤◌, ◌<◌}
 use lib.Dec.{leb}
 use lib.ListN.{length, take}
 use lib.Seq.{take_at}
 use borrow.Author.Tests.{leb-true, le-leb}
-use Rattle.circuit.specs.Outcome.{Outcome, served, Yields}
+use Rattle.circuit.specs.declared.gate.Gate.{Gate}
+use Rattle.circuit.specs.declared.header.Header.{Header}
+use Rattle.circuit.specs.Outcome.{Outcome, served, before, Yields}
+use Rattle.circuit.specs.Text.{text_of}
+use Rattle.circuit.specs.FileLaws.{FileCascade}
 use Rattle.circuit.proofs.Promises.{demanded}
 use Rattle.circuit.specs.Refusal.{no_room}
 use Rattle.text.specs.Answers.{fit_outcome, fit_buffer, WritesWhere}
 use Rattle.text.specs.Formula.{Formula}
 use Rattle.text.specs.FileOutcome.{FileOutcome, answered, refused_at, refusal_text}
-use Rattle.text.specs.Tomiter.{verdict, verdict_text, tomiter_text, tomiter_outcome, tomiter_buffer, WritesText}
+use Rattle.text.specs.WholeFile.{FileWithin}
+use Rattle.text.specs.Tomiter.{max_input, max_input_gates, verdict, verdict_text, tomiter_text, tomiter_outcome, tomiter_buffer, WritesText}
 use Rattle.text.specs.BytesTell.{StartsProblem, TextTells, BytesTell}
-use Rattle.text.specs.TextLaws.{ProgramRefused, RightText, clauses, refusal, ProgramLaws, AsBuilt}
+use Rattle.text.specs.TextLaws.{ProgramRefused, first_file, in_second_file, RightText, clauses, refusal, ProgramLaws, AsBuilt}
 use Rattle.text.proofs.Fields.{refusal_apart}
 use Rattle.text.proofs.Telling.{refusal_starts, listed_fits, text_starts, text_fitting, text_told, as_built, dimacs_starts}
 use Rattle.text.proofs.Refusals.{refused_exactly}
+use Rattle.text.proofs.WholeFile.{large_refused}
 use Rattle.text.proofs.Writes.{writes_where}
 
 -- ---- the program
@@ -55,6 +61,17 @@ program_laws =
       refused = λ input number file place. (text_refused input number file place, refused_text input number file place);
     }
 
+-- a file of more than 1,024 gates, whatever follows its `end`
+pub first_large : (program : List ℕ → List ℕ) → ProgramLaws program → (h : Header) (a : List Gate) (rest : List ℕ) → FileCascade h a → max_input_gates < length a
+    → length (text_of h a ++ rest) ≤ max_input → program (text_of h a ++ rest) ≡ refusal_text no_room 1 0
+first_large program laws h a rest good more short =
+    (laws.refused _ no_room 1 0).1 (first_file no_room 0 short (large_refused max_input_gates h a rest good more))
+
+pub second_large : (program : List ℕ → List ℕ) → ProgramLaws program → (h k : Header) (a b : List Gate) (rest : List ℕ) → FileWithin max_input_gates h a → FileCascade k b → max_input_gates < length b
+    → length (text_of h a ++ (text_of k b ++ rest)) ≤ max_input → program (text_of h a ++ (text_of k b ++ rest)) ≡ refusal_text no_room 2 0
+second_large program laws h k a b rest good-a good more short =
+    (laws.refused _ no_room 2 0).1 (in_second_file h a (text_of k b ++ rest) no_room 0 short good-a refl (before (large_refused max_input_gates k b rest good more)))
+
 -- every such program writes this text
 pub program_only : (program : List ℕ → List ℕ) → ProgramLaws program → AsBuilt program → (input : List ℕ) → program input ≡ tomiter_text input
 program_only program laws built input = go (laws.writes input)
@@ -82,8 +99,8 @@ bytes_tell input out told last e l k s starts =
       header = h;
       first = a;
       second = b;
-      first_good = f.first;
-      second_good = f.second;
+      first_good = f.first.cascade;
+      second_good = f.second.cascade;
       files = f.files;
       told = subst (λ (text : List ℕ). TextTells text h a b) (sym same) (text_told input h a b f);
     }

@@ -3,7 +3,7 @@ use mathlib.Core.Path.{◌≡◌, refl, sym, ap, subst, ◌∙◌}
 use mathlib.Core.Logic.{◌↔◌}
 use mathlib.Core.Bool.{true, false}
 use mathlib.Core.List.{List, []}
-use Prim.Native.Nat.{ℕ, ◌^◌, ◌≤◌}
+use Prim.Native.Nat.{ℕ, ◌+◌, ◌^◌, ◌≤◌}
 use native.Mathlib.Omega.{arith}
 use lib.ListN.{length}
 use Rattle.bits.specs.Digits.{bit}
@@ -28,8 +28,9 @@ use Rattle.checking.proofs.Promises.{miter_laws, reduce_laws, sweep_says, clause
 use Rattle.text.specs.Formula.{Formula, formula_of, pair_formula}
 use Rattle.text.specs.Compare.{gates_left, alone, left_formula}
 use Rattle.text.specs.private.Words.{AllShort}
-use Rattle.text.proofs.Pairs.{Listable, list_tells, variables_few, miter_few, miter_valid}
+use Rattle.text.proofs.Pairs.{Listable, list_tells, variables_few, miter_length, miter_few, miter_valid}
 use Rattle.text.proofs.plain.Short.{list_short, pair_short, within_more}
+use Rattle.text.proofs.plain.Xors.{xors, list_xors, pair_xors}
 
 -- ---- one list of gates
 
@@ -139,3 +140,10 @@ module _ (h : Header) (a b : List Gate) (l : Listable h a b) where
 
   pub left_within : ClausesWithin max_variables (left_formula h a b).clauses
   left_within = within_more (left_formula h a b).variables max_variables (left_formula h a b).clauses left_variables left_tells.within
+
+  -- one XOR for each gate and each line at most
+  pub left_xors : xors (left_formula h a b).clauses ≤ length a + length b + h.lines
+  left_xors =
+      left_by (λ f. xors f.clauses ≤ length a + length b + h.lines)
+      (omega (arith, pair_xors h (alone a) (alone b), no_more h.lines a l.lines l.first, no_more h.lines b l.lines l.second))
+      (λ t. omega (arith, list_xors h.lines gl, no_more h.lines (miter_gates a b) l.lines valid, miter_length a b))

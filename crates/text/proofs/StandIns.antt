@@ -29,7 +29,8 @@ use Rattle.text.specs.Dimacs.{Dimacs, dimacs_of, dimacs_read}
 use Rattle.text.specs.Formula.{Formula}
 use Rattle.text.specs.Compare.{max_file}
 use Rattle.text.specs.FileOutcome.{refusal_text, answer_text}
-use Rattle.text.specs.Tomiter.{max_input, max_words}
+use Rattle.text.specs.Tomiter.{max_input, max_input_gates, max_words}
+use Rattle.text.specs.WholeFile.{FileWithin}
 use Rattle.text.specs.TwoFiles.{TwoFiles}
 use Rattle.text.specs.BytesTell.{StartsProblem, TextTells}
 use Rattle.text.specs.TextLaws.{Fitting, ProgramLaws, contradiction, without_first}
@@ -56,6 +57,13 @@ none_good = record { lines_low = omega arith; lines_high = omega arith; marks = 
 pub once_good : FileCascade plain once
 unfolding all_valid valid
 once_good = record { lines_low = omega arith; lines_high = omega arith; marks = unmarked_good 1; few = omega arith; gates = refl }
+
+-- of at most so many gates
+pub none_within : (most : ℕ) → FileWithin most plain []
+none_within most = record { cascade = none_good; gates = omega arith }
+
+pub once_within : (most : ℕ) → 1 ≤ most → FileWithin most plain once
+once_within most l = record { cascade = once_good; gates = omega (arith, l) }
 
 -- which differ on state 0
 pub once_differs : EqualFor plain once [] → ⊥
@@ -117,30 +125,37 @@ controlled_acts e =
     let z : ◌≡◌ {A = ℕ} 3 1 = f in
     omega arith
 
--- the files of two cascades
-files_of_two : (h : Header) (a b : List Gate) → FileCascade h a → FileCascade h b → leb (length (text_of h a)) max_file ≡ true → leb (length (text_of h b)) max_file ≡ true
-    → TwoFiles (text_of h a) (text_of h b) h a b
-files_of_two h a b x y l m =
-    record { first_good = x; second_good = y; first_text = refl; second_text = refl; first_bytes = leb-true _ _ l; second_bytes = leb-true _ _ m }
+-- the files of two cascades of one gate at most
+files_of_two : (h : Header) (a b : List Gate) → length a ≤ 1 → length b ≤ 1 → FileCascade h a → FileCascade h b → leb (length (text_of h a)) max_file ≡ true
+    → leb (length (text_of h b)) max_file ≡ true → TwoFiles (text_of h a) (text_of h b) h a b
+files_of_two h a b i j x y l m =
+    record {
+      first_good = record { cascade = x; gates = omega (arith, i) };
+      second_good = record { cascade = y; gates = omega (arith, j) };
+      first_text = refl;
+      second_text = refl;
+      first_bytes = leb-true _ _ l;
+      second_bytes = leb-true _ _ m;
+    }
 
 pub junk_files : TwoFiles (text_of junk_line once) (text_of junk_line []) junk_line once []
 unfolding marks_good all_valid valid number_text controls_text gate_lines controls_below lines_in bit
 junk_files =
-    files_of_two junk_line once []
+    files_of_two junk_line once [] (omega arith) (omega arith)
     (record { lines_low = omega arith; lines_high = omega arith; marks = refl; few = omega arith; gates = refl })
     (record { lines_low = omega arith; lines_high = omega arith; marks = refl; few = omega arith; gates = refl }) refl refl
 
 pub constant_files : TwoFiles (text_of constant_line controlled) (text_of constant_line []) constant_line controlled []
 unfolding marks_good all_valid valid number_text controls_text gate_lines controls_below lines_in bit
 constant_files =
-    files_of_two constant_line controlled []
+    files_of_two constant_line controlled [] (omega arith) (omega arith)
     (record { lines_low = omega arith; lines_high = omega arith; marks = refl; few = omega arith; gates = refl })
     (record { lines_low = omega arith; lines_high = omega arith; marks = refl; few = omega arith; gates = refl }) refl refl
 
 pub two_files : TwoFiles (text_of (unmarked 2) controlled) (text_of (unmarked 2) []) (unmarked 2) controlled []
 unfolding marks_good all_valid valid number_text controls_text gate_lines controls_below lines_in bit
 two_files =
-    files_of_two (unmarked 2) controlled []
+    files_of_two (unmarked 2) controlled [] (omega arith) (omega arith)
     (record { lines_low = omega arith; lines_high = omega arith; marks = refl; few = omega arith; gates = refl })
     (record { lines_low = omega arith; lines_high = omega arith; marks = refl; few = omega arith; gates = refl }) refl refl
 
@@ -170,10 +185,10 @@ unfolding stored pair_clauses clauses_of used_after current_after gates_clauses 
 equal_words = leb-true (length (stored (pair_clauses plain once once))) max_words refl
 
 differing_fits : Fitting differing plain once []
-differing_fits = record { first = once_good; second = none_good; files = refl; bytes = differing_bytes; words = differing_words }
+differing_fits = record { first = once_within max_input_gates (omega arith); second = none_within max_input_gates; files = refl; bytes = differing_bytes; words = differing_words }
 
 equal_fits : Fitting equal plain once once
-equal_fits = record { first = once_good; second = once_good; files = refl; bytes = equal_bytes; words = equal_words }
+equal_fits = record { first = once_within max_input_gates (omega arith); second = once_within max_input_gates (omega arith); files = refl; bytes = equal_bytes; words = equal_words }
 
 -- a text tells what its clauses tell
 text_tells : (text : List ℕ) (h : Header) (a b : List Gate) (v : ℕ) (cs : List Clause) → text ≡ dimacs_of v cs → ClausesWithin v cs → TextTells text h a b → TellsFor h v cs a b
@@ -212,7 +227,7 @@ unfolding without_first
 without_first_fails laws =
     let e : without_first equal ≡ dimacs_of (pair_variables plain once once) (drop 1 (pair_clauses plain once once)) =
     ap (answer_text (λ (f : Formula). dimacs_of f.variables (drop 1 f.clauses))) (fitting_verdict equal plain once once equal_fits) in
-    let t = text_tells (without_first equal) plain once once _ _ e (within_later (pair_variables plain once once) (pair_clauses plain once once) (list_within plain once once (listable plain once once once_good once_good))) (laws.told equal plain once once equal_fits) in
+    let t = text_tells (without_first equal) plain once once _ _ e (within_later (pair_variables plain once once) (pair_clauses plain once once) (list_within plain once once (listable plain once once equal_fits.first equal_fits.second))) (laws.told equal plain once once equal_fits) in
     t.equal.0 (λ x p k c. refl) free free_satisfies
 
 -- a program that refuses all
@@ -224,21 +239,28 @@ refuses_all program all laws =
 -- ---- and with marks that are passed over
 
 -- two good files and the words of their clause list, by their lengths
-fits_of_two : (h : Header) (a b : List Gate) → TwoFiles (text_of h a) (text_of h b) h a b → leb (length (text_of h a ++ text_of h b)) max_input ≡ true → leb (length (stored (pair_clauses h a b))) max_words ≡ true
+fits_of_two : (h : Header) (a b : List Gate) → length a ≤ 1 → length b ≤ 1 → TwoFiles (text_of h a) (text_of h b) h a b → leb (length (text_of h a ++ text_of h b)) max_input ≡ true → leb (length (stored (pair_clauses h a b))) max_words ≡ true
     → Fitting (text_of h a ++ text_of h b) h a b
-fits_of_two h a b t l m = record { first = t.first_good; second = t.second_good; files = refl; bytes = leb-true _ _ l; words = leb-true _ _ m }
+fits_of_two h a b i j t l m =
+    record {
+      first = record { cascade = t.first_good.cascade; gates = omega (arith, i) };
+      second = record { cascade = t.second_good.cascade; gates = omega (arith, j) };
+      files = refl;
+      bytes = leb-true _ _ l;
+      words = leb-true _ _ m;
+    }
 
 junk_fits : Fitting (text_of junk_line once ++ text_of junk_line []) junk_line once []
 unfolding number_text controls_text gate_lines stored pair_clauses side_by_side without_junk used_after current_after gates_clauses moved targeted difference_clauses up_from controls_below lines_in bit
-junk_fits = fits_of_two junk_line once [] junk_files refl refl
+junk_fits = fits_of_two junk_line once [] (omega arith) (omega arith) junk_files refl refl
 
 constant_fits : Fitting (text_of constant_line controlled ++ text_of constant_line []) constant_line controlled []
 unfolding number_text controls_text gate_lines stored pair_clauses side_by_side without_junk used_after current_after gates_clauses moved targeted difference_clauses up_from controls_below lines_in bit
-constant_fits = fits_of_two constant_line controlled [] constant_files refl refl
+constant_fits = fits_of_two constant_line controlled [] (omega arith) (omega arith) constant_files refl refl
 
 two_fit : Fitting (text_of (unmarked 2) controlled ++ text_of (unmarked 2) []) (unmarked 2) controlled []
 unfolding number_text controls_text gate_lines stored pair_clauses clauses_of used_after current_after gates_clauses moved targeted difference_clauses up_from controls_below lines_in bit
-two_fit = fits_of_two (unmarked 2) controlled [] two_files refl refl
+two_fit = fits_of_two (unmarked 2) controlled [] (omega arith) (omega arith) two_files refl refl
 
 -- the same text does not tell of two headers where only one calls two cascades equal
 module _ (program : List ℕ → List ℕ) (laws : ProgramLaws program) (h k : Header) (a b : List Gate) where

@@ -10,10 +10,7 @@ use borrow.Author.Tests.{le-leb, leb-true}
 use Rattle.circuit.specs.declared.gate.Gate.{Gate}
 use Rattle.circuit.specs.declared.header.Header.{Header}
 use Rattle.circuit.specs.Text.{text_of}
-use Rattle.circuit.specs.File.{reading}
-use Rattle.circuit.specs.FileLaws.{FileCascade}
 use Rattle.circuit.specs.Header.{unmarked}
-use Rattle.circuit.proofs.Promises.{reader}
 use Rattle.checking.specs.Miter.{miter_gates}
 use Rattle.checking.specs.Clauses.{Clause, clauses_of, variables_of}
 use Rattle.checking.specs.Pair.{pair_clauses, pair_variables}
@@ -22,29 +19,29 @@ use Rattle.checking.proofs.Promises.{unmarked_clauses, unmarked_variables}
 use Rattle.text.specs.Dimacs.{header_text, dimacs_of, dimacs_read}
 use Rattle.text.specs.Formula.{Formula, pair_formula}
 use Rattle.text.specs.FileOutcome.{FileOutcome, answered, refused_at, refusal_text}
-use Rattle.text.specs.Tomiter.{max_input, max_words, list_verdict, pair_verdict, second_verdict, verdict, verdict_text, tomiter_text}
+use Rattle.text.specs.Tomiter.{max_input, max_input_gates, max_words, list_verdict, pair_verdict, second_verdict, verdict, verdict_text, tomiter_text}
 use Rattle.text.specs.BytesTell.{StartsProblem, TextTells}
-use Rattle.text.specs.WholeFile.{whole_file}
+use Rattle.text.specs.WholeFile.{FileWithin, file_within, whole_file}
 use Rattle.text.specs.TextLaws.{Fitting}
 use Rattle.text.proofs.FileOutcome.{both_met, both_passed, file_passed}
 use Rattle.text.proofs.Pairs.{headers_met, headers_passed, listable, list_tells}
 use Rattle.text.proofs.Reading.{text_back}
-use Rattle.text.proofs.WholeFile.{WholeJudged, whole_judged, whole_is}
+use Rattle.text.proofs.WholeFile.{starts_as, within_text, WholeJudged, whole_judged, whole_is}
 use Rattle.text.proofs.list.Laws.{first_good, verdict_served}
 
 -- ---- good files
 
 -- after a good first file comes the second one
-pub after_first : (input : List ℕ) (h : Header) (a : List Gate) (rest : List ℕ) → length input ≤ max_input → FileCascade h a → input ≡ text_of h a ++ rest
+pub after_first : (input : List ℕ) (h : Header) (a : List Gate) (rest : List ℕ) → length input ≤ max_input → FileWithin max_input_gates h a → input ≡ text_of h a ++ rest
     → verdict input ≡ second_verdict h a rest
 after_first input h a rest short good e =
-    first_good input short _ (ap reading e ∙ reader.text_read h a rest good)
+    first_good input short _ (ap (file_within max_input_gates) e ∙ starts_as max_input_gates h a rest good)
     ∙ ap (second_verdict h a) (ap (drop (length (text_of h a))) e ∙ drop-append_seam (text_of h a) rest)
 
 -- and after a good second one, to its last byte, the pair
-pub after_second : (h : Header) (a : List Gate) (k : Header) (b : List Gate) → FileCascade k b → second_verdict h a (text_of k b) ≡ pair_verdict h a k b
+pub after_second : (h : Header) (a : List Gate) (k : Header) (b : List Gate) → FileWithin max_input_gates k b → second_verdict h a (text_of k b) ≡ pair_verdict h a k b
 after_second h a k b good =
-    verdict_served h a (text_of k b) _ (whole_is (text_of k b) k b good refl)
+    verdict_served h a (text_of k b) _ (whole_is max_input_gates (text_of k b) k b good refl)
 
 -- ---- an input that fits
 
@@ -72,20 +69,20 @@ module _ (input : List ℕ) (f : Formula) (e : verdict input ≡ answered f) whe
   unfolding verdict second_verdict pair_verdict list_verdict
   listed_fits =
       let (short, e1) = both_passed (leb (length input) max_input) _ _ f e in
-      let (c, first, e2) = file_passed 1 (reading input) _ f e1 in
+      let (c, first, e2) = file_passed 1 (file_within max_input_gates input) _ f e1 in
       let rest : List ℕ = drop c.taken input in
-      let (d, second, e4) = file_passed 2 (whole_file rest) _ f e2 in
+      let (d, second, e4) = file_passed 2 (whole_file max_input_gates rest) _ f e2 in
       let (same, e5) = headers_passed c.header d.header _ f e4 in
       let (words, e6) = both_passed (leb (length (stored (pair_clauses c.header c.gates d.gates))) max_words) _ _ f e5 in
-      let (good-a, text-a) = reader.read_text input c first in
-      let (good-b, text-b) = subst (WholeJudged rest) second (whole_judged rest) in
+      let (good-a, text-a) = within_text max_input_gates input c first in
+      let (good-b, text-b) = subst (WholeJudged max_input_gates rest) second (whole_judged max_input_gates rest) in
       let whole : rest ≡ text_of c.header d.gates = text-b ∙ ap (λ (h : Header). text_of h d.gates) (sym same) in (
         c.header,
         c.gates,
         d.gates,
         record {
           first = good-a;
-          second = subst (λ (h : Header). FileCascade h d.gates) (sym same) good-b;
+          second = subst (λ (h : Header). FileWithin max_input_gates h d.gates) (sym same) good-b;
           files = sym (take-append-drop c.taken input) ∙ ap₂ ◌++◌ text-a whole;
           bytes = leb-true (length input) max_input short;
           words = leb-true (length (stored (pair_clauses c.header c.gates d.gates))) max_words words;

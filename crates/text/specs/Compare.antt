@@ -1,5 +1,5 @@
 -- Two cascade files compared: from their bytes to the bytes that are written.
-use Rattle.std.specs.Prelude.{cond, List, [], ◌∷◌, ◌++◌, ℕ, ◌*◌, ◌^◌, ◌≤◌, ◌==◌, nat_le, length}
+use Rattle.std.specs.Prelude.{cond, List, [], ◌∷◌, ◌++◌, ℕ, ◌+◌, ◌*◌, ◌^◌, ◌≤◌, ◌==◌, nat_le, length}
 use Rattle.circuit.specs.declared.gate.Gate.{Gate}
 use Rattle.circuit.specs.declared.header.Header.{Header}
 use Rattle.circuit.specs.Gate.{max_lines}
@@ -19,9 +19,9 @@ use Rattle.text.specs.FileOutcome.{FileOutcome, answered, of_both, of_that, of_f
 use Rattle.text.specs.Plain.{plain_clauses}
 use Rattle.text.specs.WholeFile.{whole_file}
 
--- a file has 262,144 bytes at most and its cascade 8,192 gates, and a clause list 262,144 words
+-- a file has 524,288 bytes at most and its cascade 8,192 gates, and a clause list 262,144 words
 abbrev pub max_file : ℕ
-max_file = 262144
+max_file = 524288
 
 abbrev pub max_file_gates : ℕ
 max_file_gates = 8192
@@ -57,7 +57,7 @@ second_file h gs second =
     of_file 2 (whole_file max_file_gates second) (λ d.
     of_both (h.lines == d.header.lines) line_counts_differ (of_both (same_marks h d.header) marks_differ (answered (cascades h gs d.gates))))
 
--- more than 262,144 bytes: 10, with the file's number; the first file, 10 for more than 8,192 gates; the second one
+-- more than 524,288 bytes: 10, with the file's number; the first file, 10 for more than 8,192 gates; the second one
 unfoldable pub files_of : List ℕ → List ℕ → FileOutcome CascadePair
 files_of first second =
     of_that 1 (nat_le (length first) max_file) no_room

@@ -8,6 +8,7 @@ ghost use Rattle.text.specs.private.Lists.{Delivers};
 use crate::pair::{CascadeRead, StartRead};
 use crate::refused::{File, FileRefusal};
 use checking::clauses::{ClauseWord, Totals};
+use circuit::gate::Gate;
 use circuit::refusal::Refusal;
 
 // The clause list of two cascades; else 8, 15 or 10.
@@ -36,9 +37,13 @@ pub(crate) fn list(input: &[u8], clauses: &mut [ClauseWord]) -> Result<Totals, F
     if crate::MAX_INPUT < input.len() {
         return Err(FileRefusal::both(Refusal::NoRoom));
     }
-    let mut a = [0u64; crate::FILE_WORDS];
-    let mut b = [0u64; crate::FILE_WORDS];
-    let first = File::First.of(StartRead::read(input, &mut a))?;
-    let second = File::Second.of(CascadeRead::read(&input[first.taken..], &mut b))?;
+    let mut a = [0u64; Gate::WORDS * crate::MAX_INPUT_GATES];
+    let mut b = [0u64; Gate::WORDS * crate::MAX_INPUT_GATES];
+    let first = File::First.of(StartRead::read(input, crate::MAX_INPUT_GATES, &mut a))?;
+    let second = File::Second.of(CascadeRead::read(
+        &input[first.taken..],
+        crate::MAX_INPUT_GATES,
+        &mut b,
+    ))?;
     list_pair(first.cascade, second, clauses)
 }

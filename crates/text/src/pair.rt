@@ -4,6 +4,7 @@ ghost use Rattle.std.specs.Prelude.{◌≡◌, ◌/◌, ◌≤◌, length};
 ghost use Rattle.circuit.specs.Gate.{max_gates};
 ghost use Rattle.circuit.specs.Words.{Headed};
 ghost use Rattle.circuit.specs.File.{mark_lines};
+ghost use Rattle.text.specs.Compare.{file_words};
 
 use crate::refused::{File, FileRefusal};
 use circuit::gate::Gate;
@@ -23,6 +24,7 @@ pub(crate) struct CascadeRead<'a> {
     pub header: Header,
     pub words: &'a [u64],
     ghost cascade: { Headed header words.now max_gates (length words.now / 3) },
+    ghost few: { length words.now ≤ file_words },
 }
 
 // The same, and the bytes that it took.
@@ -41,18 +43,24 @@ pub(crate) struct PairRead<'a> {
 }
 
 impl<'a> StartRead<'a> {
-    ghost use Rattle.std.specs.Prelude.{◌≡◌, ◌≤◌, length};
+    ghost use Rattle.std.specs.Prelude.{◌≡◌, ◌*◌, ◌≤◌, length};
     ghost use Rattle.circuit.specs.Outcome.{outcome_of, map_served};
-    ghost use Rattle.circuit.specs.File.{reading};
-    ghost use Rattle.text.specs.Compare.{file_words};
+    ghost use Rattle.text.specs.Compare.{max_file_gates};
+    ghost use Rattle.text.specs.WholeFile.{file_within};
     ghost use Rattle.text.specs.private.Files.{reading_of};
 
-    // The cascade at the start of a text; else what is wrong with it.
-    pub(crate) fn read(text: &[u8], room: &'a mut [u64]) -> Result<StartRead<'a>, Refusal>
-        requires { file_words ≤ length room.old }
-        ensures { map_served reading_of (outcome_of result) ≡ reading text.now }
+    // The cascade of at most `most` gates at the start of a text; else what is wrong with it. The reading itself tells 10, as it has room for no more.
+    pub(crate) fn read(
+        text: &[u8],
+        most: usize,
+        room: &'a mut [u64],
+    ) -> Result<StartRead<'a>, Refusal>
+        requires few { most ≤ max_file_gates }
+        requires long { 3 * most ≤ length room.old }
+        ensures { map_served reading_of (outcome_of result) ≡ file_within most text.now }
     {
-        let counts = circuit::file::read(text, room)?;
+        let end = Gate::WORDS * most;
+        let counts = circuit::file::read(text, &mut room[..end])?;
         Ok(StartRead {
             cascade: CascadeRead {
                 header: counts.header,
@@ -64,18 +72,23 @@ impl<'a> StartRead<'a> {
 }
 
 impl<'a> CascadeRead<'a> {
-    ghost use Rattle.std.specs.Prelude.{◌≡◌, ◌≤◌, length};
+    ghost use Rattle.std.specs.Prelude.{◌≡◌, ◌*◌, ◌≤◌, length};
     ghost use Rattle.circuit.specs.Outcome.{outcome_of, map_served};
-    ghost use Rattle.text.specs.Compare.{file_words};
+    ghost use Rattle.text.specs.Compare.{max_file_gates};
     ghost use Rattle.text.specs.WholeFile.{whole_file};
     ghost use Rattle.text.specs.private.Files.{whole_of};
 
-    // The cascade of a file, which has no byte after its `end`.
-    pub(crate) fn read(text: &[u8], room: &'a mut [u64]) -> Result<CascadeRead<'a>, Refusal>
-        requires { file_words ≤ length room.old }
-        ensures { map_served (whole_of (length text.now)) (outcome_of result) ≡ whole_file text.now }
+    // The cascade of at most `most` gates of a file, which has no byte after its `end`; else what is wrong with it.
+    pub(crate) fn read(
+        text: &[u8],
+        most: usize,
+        room: &'a mut [u64],
+    ) -> Result<CascadeRead<'a>, Refusal>
+        requires few { most ≤ max_file_gates }
+        requires long { 3 * most ≤ length room.old }
+        ensures { map_served (whole_of (length text.now)) (outcome_of result) ≡ whole_file most text.now }
     {
-        let start = StartRead::read(text, room)?;
+        let start = StartRead::read(text, most, room)?;
         if start.taken != text.len() {
             let gates = start.cascade.words.len() / Gate::WORDS;
             let before = mark_lines(start.cascade.header) + gates as u64;
@@ -104,13 +117,19 @@ impl<'a> PairRead<'a> {
         ensures { map_answer pair_of (answer_of result) ≡ files_of first.now second.now }
     {
         if crate::MAX_FILE < first.len() {
-            return Err(FileRefusal::both(Refusal::NoRoom));
+            return Err(FileRefusal {
+                why: Refusal::NoRoom,
+                file: File::First,
+            });
         }
         if crate::MAX_FILE < second.len() {
-            return Err(FileRefusal::both(Refusal::NoRoom));
+            return Err(FileRefusal {
+                why: Refusal::NoRoom,
+                file: File::Second,
+            });
         }
-        let first = File::First.of(CascadeRead::read(first, a))?;
-        let second = File::Second.of(CascadeRead::read(second, b))?;
+        let first = File::First.of(CascadeRead::read(first, crate::MAX_FILE_GATES, a))?;
+        let second = File::Second.of(CascadeRead::read(second, crate::MAX_FILE_GATES, b))?;
         if first.header.lines != second.header.lines {
             return Err(FileRefusal::both(Refusal::LineCountsDiffer));
         }

@@ -6,15 +6,12 @@ ghost use Rattle.text.specs.Tomiter.{max_text, tomiter_text};
 
 use checking::clauses::ClauseWord;
 
-// The words of the clause buffer.
-const CLAUSE_WORDS: usize = 16384;
-
 // Writes what the program answers to an input.
 pub(crate) fn put_text(out: &mut [u8], input: &[u8]) -> usize
     requires { max_text ≤ length out.old }
     ensures { Put result out.new (tomiter_text input.now) out.old }
 {
-    let mut clauses: [ClauseWord; CLAUSE_WORDS] = [0; CLAUSE_WORDS];
+    let mut clauses: [ClauseWord; crate::MAX_WORDS] = [0; crate::MAX_WORDS];
     match crate::list::list(input, &mut clauses) {
         Ok(totals) => {
             let end = totals.words as usize;

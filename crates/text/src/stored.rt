@@ -35,7 +35,7 @@ impl<'a> Iterator for Records<'a> {
         if words.is_empty() {
             return None;
         }
-        let end = 2 + usize::from(words[1].unsigned_abs());
+        let end = 2 + words[1].unsigned_abs() as usize;
         self.words = &words[end..];
         Some(Record {
             kind: words[0],

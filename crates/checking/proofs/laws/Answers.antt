@@ -12,6 +12,7 @@ use Rattle.checking.proofs.lemmas.Rows.{row_laws}
 use Rattle.checking.proofs.lemmas.faults.Refusals.{refusal_laws}
 use Rattle.checking.proofs.lemmas.faults.StandIns.{fault_laws}
 use Rattle.checking.proofs.lemmas.faults.Unmarked.{unmarked_laws}
+use Rattle.checking.proofs.lemmas.widths.Calls.{width_laws}
 use Rattle.checking.proofs.laws.Goals as goal
 
 pub returns : goal.returns
@@ -29,5 +30,6 @@ returns c =
       rows = row_laws;
       refusals = refusal_laws;
       faults = fault_laws;
+      widths = width_laws;
       unmarked = unmarked_laws;
     }

@@ -60,9 +60,9 @@ pub refusal_long : (a b c : ℕ) → length (refusal_text a b c) ≡ length (dec
 unfolding refusal_text
 refusal_long a b c = omega (arith, three_long (refused_word ++ (tab ∷ [])) a b c)
 
-pub refusal_few : (number file place : ℕ) → number < 100 → file < 10 → place < 10000 → length (refusal_text number file place) ≤ 18
+pub refusal_few : (number file place : ℕ) → number < 100 → file < 10 → place < 100000 → length (refusal_text number file place) ≤ 19
 refusal_few number file place a b c =
-    omega (arith, refusal_long number file place, decimal_few 1 number a, decimal_few 0 file b, decimal_few 3 place c)
+    omega (arith, refusal_long number file place, decimal_few 1 number a, decimal_few 0 file b, decimal_few 4 place c)
 
 one_long : length (decimal 0) ≡ 1
 one_long = ap length (Rattle.text.proofs.Decimal.decimal_short 0 (omega arith))

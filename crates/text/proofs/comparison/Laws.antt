@@ -36,7 +36,7 @@ use Rattle.text.specs.declared.comparison.Compared.TheVariants.{Clauses}
 use Rattle.text.specs.declared.refused.FileRefusal.{FileRefusal}
 use Rattle.text.specs.Formula.{Formula, formula_of, pair_formula}
 use Rattle.text.specs.FileOutcome.{FileOutcome, answered, refused_at, answer_of, map_answer}
-use Rattle.text.specs.Compare.{miter_words, max_list, Comparison, unsolved, alone, swept_as, list_as}
+use Rattle.text.specs.Compare.{max_list, Comparison, unsolved, alone, swept_as, list_as}
 use Rattle.text.specs.private.Lists.{ListStands}
 use Rattle.text.specs.private.Words.{AllShort}
 use Rattle.text.specs.private.Comparing.{MiterWords, MiterCascade, LeftIn, listed_as, compared_as, ClausesReady, ComparedReady, InClauses, SaysCompared, SaysAny}
@@ -101,14 +101,14 @@ module _ (n k : ℕ) (room : List ℕ) (gs : List Gate) (l : LeftIn n k room gs)
 
 -- the miter of two cascades
 module _ (h k : Header) (a b : List ℕ) (i j : ℕ) (ga : Headed h a max_gates i) (gb : Headed k b max_gates j) (same : h ≡ k) where
-  pub miter_made : (room : ℕ) → miter_words ≤ room → miter_outcome h.lines a k.lines b room ≡ served (i + j)
+  pub miter_made : (room : ℕ) → length a + length b ≤ room → miter_outcome h.lines a k.lines b room ≡ served (i + j)
   miter_made room long =
       let x = ga.cascade in
       let y = gb.cascade in
       (miter_laws.miter_served h.lines a k.lines b room (i + j)).1
-      (record { first = i; second = j; first_good = x; second_good = y; lines = ap (λ (g : Header). g.lines) same; fits = omega (arith, x.size, x.few, y.size, y.few); count = refl })
+      (record { first = i; second = j; first_good = x; second_good = y; lines = ap (λ (g : Header). g.lines) same; fits = omega (arith, x.size, y.size, long); count = refl })
 
-  pub miter_in : (out : List ℕ) (gates : ℕ) (buffer : List ℕ) → miter_words ≤ length out → served gates ≡ miter_outcome h.lines a k.lines b (length out) → buffer ≡ miter_buffer h.lines a k.lines b out
+  pub miter_in : (out : List ℕ) (gates : ℕ) (buffer : List ℕ) → length a + length b ≤ length out → served gates ≡ miter_outcome h.lines a k.lines b (length out) → buffer ≡ miter_buffer h.lines a k.lines b out
       → length buffer ≡ length out → LeftIn h.lines gates buffer (miter_gates (gates_of a) (gates_of b))
   miter_in out gates buffer long e is l =
       let m = miter_laws.miter_stands h.lines a k.lines b out gates (sym e) in
@@ -118,7 +118,7 @@ module _ (h k : Header) (a b : List ℕ) (i j : ℕ) (ga : Headed h a max_gates 
       record {
         words =
             record {
-              inside = omega (arith, s.count, x.few, y.few);
+              inside = omega (arith, s.count, x.size, y.size, long);
               cascade = subst (λ (ws : List ℕ). Cascade h.lines (take (3 * gates) ws) max_miter_gates gates) (sym is) m.cascade;
             };
         gates_are = ap (λ (ws : List ℕ). gates_of (take (3 * gates) ws)) is ∙ m.gates;

@@ -1,13 +1,13 @@
 -- What the functions from an input to its clause list owe, case by case. Assumes nothing.
 use mathlib.Core.Path.{◌≡◌, refl, sym, ap, ap₂, subst, ◌∙◌}
 use mathlib.Core.Bool.{true, false}
-use mathlib.Core.List.{List}
+use mathlib.Core.List.{List, ◌++◌}
 use Prim.Native.Nat.{ℕ, ◌*◌, ◌/◌, ◌≤◌, ◌<◌}
 use native.Mathlib.Omega.{arith}
 use lib.Dec.{leb}
 use lib.IntN.{ℤ}
 use lib.ListN.{length, take, drop, length-append}
-use lib.Seq.{take-append_seam, take_at}
+use lib.Seq.{take-append_seam, take-append-le, take_at}
 use borrow.Author.Tests.{le-leb, lt-leb, leb-true}
 use Rattle.bits.specs.Lists.{over}
 use Rattle.bits.proofs.Bools.{either}
@@ -18,11 +18,10 @@ use Rattle.circuit.specs.Gate.{max_gates, max_miter_gates}
 use Rattle.circuit.specs.Outcome.{Outcome, served, refused, demand, before, then, fails}
 use Rattle.circuit.specs.Refusal.{line_counts_differ, marks_differ, no_room, refusal_number, refusal_place}
 use Rattle.circuit.specs.Words.{gates_of, words_of, all_valid, Cascade, Headed, HeadersDiffer, other_lines, other_marks}
-use Rattle.circuit.proofs.Promises.{never, same_refusal, demand_met, demand_failed, demanded, gates_length, gates_words, words_length, headed_pair_refused, reader, read_served, read_refused, read_leaves}
-use Rattle.circuit.specs.Text.{text_of}
-use Rattle.circuit.specs.File.{Reading, reading, read_outcome, read_buffer}
+use Rattle.circuit.proofs.Promises.{never, same_refusal, demand_met, demand_failed, demanded, gates_length, gates_words, words_length, headed_pair_refused, read_as, read_served, read_refused, read_leaves}
+use Rattle.circuit.specs.File.{Reading, read_outcome, read_buffer}
 use Rattle.circuit.specs.declared.file.ReadCounts.{ReadCounts}
-use Rattle.circuit.specs.FileLaws.{ReadRefused}
+use Rattle.circuit.specs.FileLaws.{ReadRefused, ReadAs}
 use Rattle.checking.specs.declared.clauses.Totals.{Totals}
 use Rattle.checking.specs.Clauses.{Clause, max_variables}
 use Rattle.checking.specs.Satisfaction.{ClausesWithin}
@@ -33,15 +32,15 @@ use Rattle.checking.specs.Emit.{emit_outcome, emit_buffer}
 use Rattle.checking.proofs.Promises.{emit_laws, emit_cascade, pair_emit_good, pair_emit_wrong, pair_emit_leaves}
 use Rattle.std.proofs.Common.{Result, Ok, Err}
 use Rattle.text.specs.declared.refused.FileRefusal.{FileRefusal}
-use Rattle.text.specs.WholeFile.{whole_file}
+use Rattle.text.specs.WholeFile.{file_within, whole_file, WithinRefused}
 use Rattle.text.specs.Formula.{Formula, formula_of, pair_formula}
 use Rattle.text.specs.FileOutcome.{FileOutcome, answered, refused_at, of_file, file_number, answer_of}
-use Rattle.text.specs.Tomiter.{max_input, max_words, list_verdict, pair_verdict, second_verdict, verdict}
-use Rattle.text.specs.Compare.{file_words}
+use Rattle.text.specs.Tomiter.{max_input, max_input_gates, max_words, list_verdict, pair_verdict, second_verdict, verdict}
 use Rattle.text.specs.private.Lists.{FileWords, ListStands, Delivers}
 use Rattle.text.specs.private.Words.{AllShort}
 use Rattle.text.proofs.FileOutcome.{both_met, both_failed, file_served, file_refused, said, said_wrong}
 use Rattle.text.proofs.Pairs.{by_headers, headers_met, lines_apart, marks_apart, Listable, list_below}
+use Rattle.text.proofs.WholeFile.{within_refused, within_as}
 use Rattle.text.proofs.plain.Short.{list_short, list_within as gates_within, pair_short}
 
 -- the same verdict, said in another way
@@ -188,46 +187,44 @@ pub own_words : (h : Header) (ws : List ℕ) → Headed h ws max_gates (length w
 own_words h ws c = record { count = length ws / 3; cascade = c }
 
 -- a file that was read: its cascade, the words in the buffer, and the bytes that were taken
-pub record FileRead (text : List ℕ) (h : Header) (gates taken : ℕ) (buffer : List ℕ) : Type 0 where
+pub record FileRead (text : List ℕ) (most : ℕ) (h : Header) (gates taken : ℕ) (buffer : List ℕ) : Type 0 where
   pub cascade : List Gate
-  pub is : reading text ≡ served (record { header = h; gates = cascade; taken = taken })
-  pub count : gates ≡ length cascade
-  pub few : gates ≤ max_gates
+  pub is : file_within most text ≡ served (record { header = h; gates = cascade; taken = taken })
+  pub few : gates ≤ most
   pub inside : 3 * gates ≤ length buffer
   pub words : FileWords h (take (3 * gates) buffer)
   pub gates_are : gates_of (take (3 * gates) buffer) ≡ cascade
-  pub within : taken ≤ length text
 
 abbrev counts : Header → ℕ → ℕ → ReadCounts
 counts h gates taken = record { header = h; gates = gates; taken = taken }
 
-module _ (text : List ℕ) (room : ℕ) (long : file_words ≤ room) where
-  pub file_bad : (number place : ℕ) → read_outcome text room ≡ refused number place → reading text ≡ refused number place
-  file_bad number place e = wrong number place ((read_refused text room number place).0 e)
+-- read into a room for so many gates
+module _ (text : List ℕ) (most : ℕ) (out : List ℕ) (is : length out ≡ 3 * most) where
+  -- it is refused as a file of at most as many
+  pub file_bad : (number place : ℕ) → read_outcome text (length out) ≡ refused number place → file_within most text ≡ refused number place
+  file_bad number place e = (within_refused most text number place).1 (wrong number place ((read_refused text (length out) number place).0 e))
     where
-      wrong : (number place : ℕ) → ReadRefused text room number place → reading text ≡ refused number place
-      wrong number place (before f) = (reader.read_refused text number place).1 f
-      wrong _ _ (then c good (fails less)) = absurd (omega (arith, good.good.few))
+      wrong : (number place : ℕ) → ReadRefused text (length out) number place → WithinRefused most text number place
+      wrong number place (before f) = before f
+      wrong _ _ (then c good (fails less)) = then c good (fails (omega (arith, less, is)))
 
-  pub file_read : (h : Header) (gates taken : ℕ) (buffer out : List ℕ) → length out ≡ room → read_outcome text (length out) ≡ served (counts h gates taken) → buffer ≡ read_buffer text out
-      → FileRead text h gates taken buffer
-  file_read h gates taken buffer out size e b =
+  pub file_read : (h : Header) (gates taken : ℕ) (buffer : List ℕ) → read_outcome text (length out) ≡ served (counts h gates taken) → buffer ≡ read_buffer text out
+      → FileRead text most h gates taken buffer
+  file_read h gates taken buffer e b =
       let s = read_served text (length out) (counts h gates taken) e in
       let hs : List Gate = s.cascade in
       let g = s.good in
-      let r : reading text ≡ served (record { header = h; gates = hs; taken = taken }) =
-      ap reading s.starts ∙ reader.text_read h hs s.rest g
-      ∙ ap (λ (t : ℕ). served (record { header = h; gates = hs; taken = t })) (sym s.taken) in
-      let is : buffer ≡ over (words_of hs) out = b ∙ read_leaves text out (counts h gates taken) (record { header = h; gates = hs; taken = taken }) e r in
+      let c : Reading = record { header = h; gates = hs; taken = taken } in
+      let r : ReadAs text c = record { good = g; rest = s.rest; starts = s.starts; bytes = s.taken } in
+      let stands : buffer ≡ over (words_of hs) out = b ∙ read_leaves text out (counts h gates taken) c e ((read_as text c).1 r) in
       let l : length (words_of hs) ≡ 3 * gates = words_length hs ∙ ap (λ (k : ℕ). 3 * k) (sym s.gates) in
-      let t : take (3 * gates) buffer ≡ words_of hs = ap (take (3 * gates)) is ∙ take_at (words_of hs) (drop (length (words_of hs)) out) (3 * gates) l in
+      let t : take (3 * gates) buffer ≡ words_of hs = ap (take (3 * gates)) stands ∙ take_at (words_of hs) (drop (length (words_of hs)) out) (3 * gates) l in
       let few : gates ≤ max_gates = omega (arith, s.gates, g.few) in
       record {
         cascade = hs;
-        is = r;
-        count = s.gates;
-        few = few;
-        inside = omega (arith, ap length is, over_length (words_of hs) out (omega arith));
+        is = (within_as most text c).1 (record { read = r; gates = omega (arith, s.fits, is) });
+        few = omega (arith, s.gates, s.fits, is);
+        inside = omega (arith, ap length stands, over_length (words_of hs) out (omega arith));
         words =
             subst (FileWords h) (sym t)
             (record {
@@ -246,19 +243,31 @@ module _ (text : List ℕ) (room : ℕ) (long : file_words ≤ room) where
                   };
             });
         gates_are = ap gates_of t ∙ gates_words hs;
-        within = omega (arith, ap length s.starts, length-append (text_of h hs) s.rest, s.taken);
       }
+
+-- what follows the room stands behind it
+pub read_within : {text : List ℕ} {most : ℕ} {h : Header} {gates taken : ℕ} {buffer : List ℕ} (rest : List ℕ) → FileRead text most h gates taken buffer → FileRead text most h gates taken (buffer ++ rest)
+read_within {text} {most} {h} {gates} {taken} {buffer} rest r =
+    let e : take (3 * gates) (buffer ++ rest) ≡ take (3 * gates) buffer = take-append-le (3 * gates) buffer rest r.inside in
+    record {
+      cascade = r.cascade;
+      is = r.is;
+      few = r.few;
+      inside = omega (arith, r.inside, length-append buffer rest);
+      words = subst (FileWords h) (sym e) r.words;
+      gates_are = ap gates_of e ∙ r.gates_are;
+    }
 
 -- ---- the second file
 
 module _ (h : Header) (gs : List Gate) (text : List ℕ) where
-  pub verdict_refused : (number place : ℕ) → whole_file text ≡ refused number place → second_verdict h gs text ≡ refused_at number 2 place
+  pub verdict_refused : (number place : ℕ) → whole_file max_input_gates text ≡ refused number place → second_verdict h gs text ≡ refused_at number 2 place
   unfolding second_verdict
-  verdict_refused number place e = file_refused 2 (whole_file text) _ number place e
+  verdict_refused number place e = file_refused 2 (whole_file max_input_gates text) _ number place e
 
-  pub verdict_served : (c : Reading) → whole_file text ≡ served c → second_verdict h gs text ≡ pair_verdict h gs c.header c.gates
+  pub verdict_served : (c : Reading) → whole_file max_input_gates text ≡ served c → second_verdict h gs text ≡ pair_verdict h gs c.header c.gates
   unfolding second_verdict
-  verdict_served c e = file_served 2 (whole_file text) _ c e
+  verdict_served c e = file_served 2 (whole_file max_input_gates text) _ c e
 
 -- ---- the input
 
@@ -267,12 +276,12 @@ unfolding verdict
 input_long input h = both_failed (leb (length input) max_input) _ _ (lt-leb (length input) max_input h)
 
 module _ (input : List ℕ) (short : length input ≤ max_input) where
-  pub first_bad : (number place : ℕ) → reading input ≡ refused number place → verdict input ≡ refused_at number 1 place
+  pub first_bad : (number place : ℕ) → file_within max_input_gates input ≡ refused number place → verdict input ≡ refused_at number 1 place
   unfolding verdict
   first_bad number place e =
-      both_met (leb (length input) max_input) _ _ (le-leb (length input) max_input short) ∙ file_refused 1 (reading input) _ number place e
+      both_met (leb (length input) max_input) _ _ (le-leb (length input) max_input short) ∙ file_refused 1 (file_within max_input_gates input) _ number place e
 
-  pub first_good : (c : Reading) → reading input ≡ served c → verdict input ≡ second_verdict c.header c.gates (drop c.taken input)
+  pub first_good : (c : Reading) → file_within max_input_gates input ≡ served c → verdict input ≡ second_verdict c.header c.gates (drop c.taken input)
   unfolding verdict
   first_good c e =
-      both_met (leb (length input) max_input) _ _ (le-leb (length input) max_input short) ∙ file_served 1 (reading input) _ c e
+      both_met (leb (length input) max_input) _ _ (le-leb (length input) max_input short) ∙ file_served 1 (file_within max_input_gates input) _ c e

@@ -9,13 +9,14 @@ use mir.Val.{SFits, to_z, of_z}
 use Rattle.checking.specs.Clauses.{Clause, OR, XOR, max_variables}
 use Rattle.checking.specs.Satisfaction.{variable_of, LiteralsWithin, clause_literals, ClausesWithin}
 use Rattle.checking.specs.Stored.{word_width, word_limit, stored_clause, stored}
-use Rattle.checking.proofs.Promises.{neg_size, stored_next}
+use Rattle.checking.proofs.Promises.{stored_next}
 use Rattle.text.specs.Dimacs.{blank, literal_text, literals_text, body_text, closing, clause_text, clauses_text}
 use Rattle.text.specs.Plain.{negations, plain_clause, plain_clauses}
 use Rattle.text.specs.Compare.{max_list}
 use Rattle.text.specs.private.Words.{plain_record, TwoOrThree, ShortRecord, ShortClause, AllShort, Plainable}
 use Rattle.text.proofs.Decimal.{decimal_few}
-use Rattle.text.proofs.Sizes.{literal_few, literals_few, body_few}
+use Rattle.text.proofs.Sizes.{literals_few, body_few}
+use Rattle.text.proofs.plain.Xors.{xors, xors_append}
 use Rattle.text.proofs.dimacs.Signed.{word_is}
 use Rattle.text.proofs.dimacs.Loops.{literals_next, literals_end, body_some}
 
@@ -29,14 +30,6 @@ opposite_fits (negsuc i) h = record { sfits = omega arith }
 -- as it is passed on
 pub opposite_is : (z : ℤ) → variable_of z < word_limit → to_z word_width (of_z word_width (pos 0 -ℤ z)) ≡ neg_ℤ z
 opposite_is z h = ap (λ (x : ℤ). to_z word_width (of_z word_width x)) (+ℤ_idl (neg_ℤ z)) ∙ word_is (neg_ℤ z) (opposite_fits z h)
-
-size_fits : (z : ℤ) → SFits word_width z → variable_of z ≤ word_limit
-size_fits (pos v) f = let h = f.sfits in omega arith
-size_fits (negsuc i) f = let h = f.sfits in omega arith
-
-pub literal_wide : (z : ℤ) → SFits word_width z → length (literal_text z) ≤ 6
-literal_wide (pos v) f = omega (arith, decimal_few 4 v (omega (arith, size_fits (pos v) f)))
-literal_wide (negsuc i) f = omega (arith, decimal_few 4 (suc i) (omega (arith, size_fits (negsuc i) f)))
 
 -- ---- one record
 
@@ -205,14 +198,17 @@ triple_count a b c = refl
 pub twice_is : (z : ℤ) (r : ℕ) → variable_of z ≤ max_variables → r ≡ twice (to_z word_width (of_z word_width z)) → r ≡ twice z
 twice_is z r h e = e ∙ ap twice (small_word z h)
 
-pub twice_few : (l : ℤ) → variable_of l ≤ max_variables → twice l ≤ 10
-twice_few l h = omega (arith, literal_few max_variables l (omega arith) h, literal_few max_variables (neg_ℤ l) (omega arith) (omega (arith, neg_size l)))
+-- five digits at most, and a minus at one of the two
+pub twice_few : (l : ℤ) → variable_of l ≤ max_variables → twice l ≤ 11
+twice_few (pos zero) h = omega (arith, decimal_few 0 0 (omega arith))
+twice_few (pos (suc i)) h = omega (arith, decimal_few 4 (suc i) (omega arith))
+twice_few (negsuc i) h = omega (arith, decimal_few 4 (suc i) (omega arith))
 
--- sixteen bytes a word, and no more clauses than words
+-- seven bytes a word and fifty-one more for an XOR, and no more clauses than words
 clause_few : (c : Clause) → ShortClause c → LiteralsWithin max_variables (clause_literals c)
-    → (length (clauses_text (plain_clause c)) ≤ 16 * length (stored_clause c)) × (length (plain_clause c) ≤ length (stored_clause c))
+    → (length (clauses_text (plain_clause c)) ≤ 7 * length (stored_clause c) + 51 * xors (c ∷ [])) × (length (plain_clause c) ≤ length (stored_clause c))
 unfolding negations
-clause_few (OR ls) s w = (omega (arith, or_long ls, body_few max_variables ls (omega arith) w), omega arith)
+clause_few (OR ls) s w = (omega (arith, or_long ls, body_few 4 max_variables (omega arith) ls w), omega arith)
 clause_few (XOR []) s w = absurd s
 clause_few (XOR (a ∷ [])) s w = absurd s
 clause_few (XOR (a ∷ b ∷ [])) s w = (omega (arith, pair_long a b, twice_few a w.0.1, twice_few b w.1.0.1), omega arith)
@@ -221,23 +217,23 @@ clause_few (XOR (a ∷ b ∷ c ∷ [])) s w =
 clause_few (XOR (a ∷ b ∷ c ∷ d ∷ ls)) s w = absurd s
 
 pub plain_few : (cs : List Clause) → AllShort cs → ClausesWithin max_variables cs
-    → (length (clauses_text (plain_clauses cs)) ≤ 16 * length (stored cs)) × (length (plain_clauses cs) ≤ length (stored cs))
+    → (length (clauses_text (plain_clauses cs)) ≤ 7 * length (stored cs) + 51 * xors cs) × (length (plain_clauses cs) ≤ length (stored cs))
 unfolding plain_clauses clauses_text
 plain_few [] s w = (omega arith, omega arith)
 plain_few (c ∷ cs) s w =
     let (a, b) = clause_few c s.0 w.0 in
     let (d, e) = plain_few cs s.1 w.1 in (
-      omega (arith, a, d, ap length (clauses_append (plain_clause c) (plain_clauses cs)), length-append (clauses_text (plain_clause c)) (clauses_text (plain_clauses cs)), ap length (stored_next c cs), length-append (stored_clause c) (stored cs)),
+      omega (arith, a, d, xors_append (c ∷ []) cs, ap length (clauses_append (plain_clause c) (plain_clauses cs)), length-append (clauses_text (plain_clause c)) (clauses_text (plain_clauses cs)), ap length (stored_next c cs), length-append (stored_clause c) (stored cs)),
       omega (arith, b, e, length-append (plain_clause c) (plain_clauses cs), ap length (stored_next c cs), length-append (stored_clause c) (stored cs)),
     )
 
 -- what the loop over an OR's literals keeps
 pub record Closing (ls : List ℤ) (size i : ℕ) : Type 0 where
   pub sum : size + length (literals_text (drop i ls)) ≡ length (literals_text ls) + 2
-  pub bound : length (literals_text ls) ≤ 6 * max_list
+  pub bound : length (literals_text ls) ≤ 7 * max_list
 
 pub closing_start : (ls : List ℤ) → length ls ≤ max_list → LiteralsWithin max_variables ls → Closing ls 2 0
-closing_start ls h w = record { sum = omega arith; bound = omega (arith, literals_few max_variables ls (omega arith) w) }
+closing_start ls h w = record { sum = omega arith; bound = omega (arith, literals_few 4 max_variables (omega arith) ls w) }
 
 module _ {ls : List ℤ} {size i : ℕ} (t : Closing ls size i) where
   module _ (h : i < length ls) {z : ℤ} {r : ℕ} (is : z ≡ get_or ls i (pos 0)) (e : r ≡ length (literal_text z)) where
@@ -247,7 +243,7 @@ module _ {ls : List ℤ} {size i : ℕ} (t : Closing ls size i) where
         ∙ length-append (literal_text (get_or ls i (pos 0)) ++ (blank ∷ [])) (literals_text (drop (i + 1) ls))
         ∙ omega (arith, e, ap (λ (k : ℤ). length (literal_text k)) is, length-append (literal_text (get_or ls i (pos 0))) (blank ∷ []))
 
-    pub closing_room : size + (r + 1) ≤ 6 * max_list + 2
+    pub closing_room : size + (r + 1) ≤ 7 * max_list + 2
     closing_room = omega (arith, closing_next, t.sum, t.bound)
 
     pub closing_on : Closing ls (size + (r + 1)) (i + 1)

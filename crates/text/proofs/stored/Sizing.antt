@@ -11,14 +11,16 @@ use Rattle.text.specs.Dimacs.{clauses_text}
 use Rattle.text.specs.Plain.{plain_clauses}
 use Rattle.text.specs.Compare.{max_list}
 use Rattle.text.specs.private.Words.{stored_in, clause_of, plain_record, StoresList, plain_sizes}
+use Rattle.text.proofs.Sizes.{count_few}
 use Rattle.text.proofs.plain.Laws.{plain_few}
+use Rattle.text.proofs.plain.Xors.{xors_few}
 use Rattle.text.proofs.stored.Laws.{stored_in_lem, plain_step, plain_text_step, no_text, no_plain}
 
 -- `left` are the clauses that are left
 pub record Sizing (ws : List ℤ) (bytes clauses : ℕ) (left : List Clause) : Type 0 where
   pub bytes_sum : bytes + length (clauses_text (plain_clauses left)) ≡ length (clauses_text (plain_clauses (stored_in ws)))
   pub clauses_sum : clauses + length (plain_clauses left) ≡ length (plain_clauses (stored_in ws))
-  pub bytes_few : length (clauses_text (plain_clauses (stored_in ws))) ≤ 16 * max_list
+  pub bytes_few : length (clauses_text (plain_clauses (stored_in ws))) ≤ 58 * max_list
   pub clauses_few : length (plain_clauses (stored_in ws)) ≤ max_list
 
 pub sizing_start : (ws : List ℤ) → StoresList ws → Sizing ws 0 0 (stored_in ws)
@@ -29,7 +31,7 @@ sizing_start ws s =
     record {
       bytes_sum = omega arith;
       clauses_sum = omega arith;
-      bytes_few = omega (arith, a, l, s.few, ap (λ (cs : List Clause). length (clauses_text (plain_clauses cs))) e);
+      bytes_few = omega (arith, a, xors_few s.clauses, count_few s.clauses, l, s.few, ap (λ (cs : List Clause). length (clauses_text (plain_clauses cs))) e);
       clauses_few = omega (arith, b, l, s.few, ap (λ (cs : List Clause). length (plain_clauses cs)) e);
     }
 
@@ -40,7 +42,7 @@ module _ {ws : List ℤ} {bytes clauses : ℕ} {left : List Clause} (t : Sizing 
   clauses_next : length (plain_clauses left) ≡ length (plain_record z ls) + length (plain_clauses more)
   clauses_next = ap length (plain_step k ls e z is) ∙ length-append (plain_record z ls) (plain_clauses more)
 
-  pub bytes_room : (a : ℕ) → a ≡ length (clauses_text (plain_record z ls)) → bytes + a ≤ 16 * max_list
+  pub bytes_room : (a : ℕ) → a ≡ length (clauses_text (plain_record z ls)) → bytes + a ≤ 58 * max_list
   bytes_room a f = omega (arith, f, bytes_next, t.bytes_sum, t.bytes_few)
 
   pub clauses_room : (b : ℕ) → b ≡ length (plain_record z ls) → clauses + b ≤ max_list

@@ -1,5 +1,5 @@
 -- What a call and a list of calls leave in the miter's buffer, and demand 3 of what the code answers. Assumes nothing.
-use Rattle.std.proofs.Common.{◌≡◌, ℕ, ◌+◌, ◌*◌, ◌≤◌, List, [], ◌∷◌, ◌++◌, length, take, drop, ℤ, sym, refl, ap, ◌∙◌, subst, ap₂, le_refl, arith, drop_of_length-le, length-take-le, take_at}
+use Rattle.std.proofs.Common.{◌≡◌, ℕ, ◌+◌, ◌*◌, ◌≤◌, List, [], ◌∷◌, ◌++◌, length, take, drop, sym, refl, ap, ◌∙◌, subst, ap₂, le_refl, arith, drop_of_length-le, length-take-le, take_at}
 use lib.Seq.{take-append-le}
 use Rattle.bits.specs.Lists.{over}
 use Rattle.bits.proofs.Lists.{over_length}
@@ -7,7 +7,7 @@ use Rattle.circuit.specs.declared.gate.Gate.{Gate}
 use Rattle.circuit.specs.Gate.{max_lines, max_miter_gates}
 use Rattle.circuit.specs.Outcome.{Outcome, served, refused, Yields}
 use Rattle.circuit.specs.Words.{gates_of, check_outcome, Cascade}
-use Rattle.circuit.proofs.Promises.{then_served, then_refused, check_served, valid_all_more, gates_length}
+use Rattle.circuit.proofs.Promises.{check_served, valid_all_more, gates_length}
 use Rattle.checking.specs.Step.{Step, found, none, step_gates, with_count, step_outcome, step_buffer}
 use Rattle.checking.specs.StepLaws.{Stands}
 use Rattle.checking.specs.Reduce.{Reduced, reduce_gates, reduce_outcome, reduce_buffer}
@@ -15,29 +15,11 @@ use Rattle.checking.specs.Equality.{step_leaves, reduce_leaves, after, after_all
 use Rattle.checking.specs.declared.check.Call.TheVariants.{ReduceOn}
 use Rattle.checking.specs.declared.check.Call.TheVariants.{StepOn}
 use Rattle.checking.specs.declared.check.Call.{Call}
-use Rattle.checking.specs.Miter.{miter_outcome, miter_buffer}
-use Rattle.checking.specs.Emit.{emit_outcome, emit_buffer}
-use Rattle.checking.specs.Check.{Held, held_words, step_gates_left, reduce_gates_left, called, called_all, checked_outcome, clauses_left}
+use Rattle.checking.specs.Check.{Held, held_words, step_gates_left, reduce_gates_left, called, called_all}
 use Rattle.checking.proofs.lemmas.step.Calls.{step_refused}
 use Rattle.checking.proofs.lemmas.step.Laws.{none_kept, step_laws}
 use Rattle.checking.proofs.lemmas.reduce.Laws.{step_shrinks, reduce_refused}
 use Rattle.checking.proofs.lemmas.reduce.Relation.{reduce_laws}
-
--- ---- no call: the clauses are those of the miter
-
-module _ (na : ℕ) (a : List ℕ) (nb : ℕ) (b work : List ℕ) where
-  pub uncalled_refused : (number place size : ℕ) → miter_outcome na a nb b (length work) ≡ refused number place → checked_outcome na a nb b [] work size ≡ refused number place
-  unfolding checked_outcome
-  uncalled_refused number place size e = then_refused _ _ number place e
-
-  module _ (k : ℕ) (e : miter_outcome na a nb b (length work) ≡ served k) where
-    pub uncalled_served : (size : ℕ) → checked_outcome na a nb b [] work size ≡ emit_outcome na (take (3 * k) (miter_buffer na a nb b work)) size
-    unfolding checked_outcome called_all
-    uncalled_served size = then_served _ _ k e
-
-    pub uncalled_clauses : (out : List ℤ) → clauses_left (miter_outcome na a nb b (length work)) na a nb b [] work out ≡ emit_buffer na (take (3 * k) (miter_buffer na a nb b work)) out
-    unfolding called_all
-    uncalled_clauses out = ap (λ (o : Outcome ℕ). clauses_left o na a nb b [] work out) e
 
 -- ---- one call
 

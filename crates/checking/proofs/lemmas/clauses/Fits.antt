@@ -8,9 +8,9 @@ use Rattle.circuit.specs.declared.gate.Gate.{Gate}
 use Rattle.circuit.specs.Gate.{max_lines, max_miter_gates, controls_of}
 use Rattle.circuit.specs.Words.{all_valid}
 use Rattle.circuit.proofs.Promises.{few_controls}
-use Rattle.checking.specs.Clauses.{Clause, OR, XOR, plus, input_of, literal_of, implied, many_clauses, gate_clauses, new_variable, used_by, moved, clauses_of_gate, gates_clauses, used_after, current_after, targeted, up_from, difference_clause, difference_clauses, clauses_of, variables_of, count_p}
+use Rattle.checking.specs.Clauses.{Clause, OR, XOR, plus, input_of, literal_of, implied, many_clauses, gate_clauses, new_variable, used_by, moved, clauses_of_gate, gates_clauses, used_after, current_after, targeted, up_from, difference_clause, difference_clauses, clauses_of, variables_of, max_variables, count_p}
 use Rattle.checking.specs.Satisfaction.{variable_of, LiteralsWithin, clause_literals, ClausesWithin}
-use Rattle.checking.specs.Stored.{stored, FitsWord, AllFit, word_limit}
+use Rattle.checking.specs.Stored.{stored, FitsIn, AllFit, word_limit}
 use Rattle.checking.proofs.lemmas.clauses.Forced.{length_up_from}
 use Rattle.checking.proofs.lemmas.clauses.Within.{clauses_within}
 
@@ -92,21 +92,32 @@ counts_small n gs few =
     (short_differences (max_lines + 3) (targeted gs) input_of (current_after n input_of gs) (used_after n gs) (up_from 0 n) (omega arith))
     (short_last (max_lines + 3) (suc (used_after n gs)) n (omega arith), tt))
 
-size_fits : (l : ℤ) → variable_of l < word_limit → FitsWord l
-size_fits (pos v) h = h
-size_fits (negsuc i) h = omega arith
+-- ---- every number of a list is one of a width
 
-literals_fit : (m : ℕ) (ls ws : List ℤ) → m < word_limit → LiteralsWithin m ls → AllFit ws → AllFit (ls ++ ws)
-literals_fit m [] ws h w f = f
-literals_fit m (l ∷ ls) ws h w f = (size_fits l (omega (arith, w.0.1)), literals_fit m ls ws h w.1 f)
+module _ (limit : ℕ) where
+  size_fits : (l : ℤ) → variable_of l < limit → FitsIn limit l
+  size_fits (pos v) h = h
+  size_fits (negsuc i) h = omega arith
 
-pub stored_fits : (m k : ℕ) (cs : List Clause) → m < word_limit → k < word_limit → ClausesWithin m cs → Short k cs → AllFit (stored cs)
-unfolding stored
-stored_fits m k [] h l a b = tt
-stored_fits m k (OR ls ∷ cs) h l a b = (omega arith, (omega (arith, b.0), literals_fit m ls (stored cs) h a.0 (stored_fits m k cs h l a.1 b.1)))
-stored_fits m k (XOR ls ∷ cs) h l a b = (omega arith, (omega (arith, b.0), literals_fit m ls (stored cs) h a.0 (stored_fits m k cs h l a.1 b.1)))
+  literals_fit : (m : ℕ) (ls ws : List ℤ) → m < limit → LiteralsWithin m ls → All (FitsIn limit) ws → All (FitsIn limit) (ls ++ ws)
+  literals_fit m [] ws h w f = f
+  literals_fit m (l ∷ ls) ws h w f = (size_fits l (omega (arith, w.0.1)), literals_fit m ls ws h w.1 f)
+
+  pub stored_fits : (m k : ℕ) (cs : List Clause) → m < limit → k < limit → 1 ≤ k → ClausesWithin m cs → Short k cs → All (FitsIn limit) (stored cs)
+  unfolding stored
+  stored_fits m k [] h l one a b = tt
+  stored_fits m k (OR ls ∷ cs) h l one a b = (omega arith, (omega (arith, b.0), literals_fit m ls (stored cs) h a.0 (stored_fits m k cs h l one a.1 b.1)))
+  stored_fits m k (XOR ls ∷ cs) h l one a b = (omega arith, (omega (arith, b.0), literals_fit m ls (stored cs) h a.0 (stored_fits m k cs h l one a.1 b.1)))
+
+  -- of so few lines and gates
+  pub words_within : (n : ℕ) (gs : List Gate) → n ≤ max_lines → max_lines + 3 < limit → 2 * n + 2 * length gs < limit → all_valid n gs ≡ true → All (FitsIn limit) (stored (clauses_of n gs))
+  words_within n gs few more h v =
+      stored_fits (variables_of n gs) (max_lines + 3) (clauses_of n gs) (omega (arith, variables_few n gs)) more (omega arith) (clauses_within n gs few v) (counts_small n gs few)
+
+-- no list of a miter has more variables than a word holds, and no clause more literals
+pub limits_fit : (max_variables < word_limit) × (max_lines + 3 < word_limit)
+limits_fit = (omega arith, omega arith)
 
 -- every number of a list fits a word
 pub words_fit : (n : ℕ) (gs : List Gate) → n ≤ max_lines → length gs ≤ max_miter_gates → all_valid n gs ≡ true → AllFit (stored (clauses_of n gs))
-words_fit n gs few short v =
-    stored_fits (variables_of n gs) (max_lines + 3) (clauses_of n gs) (omega (arith, variables_few n gs)) (omega arith) (clauses_within n gs few v) (counts_small n gs few)
+words_fit n gs few short v = words_within word_limit n gs few limits_fit.1 (omega (arith, limits_fit.0)) v

@@ -3,7 +3,7 @@ use Rattle.checking.specs.ClauseLaws.{ClauseLaws}
 use Rattle.checking.proofs.lemmas.clauses.Forced.{spelled_line, spelled_below, gates_forced, list_forced}
 use Rattle.checking.proofs.lemmas.clauses.Meaning.{list_tells}
 use Rattle.checking.proofs.lemmas.clauses.Reading.{read_back, read_stored, read_bad}
-use Rattle.checking.proofs.lemmas.clauses.Fits.{variables_counted, variables_few, words_fit}
+use Rattle.checking.proofs.lemmas.clauses.Fits.{variables_counted, variables_few, limits_fit, words_fit}
 use Rattle.checking.proofs.lemmas.clauses.Sums.{sizes_list}
 use Rattle.checking.proofs.lemmas.clauses.Rows.{rows_hold, words_hold}
 
@@ -20,6 +20,7 @@ clause_laws =
       read_bad = read_bad;
       variables_counted = variables_counted;
       variables_few = variables_few;
+      limits_fit = limits_fit;
       words_fit = words_fit;
       sizes_list = sizes_list;
       rows = rows_hold;

@@ -1,18 +1,16 @@
 -- The laws of the loops over gates and states, and of what the call answers and leaves. Assumes nothing.
-use Rattle.std.proofs.Common.{◌≡◌, ℕ, suc, ◌+◌, ◌*◌, ◌/◌, ◌<◌, ◌≤◌, Bool, true, false, not, cond, ltb, None, Some, position, List, [], ◌∷◌, ◌++◌, map, length, get_or, take, drop, set, sym, refl, ap, ◌∙◌, subst, ap₂, append_assoc, arith, length-append, take-append-drop, drop_of_length-le, length-take-le, drop-cons, take_at, drop_at, le-leb}
+use Rattle.std.proofs.Common.{◌≡◌, ℕ, suc, ◌+◌, ◌*◌, ◌/◌, ◌<◌, ◌≤◌, true, false, List, [], ◌∷◌, ◌++◌, map, length, get_or, take, drop, set, sym, refl, ap, ◌∙◌, subst, ap₂, append_assoc, arith, length-append, take-append-drop, drop_of_length-le, length-take-le, drop-cons, take_at, drop_at, le-leb}
 use mathlib.Core.Bool.{and-true}
 use lib.Bits.{bit_and}
 use lib.Seq.{sets-eq}
 use borrow.Author.Tests.{lt-leb}
-use Rattle.std.specs.List.{prefix_len}
-use Rattle.std.proofs.lemmas.Grind.{common_steps}
 use Rattle.bits.specs.Lists.{over}
 use Rattle.bits.proofs.Lists.{two}
 use Rattle.circuit.specs.declared.gate.Gate.{Gate}
 use Rattle.circuit.specs.declared.header.Header.{Header}
 use Rattle.circuit.specs.Gate.{max_lines, max_gates, apply}
 use Rattle.circuit.specs.Header.{permits}
-use Rattle.circuit.specs.Outcome.{Outcome, served, refused, demand, written, Yields}
+use Rattle.circuit.specs.Outcome.{Outcome, served, refused, written, Yields}
 use Rattle.circuit.specs.Refusal.{bad_state, agreeing_state, no_room}
 use Rattle.circuit.specs.Words.{gates_of, gate_at, headed_pair_outcome, Cascade}
 use Rattle.circuit.specs.declared.words.Counts.{Counts}

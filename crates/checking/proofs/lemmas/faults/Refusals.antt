@@ -1,6 +1,5 @@
 -- The refusals of the sweep, the input check, the pick and the fault call: exactly by what is wrong; and for what these are served. Assumes nothing.
-use Rattle.std.proofs.Common.{◌≡◌, ℕ, zero, suc, ◌+◌, ◌*◌, ◌<◌, ◌≤◌, Bool, true, false, leb, ◌↔◌, List, [], ◌∷◌, length, get_or, sym, refl, ap, ◌∙◌, subst, arith, leb-true}
-use Rattle.bits.proofs.Bools.{either}
+use Rattle.std.proofs.Common.{◌≡◌, ℕ, ◌*◌, ◌<◌, ◌≤◌, Bool, true, false, leb, ◌↔◌, List, length, refl, ap, ◌∙◌, subst, arith, leb-true}
 use Rattle.circuit.specs.declared.header.Header.{Header}
 use Rattle.circuit.specs.Header.{permits, Permitted}
 use Rattle.circuit.specs.Outcome.{served, refused}
@@ -8,7 +7,7 @@ use Rattle.circuit.specs.Refusal.{bad_state, agreeing_state, no_room, too_wide}
 use Rattle.circuit.specs.Words.{gates_of, pair_outcome, PairRefused, headed_pair_outcome, HeadedPair}
 use Rattle.circuit.specs.declared.words.Counts.{Counts}
 use Rattle.circuit.specs.Run.{DiffersFor}
-use Rattle.circuit.proofs.Promises.{never, unserved, demand_met, demand_failed, demanded, then_both, same_refusal, wrong_refused, fails_refused, same_refused, above, pair_refused, permits_lines, lines_permit, permits_exactly, not_permitted, headed_pair_served, served_headed_pair, headed_pair_refused, headed_pair_wrong}
+use Rattle.circuit.proofs.Promises.{unserved, demanded, then_both, wrong_refused, fails_refused, same_refused, above, pair_refused, permits_lines, lines_permit, permits_exactly, not_permitted, headed_pair_served, served_headed_pair, headed_pair_refused, headed_pair_wrong}
 use Rattle.checking.specs.Compare.{outputs_differ, Agree, max_sweep_lines, Difference, difference_outcome, Says, differs_outcome, pick_outcome}
 use Rattle.checking.specs.Each.{each_from, Every, AtFirst}
 use Rattle.checking.specs.Faults.{gate_masks, fault_check, fault_outcome}

@@ -1,6 +1,7 @@
 -- Every literal of a pair's list is one of a variable from 1 to V, and every stored number fits a word. Assumes nothing.
 use Rattle.std.proofs.Common.{◌≡◌, ℕ, zero, suc, ◌+◌, ◌*◌, ◌<◌, ◌≤◌, Bool, true, false, cond, List, [], ◌∷◌, map, length, arith, length-append}
 use Rattle.bits.specs.Digits.{bit, lines_in}
+use Rattle.bits.specs.Lists.{All}
 use Rattle.bits.proofs.Lists.{all_append, all_map}
 use Rattle.circuit.specs.declared.gate.Gate.{Gate}
 use Rattle.circuit.specs.declared.header.Header.{Header}
@@ -11,12 +12,12 @@ use Rattle.circuit.specs.Inverse.{inverse}
 use Rattle.circuit.proofs.Promises.{valid_append, inverse_valid, inverse_length}
 use Rattle.checking.specs.Clauses.{Clause, plus, minus, input_of, gates_clauses, used_after, current_after, up_from, difference_clauses, clauses_of, variables_of}
 use Rattle.checking.specs.Satisfaction.{LiteralsWithin, clause_literals, ClausesWithin}
-use Rattle.checking.specs.Stored.{stored, AllFit}
+use Rattle.checking.specs.Stored.{stored, FitsIn, AllFit, word_limit}
 use Rattle.checking.specs.Miter.{miter_gates}
 use Rattle.checking.specs.Pair.{constant_clause, constant_clauses, without_junk, counted_lines, either_targets, used_after_both, side_by_side, pair_clauses, pair_variables}
 use Rattle.checking.proofs.lemmas.clauses.Forced.{Below, below_up_from, used_more, length_up_from}
 use Rattle.checking.proofs.lemmas.clauses.Within.{inputs_named, after_named, gates_within, differences_within, last_within, clauses_within}
-use Rattle.checking.proofs.lemmas.clauses.Fits.{Short, short_gates, short_differences, short_last, stored_fits, counts_small, used_bound, variables_few}
+use Rattle.checking.proofs.lemmas.clauses.Fits.{Short, short_gates, short_differences, short_last, stored_fits, counts_small, limits_fit, used_bound, variables_few}
 
 -- ---- the lines of a mask, and those that count, are lines below n
 
@@ -132,7 +133,11 @@ module _ (h : Header) (a b : List Gate) (few : h.lines ≤ max_lines) where
       by true = omega (arith, used_bound n a, used_bound (used_after n a) b, counted_few h)
       by false = omega (arith, variables_few n (miter_gates a b), length-append a (inverse b), inverse_length b)
 
-  -- every number of the list fits a word
+  -- every number of the list is one of a width that holds so many variables, and fits a word
+  pub pair_words_within : (limit : ℕ) → max_lines + 3 < limit → 2 * n + 2 * (length a + length b) < limit → all_valid n a ≡ true → all_valid n b ≡ true
+      → All (FitsIn limit) (stored (pair_clauses h a b))
+  pair_words_within limit more fits v w =
+      stored_fits limit (pair_variables h a b) (max_lines + 3) (pair_clauses h a b) (omega (arith, pair_variables_few)) more (omega arith) (pair_within v w) short_pair
+
   pub pair_words_fit : length a ≤ max_gates → length b ≤ max_gates → all_valid n a ≡ true → all_valid n b ≡ true → AllFit (stored (pair_clauses h a b))
-  pair_words_fit short_a short_b v w =
-      stored_fits (pair_variables h a b) (max_lines + 3) (pair_clauses h a b) (omega (arith, pair_variables_few)) (omega arith) (pair_within v w) short_pair
+  pair_words_fit short_a short_b v w = pair_words_within word_limit limits_fit.1 (omega (arith, limits_fit.0)) v w

@@ -1,19 +1,18 @@
 -- What the calls that make a list of words wide or narrow answer and leave. Assumes nothing.
-use Rattle.std.proofs.Common.{◌≡◌, ℕ, ◌<◌, ◌≤◌, Bool, true, false, leb, ltb, ◌↔◌, List, length, get_or, ℤ, pos, negsuc, sym, ap, ◌∙◌, arith, true≢false, le-leb, leb-true}
+use Rattle.std.proofs.Common.{◌≡◌, ℕ, true, false, ◌↔◌, List, length, ℤ, pos, negsuc, sym, ap, ◌∙◌, arith, true≢false, le-leb, leb-true}
 use mir.Val.{SFits, to_z, of_z}
 use mir.ValLaws.{to_z-of_z}
 use mir.Syntax.{w16, w32}
 use Rattle.bits.proofs.Bools.{not_held}
-use Rattle.circuit.specs.Outcome.{served, refused}
+use Rattle.circuit.specs.Outcome.{served}
 use Rattle.circuit.specs.Refusal.{word_too_wide}
-use Rattle.circuit.proofs.Promises.{above}
-use Rattle.checking.specs.Each.{each_from, Every, AtFirst}
-use Rattle.checking.specs.Widths.{narrow_limit, Narrow, is_narrow}
-use Rattle.checking.proofs.lemmas.Each.{each_good, each_wrong}
+use Rattle.checking.specs.Each.{each_from, Every}
+use Rattle.checking.specs.Widths.{Narrow, is_narrow}
+use Rattle.checking.proofs.lemmas.Each.{each_good}
 
 -- ---- one word
 
-narrow_word : (w : ℤ) → (is_narrow w ≡ true) ↔ Narrow w
+pub narrow_word : (w : ℤ) → (is_narrow w ≡ true) ↔ Narrow w
 narrow_word (pos v) = ((λ t. omega (arith, leb-true _ _ t)), (λ h. le-leb _ _ (omega arith)))
 narrow_word (negsuc i) = ((λ t. omega (arith, leb-true _ _ t)), (λ h. le-leb _ _ (omega arith)))
 
@@ -37,9 +36,5 @@ cut_same w h = ap (λ (z : ℤ). to_z w16 (of_z w16 z)) (to_z-of_z w32 w (wide_f
 
 -- ---- a list
 
-module _ (ws : List ℤ) where
-  pub all_narrow : (k : ℕ) → (each_from is_narrow word_too_wide 0 ws ≡ served k) ↔ ((k ≡ length ws) × Every Narrow ws)
-  all_narrow = each_good is_narrow word_too_wide (λ w. Unit {0}) _ (λ w. Narrow w → ⊥) (λ w u. narrow_word w) (λ w u. wide_word w) ws (λ j h d. tt)
-
-  pub first_wide : (number place : ℕ) → (each_from is_narrow word_too_wide 0 ws ≡ refused number place) ↔ AtFirst Narrow (λ w. Narrow w → ⊥) ws word_too_wide number place
-  first_wide = each_wrong is_narrow word_too_wide (λ w. Unit {0}) _ _ (λ w u. narrow_word w) (λ w u. wide_word w) ws (λ j h d. tt)
+pub all_narrow : (ws : List ℤ) (k : ℕ) → (each_from is_narrow word_too_wide 0 ws ≡ served k) ↔ ((k ≡ length ws) × Every Narrow ws)
+all_narrow ws = each_good is_narrow word_too_wide (λ w. Unit {0}) _ (λ w. Narrow w → ⊥) (λ w u. narrow_word w) (λ w u. wide_word w) ws (λ j h d. tt)

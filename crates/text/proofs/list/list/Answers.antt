@@ -6,10 +6,10 @@ use Rattle.circuit.specs.declared.refusal.Refusal.TheVariants.{NoRoom}
 use Rattle.circuit.specs.Outcome.{served, map_served}
 use Rattle.circuit.specs.Refusal.{no_room}
 use Rattle.circuit.specs.Words.{gates_of}
-use Rattle.circuit.specs.File.{reading}
 use Rattle.text.specs.declared.refused.File.TheVariants.{Both}
 use Rattle.text.specs.private.Files.{reading_of, whole_of}
-use Rattle.text.specs.WholeFile.{whole_file}
+use Rattle.text.specs.Tomiter.{max_input_gates}
+use Rattle.text.specs.WholeFile.{file_within, whole_file}
 use Rattle.text.proofs.FileOutcome.{said}
 use Rattle.text.proofs.WholeFile.{taken_within}
 use Rattle.text.proofs.list.Laws.{says_as, says_refusal, says_file, input_long, first_bad, first_good, verdict_refused, verdict_served}
@@ -17,11 +17,11 @@ use Rattle.text.proofs.list.list.Goals as goal
 use Rattle.text.proofs.list.list.Goals.{In_ok-first}
 
 -- the first file was read
-first : (c : In_ok-first) → reading c.args.input.now ≡ served (reading_of c.in_ok-first.first)
+first : (c : In_ok-first) → file_within max_input_gates c.args.input.now ≡ served (reading_of c.in_ok-first.first)
 first c = sym c.read.ensures ∙ ap (map_served reading_of) (said 1 _ _ c.in_ok-first.ensures)
 
 inside : (c : In_ok-first) → c.in_ok-first.first.taken ≤ length c.args.input.now
-inside c = taken_within _ _ (sym c.read.ensures ∙ ap (map_served reading_of) (said 1 _ _ c.in_ok-first.ensures))
+inside c = taken_within max_input_gates _ _ (sym c.read.ensures ∙ ap (map_served reading_of) (said 1 _ _ c.in_ok-first.ensures))
 
 pub returns-then-input-gt-MAX_INPUT : goal.returns-then-input-gt-MAX_INPUT
 returns-then-input-gt-MAX_INPUT c =
@@ -46,7 +46,7 @@ returns-in_err-second c =
     rw (p.1, p.2) (says_file c.in_err-second.field-0.0 2 _ c.args.clauses.now _ c.in_err-second.ensures (λ number place e.
     first_good _ c.if-input-gt-MAX_INPUT.false _ (first (goal.at.returns-in_err-second c).In_ok-first)
     ∙ verdict_refused f.cascade.header (gates_of f.cascade.words.now) (drop f.taken c.args.input.now) number place
-    (ap whole_file (sym rest) ∙ sym c.read-2.ensures ∙ ap (map_served (whole_of _)) e)))
+    (ap (whole_file max_input_gates) (sym rest) ∙ sym c.read-2.ensures ∙ ap (map_served (whole_of _)) e)))
 
 pub returns : goal.returns
 returns c =
@@ -54,4 +54,4 @@ returns c =
     let rest = rest_lent c.args.input.now f.taken in
     says_as _ _ _ _ (first_good _ c.if-input-gt-MAX_INPUT.false _ (first (goal.at.returns c).In_ok-first)
     ∙ verdict_served f.cascade.header (gates_of f.cascade.words.now) (drop f.taken c.args.input.now) (whole_of _ c.in_ok-second.second)
-    (ap whole_file (sym rest) ∙ sym c.read-2.ensures ∙ ap (map_served (whole_of _)) (said 2 _ _ c.in_ok-second.ensures))) c.list_pair.ensures
+    (ap (whole_file max_input_gates) (sym rest) ∙ sym c.read-2.ensures ∙ ap (map_served (whole_of _)) (said 2 _ _ c.in_ok-second.ensures))) c.list_pair.ensures

@@ -29,9 +29,6 @@ pub record Written (first out : List ℕ) (at : ℕ) (front : List ℕ) : Type 0
   pub long : at ≡ length front
   pub same : length out ≡ length first
 
-pub written_none : (out : List ℕ) → Written out out 0 []
-written_none out = record { is = refl; long = refl; same = refl }
-
 -- a word that the kit copied
 pub copied : (word out last : List ℕ) (r : ℕ) → r ≡ length word → last ≡ take (length word) word ++ drop (length word) out → Put r last word out
 copied word out last r e b =
@@ -50,11 +47,8 @@ written_more first out at front w r last new h p l =
       same = same_len_mid at (length out - at) out last l ∙ w.same;
     }
 
-pub written_first : (out : List ℕ) (r : ℕ) (last new : List ℕ) → Put r last new (take (length out - 0) (drop 0 out)) → length last ≡ length (take (length out - 0) (drop 0 out))
-    → Written out (put_mid 0 (length out - 0) out last) r new
-written_first out r last new p l =
-    let w = written_more out out 0 [] (written_none out) r last new (omega arith) p l in
-    record { is = w.is; long = p.count; same = w.same }
+pub written_none : (out : List ℕ) → Written out out 0 []
+written_none out = record { is = refl; long = refl; same = refl }
 
 pub written_put : (first out : List ℕ) (at : ℕ) (front : List ℕ) → Written first out at front → Put at out front first
 written_put first out at front w = record { count = w.long; buffer = w.is }
