@@ -3,8 +3,9 @@
 //!
 //! For the growth a call on the whole stands against sixteen calls, each on a sixteenth of the same gates,
 //! which write one behind the other into the same buffer. So both go through the same memory, of which the
-//! gates of a cascade alone take 393,216 bytes, and what the caches hold of it is no growth. The growth of a
-//! call of linear time is 1, of quadratic time 16.
+//! gates of a cascade alone take 393,216 bytes, and the first time that a call comes to a gate costs the same in
+//! both. But a call that tests all gates before it writes comes to them again, and then a sixteenth is in a
+//! nearer cache. The growth of a call of linear time is otherwise 1, of quadratic time 16.
 
 use crate::plain::{unmarked, LIMIT, MITER_LIMIT};
 use crate::random::Random;
@@ -14,12 +15,12 @@ use crate::{INVERSE, READ, RUN, SIZES, WRITE};
 use std::hint::black_box;
 use std::time::Instant;
 
-/// The library's growth in times of plain Rust's.
-const GROWTH_LIMIT: f64 = 1.2;
+/// The library's growth in times of plain Rust's. That of a call whose time is as n log n would be 1.4.
+const GROWTH_LIMIT: f64 = 1.3;
 const LINES: u64 = 64;
 const PARTS: usize = 16;
 /// About the nanoseconds of a row.
-const ROW: f64 = 4e8;
+const ROW: f64 = 2e8;
 
 /// An input, and its sixteenths.
 struct Work<I> {
@@ -56,7 +57,7 @@ fn cascades() -> Vec<Work<Input>> {
     ]
 }
 
-const LIST_WORDS: usize = 262_144;
+const LIST_WORDS: usize = 65_536;
 
 /// A list of clauses in words of 16 bits and of 32.
 fn list() -> Work<(Vec<i16>, Vec<i32>)> {
@@ -251,9 +252,9 @@ pub fn rows() -> bool {
 
     type List = (Vec<i16>, Vec<i32>);
     let widen = widths::WIDEN.map(|widen| move |list: &List, out: &mut [i32]| widen(&list.0, out).words as usize);
-    highest.rows("cascade_widen", "262,144 words", LIST_WORDS, &lists, LIST_WORDS, widen);
+    highest.rows("cascade_widen", "65,536 words", LIST_WORDS, &lists, LIST_WORDS, widen);
     let narrow = widths::NARROW.map(|narrow| move |list: &List, out: &mut [i16]| narrow(&list.1, out).words as usize);
-    highest.rows("cascade_narrow", "262,144 words", LIST_WORDS, &lists, LIST_WORDS, narrow);
+    highest.rows("cascade_narrow", "65,536 words", LIST_WORDS, &lists, LIST_WORDS, narrow);
 
     let Highest { ratio, growth } = highest;
     println!("bench: at the limits the highest ratio is {ratio:.2}, the limit {}", crate::LIMIT);

@@ -78,7 +78,7 @@ pub fn check_equal(words: &[i32]) {
 /// Prints a row of each call for each length, and gives the highest ratio.
 pub fn highest() -> f64 {
     let all = list(2_048, 300_000);
-    let lists = [("16 words", &all[..16]), ("16,384 words", &all[..16_384]), ("300,000 words", &all)];
+    let lists = [("256 words", &all[..256]), ("16,384 words", &all[..16_384]), ("300,000 words", &all)];
     let mut highest: f64 = 0.0;
     for (name, words) in lists {
         check_equal(words);
