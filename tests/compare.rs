@@ -299,6 +299,18 @@ fn check_gates(seen: &mut Seen) {
         both(&gates(number, END), &none);
         both(&none, &gates(number, END));
     }
+    // as many gates as they may have, each with two controls, of which the target of the one before is one: the clause
+    // list of any two such cascades is no longer than one may be
+    let two = |positive: u64| {
+        let gate = |k: u64| {
+            let controls = 1 << ((k + 63) % 64) | 1 << ((k + 50) % 64);
+            Gate { positive: controls & positive, negative: controls & !positive, target: k % 64 }
+        };
+        reference::text_of(Header::unmarked(64), &(0..MOST_GATES as u64).map(gate).collect::<Vec<_>>())
+    };
+    let (first, second) = (two(0), two(u64::MAX));
+    assert_eq!(compared(&first, &second).1, "clauses");
+    seen.compare(&first, &second);
     // a state that is none comes after
     seen.check(&over, &none, "2");
     seen.check(&none, &over, "011");
