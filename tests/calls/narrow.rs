@@ -15,6 +15,8 @@ const RANDOM_CASES: u64 = 50_000;
 const EMITTED: u64 = 2_000;
 /// Lists of each length below, with a wide word at each place.
 const LENGTHS: usize = 8;
+/// Lists of each length below, longer than what may be tested at once, with one wide word at each place.
+const LONGER: usize = 80;
 
 /// Words outside -32,768 to 32,767: one beyond each bound, those whose low half is a small number or a bound,
 /// and the bounds of 32 bits.
@@ -55,6 +57,7 @@ const CLASSES: &[&str] = &[
     "16: the last word of several",
     "16: a word between",
     "16: another such word later",
+    "16: place 64 or later, the last word",
     "16: a list of the library, 32,768 variables, the last word",
     "16: the longest list of the library",
 ];
@@ -121,6 +124,15 @@ fn each_wide(random: &mut Random, counts: &mut Counts) {
                 words[later] = random.pick(WIDE);
                 each_length(&words, random, counts);
             }
+        }
+    }
+    for length in LENGTHS..LONGER {
+        let words = fitting(random, length);
+        each_length(&words, random, counts);
+        for place in 0..length {
+            let mut words = words.clone();
+            words[place] = WIDE[(length + place) % WIDE.len()];
+            one(words, length, random, counts);
         }
     }
 }
@@ -269,6 +281,8 @@ fn count_wide(words: &[i32], place: usize, counts: &mut Counts) {
     counts.add_if(place == 0 && last > 0, "16: the first word of several");
     counts.add_if(place == last && last > 0, "16: the last word of several");
     counts.add_if(0 < place && place < last, "16: a word between");
+    let late = "16: place 64 or later, the last word";
+    counts.add_if(place == last && place >= 64, late);
     let later = reference::first_wide_word(&words[place + 1..]).is_some();
     counts.add_if(later, "16: another such word later");
     if WIDE.contains(&words[place]) {
