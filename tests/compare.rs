@@ -22,9 +22,9 @@ use std::os::unix::ffi::OsStrExt;
 use std::process::Command;
 
 const SEED: u64 = 20_260_116;
-const MOST_BYTES: usize = 262_144;
+const MOST_BYTES: usize = 524_288;
 const MOST_GATES: usize = 8_192;
-const MOST_WORDS: u64 = 262_144;
+const MOST_WORDS: u64 = 300_000;
 const MOST_SWEPT: u64 = 16;
 
 // ---- the rules
@@ -233,27 +233,27 @@ fn full_gate(n: u64, target: u64) -> Gate {
     Gate { positive: 0, negative: inputs::all_lines(n) & !(1 << target), target }
 }
 
-/// A cascade on 64 lines: 810 full gates, targets in turn, which have 323 words each, then as many gates without
+/// A cascade on 64 lines: 927 full gates, targets in turn, which have 323 words each, then as many gates without
 /// controls, of 4 words, and with one, of 5, each on a line of its own, so that none matches.
 fn near_limit(header: Header, without: u64, with_one: u64) -> Vec<u8> {
-    let mut gates: Vec<Gate> = (0..810).map(|k| full_gate(64, k % 64)).collect();
+    let mut gates: Vec<Gate> = (0..927).map(|k| full_gate(64, k % 64)).collect();
     let last = (0..without + with_one).map(|target| Gate { positive: if target < without { 0 } else { 1 << 63 }, negative: 0, target });
     gates.extend(last);
     reference::text_of(header, &gates)
 }
 
-/// The clause list at its limit and one word longer: 810 times 323 words, 5 a line and 66 for the last OR, which
-/// leaves 128; a constant takes 3 words more, and a junk line 6 less.
+/// The clause list at its limit and one word longer: 927 times 323 words, 5 a line and 66 for the last OR, which
+/// leaves 193; a constant takes 3 words more, and a junk line 6 less.
 fn check_words(seen: &mut Seen) {
     let unmarked = Header::unmarked(64);
     let marked = Header { constants: 2, junk: 4, ..unmarked };
     for (header, [without, with_one], kind) in [
-        (unmarked, [32, 0], "clauses"),
-        (unmarked, [31, 1], "refused 10, file 0"),
-        (marked, [29, 3], "clauses, marked"),
-        (marked, [28, 4], "refused 10, file 0"),
+        (unmarked, [47, 1], "clauses"),
+        (unmarked, [46, 2], "refused 10, file 0"),
+        (marked, [44, 4], "clauses, marked"),
+        (marked, [43, 5], "refused 10, file 0"),
     ] {
-        let words = 810 * 323 + 64 * 5 + 66 + 4 * without + 5 * with_one - if header.marked() { 3 } else { 0 };
+        let words = 927 * 323 + 64 * 5 + 66 + 4 * without + 5 * with_one - if header.marked() { 3 } else { 0 };
         assert_eq!(words, MOST_WORDS + u64::from(kind.starts_with("refused")));
         let (first, none) = (near_limit(header, without, with_one), reference::text_of(header, &[]));
         assert_eq!(compared(&first, &none).1, kind);
@@ -307,19 +307,20 @@ fn check_gates(seen: &mut Seen) {
 
 /// Files of as many bytes as they may have, and of one more; 10 comes before all that is wrong with the other.
 fn check_bytes(seen: &mut Seen) {
-    // 4,765 gates of 55 bytes with all other controls on 16 lines, and 14 of 4
-    let mut all: Vec<Gate> = (0..4_765).map(|k| full_gate(16, k % 16)).collect();
-    all.extend((0..14).map(|k| Gate { positive: 0, negative: 0, target: k % 7 }));
-    let most = reference::text_of(Header::unmarked(16), &all);
+    // 2,122 full gates on 64 lines, of 247 bytes, 4 gates of 4 bytes and 25 of 5; 13 bytes for the first and the last line
+    let mut all: Vec<Gate> = (0..2_122).map(|k| full_gate(64, k % 64)).collect();
+    all.extend((0..4).chain(10..35).map(|target| Gate { positive: 0, negative: 0, target }));
+    let most = reference::text_of(Header::unmarked(64), &all);
     assert_eq!(most.len(), MOST_BYTES);
-    let none = reference::text_of(Header::unmarked(16), &[]);
+    assert_eq!(compared(&most, &most).1, "equal, reduction");
+    let none = reference::text_of(Header::unmarked(64), &[]);
     let over = [&most, &b"\n"[..]].concat();
-    let state = "0".repeat(16);
+    let state = "0".repeat(64);
     for (first, second) in [(&most, &none), (&none, &most), (&most, &most), (&over, &none), (&none, &over), (&over, &over), (&most, &over), (&over, &most)] {
         seen.compare(first, second);
         seen.check(first, second, &state);
     }
-    for wrong in [&b""[..], b"lines\t65\nend\n", b"lines\t17\nend\n", b"lines\t16\njunk\t0\nend\n"] {
+    for wrong in [&b""[..], b"lines\t65\nend\n", b"lines\t17\nend\n", b"lines\t64\njunk\t0\nend\n"] {
         for file in [&most, &over] {
             seen.compare(file, wrong);
             seen.compare(wrong, file);
@@ -434,10 +435,11 @@ fn check_all(random: &mut Random, seen: &mut Seen) {
 fn check_stack(seen: &mut Seen) {
     let full = |lines, gates: u64| -> Vec<Gate> { (0..gates).map(|k| full_gate(lines, k % lines)).collect() };
     let unmarked = Header::unmarked(64);
-    let long = reference::text_of(unmarked, &full(64, 810));
+    let long = reference::text_of(unmarked, &full(64, 927));
+    let longer = reference::text_of(unmarked, &full(64, 2_000));
     let many = reference::text_of(Header::unmarked(8), &full(8, MOST_GATES as u64));
     let none = |lines| reference::text_of(Header::unmarked(lines), &[]);
-    for (first, second) in [(&long, &long), (&long, &none(64)), (&many, &none(8))] {
+    for (first, second) in [(&longer, &longer), (&long, &none(64)), (&many, &none(8))] {
         seen.put(first, second);
         let state = "0".repeat(reference::read_text(first).expect("a file").header.lines as usize);
         let (right, kind) = compared(first, second);

@@ -545,6 +545,22 @@ pub fn each_faulty_pair(
             check(random, a, b);
         }
     }
+    each_long_pair(random, check);
+}
+
+/// Hands over two cascades of which one has a gate too many, or both, on 64 lines and on 17.
+pub fn each_long_pair(
+    random: &mut Random,
+    check: &mut impl FnMut(&mut Random, Cascade, Cascade),
+) {
+    for [first, second] in [[64, 64], [64, 17], [17, 64]] {
+        for over in [[true, false], [false, true], [true, true]] {
+            let [a, b] = over.map(|over| if over { CASCADE_GATES + 1 } else { 2 });
+            let a = blocked_cascade(random, first, a);
+            let b = blocked_cascade(random, second, b);
+            check(random, a, b);
+        }
+    }
 }
 
 /// The same with each choice of bad marks besides, and with the same marks and any.
@@ -572,6 +588,15 @@ pub fn each_faulty_marked_pair(
             let (a, b) = (a.clone(), b.clone());
             check(random, a.with_marks(marks[0]), b.with_marks(marks[1]));
         }
+    });
+    // other marks, and all lines junk
+    each_long_pair(random, &mut |random, a, b| {
+        let junk = [a.lines, b.lines].map(|lines| Marks {
+            junk: all_lines(lines),
+            ..Marks::default()
+        });
+        check(random, a.clone(), b.clone().with_marks(junk[1]));
+        check(random, a.with_marks(junk[0]), b.with_marks(junk[1]));
     });
 }
 

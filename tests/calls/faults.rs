@@ -59,8 +59,16 @@ pub fn section(random: &mut Random) -> Counts {
             each_length(random, (&a, &b), &states, None, &mut counts);
         }
     });
+    inputs::each_long_pair(random, &mut |random, a, b| {
+        let given = Pair {
+            states: vec![0],
+            ..Pair::new(a, b, random.one_in(2))
+        };
+        let missing = None;
+        check(&Case { given, missing }, &mut counts);
+    });
     let most = CASCADE_GATES;
-    for (lines, gates, states) in [(64, most, 1), (64, most, 3), (1, 0, 0), (64, 0, 0)] {
+    for (lines, gates, states) in [(64, most, 0), (64, most, 1), (64, most, 3), (1, 0, 0), (64, 0, 0)] {
         for marked in [false, true] {
             let right = inputs::good_cascade(random, lines, gates);
             with_missing(random, right, states, marked, &mut counts);

@@ -25,6 +25,13 @@ pub fn section(random: &mut Random) -> Counts {
         let needed = needed(&cascade);
         cases::each_length(random, &cascade, needed, |_| true, &mut check);
     });
+    // bad marks and a gate too many
+    let marks = Marks {
+        junk: 1 << 8,
+        ..Marks::default()
+    };
+    let long = inputs::blocked_cascade(random, 8, CASCADE_GATES + 1).with_marks(marks);
+    cases::each_length(random, &long, needed(&long), |_| true, &mut check);
     let all = Marks {
         constants: u64::MAX,
         values: random.word(),

@@ -8,9 +8,7 @@ ghost use Rattle.text.specs.CheckInput.{max_checked, check_text};
 
 use std::rt::Env;
 
-// One byte more than a file may have, and than a state may have.
-const FILE: usize = text::MAX_FILE + 1;
-
+// One byte more than a state may have.
 const STATE: usize = 65;
 
 // Writes what the program answers to two files and an input, which always fits, and tells how many bytes it is.
@@ -47,8 +45,8 @@ fn with_files(rt: &(impl Env + Print + Eprint), first: &[u8], second: &[u8]) {
 }
 
 fn main(rt: HostRuntime) {
-    let mut first = [0u8; FILE];
-    let mut second = [0u8; FILE];
+    let mut first = text::file_room();
+    let mut second = text::file_room();
     if let Ok((a, b)) = streams::read_two(&rt, &mut first, &mut second) {
         with_files(&rt, &first[..a], &second[..b]);
     }

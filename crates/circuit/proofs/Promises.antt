@@ -26,4 +26,4 @@ pub use Rattle.circuit.proofs.lemmas.file.Controls.{controls_inside}
 pub use Rattle.circuit.proofs.lemmas.file.MarkLines.{no_mark_lines, mark_lines_few}
 pub use Rattle.circuit.proofs.lemmas.file.Lines.{whole, whole_one, whole_next, parts_none, parts_some, parts_cut, parts_one, parts_back, same_true, same_self, true_same}
 pub use Rattle.circuit.proofs.lemmas.file.Numbers.{is_digit_lem, digit_bounds}
-pub use Rattle.circuit.proofs.lemmas.file.put.Laws.{Written, copied, written_more, written_put, put_as, rest_length}
+pub use Rattle.circuit.proofs.lemmas.file.put.Laws.{Written, copied, written_none, written_more, written_put, put_as, rest_length}

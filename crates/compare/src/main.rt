@@ -7,9 +7,6 @@ ghost use Rattle.text.specs.Compare.{max_list, max_compared, file_words, miter_w
 
 use checking::clauses::ClauseWord;
 
-// One byte more than a file may have.
-const FILE: usize = text::MAX_FILE + 1;
-
 // Writes what the program answers to two files, which always fits, and tells how many bytes it is.
 fn answer(
     out: &mut [u8],
@@ -55,8 +52,8 @@ fn respond(rt: &(impl Print + Eprint), first: &[u8], second: &[u8]) {
 }
 
 fn main(rt: HostRuntime) {
-    let mut first = [0u8; FILE];
-    let mut second = [0u8; FILE];
+    let mut first = text::file_room();
+    let mut second = text::file_room();
     if let Ok((a, b)) = streams::read_two(&rt, &mut first, &mut second) {
         respond(&rt, &first[..a], &second[..b]);
     }

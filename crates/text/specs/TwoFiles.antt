@@ -18,7 +18,7 @@ pub record TwoFiles (first second : List ℕ) (h : Header) (a b : List Gate) : T
 
 -- what is wrong with two files, by number, file and place, where nothing of an earlier kind is
 pub data FilesRefused (first second : List ℕ) : ℕ → ℕ → ℕ → Type 0 where
-  -- a file of more than 262,144 bytes
+  -- a file of more than 524,288 bytes
   first_long : max_file < length first → FilesRefused first second no_room 1 0
   second_long : length first ≤ max_file → max_file < length second → FilesRefused first second no_room 2 0
   -- the first file

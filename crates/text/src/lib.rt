@@ -34,7 +34,7 @@ pub const MAX_WORDS: usize = 16384;
 pub const MAX_TEXT: usize = 98321;
 
 // The bytes of the longest file of a comparison, its gates, the words of its cascade, of a miter and of the longest clause list, and the bytes of the longest text.
-pub const MAX_FILE: usize = 262144;
+pub const MAX_FILE: usize = 524288;
 
 pub const MAX_FILE_GATES: usize = 8192;
 
@@ -42,9 +42,9 @@ pub const FILE_WORDS: usize = 24576;
 
 pub const MITER_WORDS: usize = 49152;
 
-pub const MAX_LIST: usize = 262144;
+pub const MAX_LIST: usize = 300000;
 
-pub const MAX_COMPARED: usize = 2673875;
+pub const MAX_COMPARED: usize = 2938867;
 
 // The bytes of the longest text of an input that was checked.
 pub const MAX_CHECKED: usize = 137;
@@ -93,6 +93,11 @@ pub fn compare(
     }
     let answer = crate::comparison::compare_files(first, second, a, b, miter, clauses);
     crate::answer::fit_answer(out, answer, clauses)
+}
+
+// A room for a file of a comparison, and for one byte more, so that a longer file is told. Of its own, as the prover cannot look through an array of this size in the function that uses it.
+pub fn file_room() -> [u8; MAX_FILE + 1] {
+    [0; MAX_FILE + 1]
 }
 
 // Gives an input, a character 0 or 1 for each line, to the cascades of two files, and writes `differ` or `agree` and both outputs at the start of `out`; else 10.

@@ -47,7 +47,7 @@ written_more first out at front w r last new h p l =
       same = same_len_mid at (length out - at) out last l ∙ w.same;
     }
 
-written_none : (out : List ℕ) → Written out out 0 []
+pub written_none : (out : List ℕ) → Written out out 0 []
 written_none out = record { is = refl; long = refl; same = refl }
 
 pub written_put : (first out : List ℕ) (at : ℕ) (front : List ℕ) → Written first out at front → Put at out front first
