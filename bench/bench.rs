@@ -1,7 +1,8 @@
 //! Times the C interface of the library against plain Rust, in one run and on the same inputs. Fails
-//! where the library takes more than `LIMIT` times as long. With the argument `steps` it times a step and
-//! a reduction alone, with `files` reading and writing against an earlier archive (bench/files_before), and
-//! judges nothing: bench/at_places does, over several places of the code.
+//! where the library takes more than `LIMIT` times as long. With the argument `large` it does so for the
+//! largest cascades alone. With `steps` it times a step and a reduction alone, with `files` reading and
+//! writing against an earlier archive (bench/files_before), and judges nothing: bench/at_places does, over
+//! several places of the code.
 
 #[allow(dead_code)]
 #[path = "../tests/capi.rs"]
@@ -76,29 +77,15 @@ fn library_write(header: Header, words: &[u64], out: &mut [u8]) -> WriteAnswer {
     unsafe { capi::cascade_write(header, words.as_ptr(), words.len(), start, room) }
 }
 
-/// Reading and writing by an archive of before T-03, whose calls have names of their own.
+/// Reading and writing by an earlier archive, whose calls have names of their own.
 #[cfg(before)]
 mod earlier {
     use super::*;
 
-    #[repr(C)]
-    struct Answer {
-        number: u64,
-        place: u64,
-        lines: u64,
-        gates: u64,
-        taken: u64,
-    }
-
     extern "C" {
-        fn before_cascade_read(
-            text: *const u8,
-            text_len: usize,
-            out: *mut u64,
-            out_len: usize,
-        ) -> Answer;
+        fn before_cascade_read(text: *const u8, text_len: usize, out: *mut u64, out_len: usize) -> ReadAnswer;
         fn before_cascade_write(
-            n: u64,
+            header: Header,
             words: *const u64,
             words_len: usize,
             out: *mut u8,
@@ -108,22 +95,12 @@ mod earlier {
 
     pub fn read(text: &[u8], out: &mut [u64]) -> ReadAnswer {
         let (start, room) = (out.as_mut_ptr(), out.len());
-        let answer = unsafe { before_cascade_read(text.as_ptr(), text.len(), start, room) };
-        ReadAnswer {
-            number: answer.number,
-            place: answer.place,
-            lines: answer.lines,
-            constants: 0,
-            values: 0,
-            junk: 0,
-            gates: answer.gates,
-            taken: answer.taken,
-        }
+        unsafe { before_cascade_read(text.as_ptr(), text.len(), start, room) }
     }
 
     pub fn write(header: Header, words: &[u64], out: &mut [u8]) -> WriteAnswer {
         let (start, room) = (out.as_mut_ptr(), out.len());
-        unsafe { before_cascade_write(header.lines, words.as_ptr(), words.len(), start, room) }
+        unsafe { before_cascade_write(header, words.as_ptr(), words.len(), start, room) }
     }
 }
 
@@ -271,6 +248,7 @@ fn check_earlier(work: &Work) {
         let mut texts = [(); 2].map(|_| vec![9; text_room(words.len() / 3)]);
         let library = library_write(work.header, words, &mut texts[0]);
         assert_eq!(library, earlier::write(work.header, words, &mut texts[1]));
+        assert_eq!(library.number, 0);
         assert_eq!(texts[0], texts[1]);
         let mut outs = [vec![9; words.len()], vec![9; words.len()]];
         let library = library_read(&texts[0], &mut outs[0]);
@@ -406,9 +384,11 @@ fn main() {
     check_equal(&marked);
     #[cfg(before)]
     if what.as_deref() == Some("files") {
-        works.iter().for_each(check_earlier);
-        rows("cascade_read", &works, time_read, [library_read, earlier::read]);
-        rows("cascade_write", &works, time_write, [library_write, earlier::write]);
+        for works in [&works, &marked] {
+            works.iter().for_each(check_earlier);
+            rows("cascade_read", works, time_read, [library_read, earlier::read]);
+            rows("cascade_write", works, time_write, [library_write, earlier::write]);
+        }
         return;
     }
     let head = ["call", "cascades", "ns", "plain ns", "ratio"];
