@@ -51,7 +51,9 @@
  * each with buffers of its own. A call uses less than CASCADE_STACK bytes of stack.
  *
  * STEPS. A step and a reduction set freed words to 0. Three zero words are a gate: NOT on line 0. So
- * pass on just the gates that an answer counts, and no words behind them. Steps until none:
+ * pass on just the gates that an answer counts, and no words behind them. A step may compare each gate
+ * with all later ones, so its time is not linear in the gates, as that of the other calls is. Steps until
+ * none:
  *
  *     struct cascade_step_answer r;
  *     do {
