@@ -1,12 +1,12 @@
 // Gives the input that its third argument spells to the cascades of the two files that the others name, and writes whether they differ on it, with both outputs, or a refusal. Where a file could not be read, writes `failed`. Says on standard error why it could not read or not write all.
 #![tactic(auto)]
 
-ghost use Rattle.std.specs.Prelude.{◌≤◌, length};
+ghost use Rattle.std.specs.Prelude.{◌<◌, ◌≤◌, length};
 ghost use Rattle.bits.specs.Lists.{Put};
-ghost use Rattle.text.specs.Compare.{file_words};
+ghost use Rattle.text.specs.Compare.{max_file, file_words};
 ghost use Rattle.text.specs.CheckInput.{max_checked, check_text};
 
-use std::rt::Env;
+use std::rt::{Env, Files};
 
 // One byte more than a state may have.
 const STATE: usize = 65;
@@ -44,10 +44,18 @@ fn with_files(rt: &(impl Env + Print + Eprint), first: &[u8], second: &[u8]) {
     respond(rt, first, second, &state[..size]);
 }
 
+// Reads both files and answers. The rooms hold more than a file may have, so that a longer file is told.
+fn run(rt: &(impl Env + Files + Print + Eprint), first: &mut [u8], second: &mut [u8])
+    requires first_longer { max_file < length first.old }
+    requires second_longer { max_file < length second.old }
+{
+    if let Ok((a, b)) = streams::read_two(rt, first, second) {
+        with_files(rt, &first[..a], &second[..b]);
+    }
+}
+
 fn main(rt: HostRuntime) {
     let mut first = text::file_room();
     let mut second = text::file_room();
-    if let Ok((a, b)) = streams::read_two(&rt, &mut first, &mut second) {
-        with_files(&rt, &first[..a], &second[..b]);
-    }
+    run(&rt, &mut first, &mut second);
 }

@@ -1,5 +1,7 @@
 -- What is proved of the calls that make a list of words wide or narrow, and of any such calls.
-use Rattle.std.specs.Prelude.{◌≡◌, ℕ, ◌+◌, ◌*◌, ◌<◌, ◌≤◌, Bool, true, false, ◌↔◌, List, length, take, ℤ}
+use Rattle.std.specs.Prelude.{◌≡◌, ℕ, ◌<◌, ◌≤◌, Bool, true, false, ◌↔◌, List, length, take, ℤ}
+use Rattle.std.specs.Int.{w16, w32}
+use mir.Val.{SFits}
 use Rattle.bits.specs.Lists.{over}
 use Rattle.circuit.specs.declared.gate.Gate.{Gate}
 use Rattle.circuit.specs.declared.header.Header.{Header}
@@ -8,9 +10,9 @@ use Rattle.circuit.specs.Outcome.{Outcome, served, refused, Wrong, Fails, Untouc
 use Rattle.circuit.specs.Refusal.{no_room, word_too_wide}
 use Rattle.circuit.specs.Words.{all_valid}
 use Rattle.checking.specs.Each.{Every, AtFirst}
-use Rattle.checking.specs.Clauses.{clauses_of}
-use Rattle.checking.specs.Pair.{pair_clauses}
-use Rattle.checking.specs.Stored.{stored, clauses_in}
+use Rattle.checking.specs.Clauses.{clauses_of, variables_of}
+use Rattle.checking.specs.Pair.{pair_clauses, pair_variables}
+use Rattle.checking.specs.Stored.{stored, clauses_in, FitsWord}
 use Rattle.checking.specs.Widths.{narrow_limit, Narrow, is_narrow, widen_outcome, widen_buffer, narrow_outcome, narrow_buffer}
 
 -- every word passes a test
@@ -32,8 +34,10 @@ pub record Converts (test : ℤ → Bool) (answer : List ℤ → ℕ → Outcome
   pub untouched : (ws out : List ℤ) → Untouched (answer ws (length out)) out (leaves ws out)
 
 pub record WidthLaws : Type 0 where
-  -- the test of a word: −32,768 to 32,767
+  -- the test of a word: −32,768 to 32,767, exactly the words of 16 bits, and the words of a clause list are those of 32
   pub narrow_word : (w : ℤ) → (is_narrow w ≡ true) ↔ Narrow w
+  pub narrow_bits : (w : ℤ) → Narrow w ↔ SFits w16 w
+  pub word_bits : (w : ℤ) → FitsWord w ↔ SFits w32 w
   -- every list of words of 16 bits is made wide, and exactly those of such words are made narrow
   pub widens : Converts (λ w. true) widen_outcome widen_buffer
   pub narrows : Converts is_narrow narrow_outcome narrow_buffer
@@ -49,7 +53,7 @@ pub record WidthLaws : Type 0 where
       → (ws out : List ℤ) (k : ℕ) → f ws (length out) ≡ served k → clauses_in (take k (left ws out)) ≡ clauses_in ws
   -- a call that is served for a list with a wider word does not narrow: cut off, a word has another value
   pub cut_off : (answer : List ℤ → ℕ → Outcome ℕ) (leaves : List ℤ → List ℤ → List ℤ) (ws : List ℤ) (room k : ℕ) → answer ws room ≡ served k → (Every Narrow ws → ⊥) → Converts is_narrow answer leaves → ⊥
-  -- the clause list of so few lines and gates, and of such a pair, is one of 16 bits
-  pub narrow_list : (n : ℕ) (gs : List Gate) → n ≤ max_lines → 2 * n + 2 * length gs < narrow_limit → all_valid n gs ≡ true → Every Narrow (stored (clauses_of n gs))
-  pub narrow_pair : (h : Header) (a b : List Gate) → h.lines ≤ max_lines → 2 * h.lines + 2 * (length a + length b) < narrow_limit → all_valid h.lines a ≡ true → all_valid h.lines b ≡ true
+  -- the clause list of a cascade, and of a pair, with so few variables is one of 16 bits
+  pub narrow_list : (n : ℕ) (gs : List Gate) → n ≤ max_lines → all_valid n gs ≡ true → variables_of n gs < narrow_limit → Every Narrow (stored (clauses_of n gs))
+  pub narrow_pair : (h : Header) (a b : List Gate) → h.lines ≤ max_lines → all_valid h.lines a ≡ true → all_valid h.lines b ≡ true → pair_variables h a b < narrow_limit
       → Every Narrow (stored (pair_clauses h a b))

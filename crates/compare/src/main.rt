@@ -1,11 +1,12 @@
 // Compares the cascades of the two files that its arguments name, and writes the verdict, clauses for a solver, or a refusal. Where a file could not be read, writes `failed`. Says on standard error why it could not read or not write all.
 #![tactic(auto)]
 
-ghost use Rattle.std.specs.Prelude.{◌≤◌, length};
+ghost use Rattle.std.specs.Prelude.{◌<◌, ◌≤◌, length};
 ghost use Rattle.bits.specs.Lists.{Put};
-ghost use Rattle.text.specs.Compare.{max_list, max_compared, file_words, miter_words, compare_text};
+ghost use Rattle.text.specs.Compare.{max_file, max_list, max_compared, file_words, miter_words, compare_text};
 
 use checking::clauses::ClauseWord;
+use std::rt::{Env, Files};
 
 // Writes what the program answers to two files, which always fits, and tells how many bytes it is.
 fn answer(
@@ -51,10 +52,18 @@ fn respond(rt: &(impl Print + Eprint), first: &[u8], second: &[u8]) {
     streams::write(rt, &out[..size], b"compare: standard output");
 }
 
+// Reads both files and answers. The rooms hold more than a file may have, so that a longer file is told.
+fn run(rt: &(impl Env + Files + Print + Eprint), first: &mut [u8], second: &mut [u8])
+    requires first_longer { max_file < length first.old }
+    requires second_longer { max_file < length second.old }
+{
+    if let Ok((a, b)) = streams::read_two(rt, first, second) {
+        respond(rt, &first[..a], &second[..b]);
+    }
+}
+
 fn main(rt: HostRuntime) {
     let mut first = text::file_room();
     let mut second = text::file_room();
-    if let Ok((a, b)) = streams::read_two(&rt, &mut first, &mut second) {
-        respond(&rt, &first[..a], &second[..b]);
-    }
+    run(&rt, &mut first, &mut second);
 }

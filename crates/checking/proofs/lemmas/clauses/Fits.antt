@@ -109,10 +109,9 @@ module _ (limit : ℕ) where
   stored_fits m k (OR ls ∷ cs) h l one a b = (omega arith, (omega (arith, b.0), literals_fit m ls (stored cs) h a.0 (stored_fits m k cs h l one a.1 b.1)))
   stored_fits m k (XOR ls ∷ cs) h l one a b = (omega arith, (omega (arith, b.0), literals_fit m ls (stored cs) h a.0 (stored_fits m k cs h l one a.1 b.1)))
 
-  -- of so few lines and gates
-  pub words_within : (n : ℕ) (gs : List Gate) → n ≤ max_lines → max_lines + 3 < limit → 2 * n + 2 * length gs < limit → all_valid n gs ≡ true → All (FitsIn limit) (stored (clauses_of n gs))
-  words_within n gs few more h v =
-      stored_fits (variables_of n gs) (max_lines + 3) (clauses_of n gs) (omega (arith, variables_few n gs)) more (omega arith) (clauses_within n gs few v) (counts_small n gs few)
+  -- of so few variables
+  pub words_within : (n : ℕ) (gs : List Gate) → n ≤ max_lines → max_lines + 3 < limit → variables_of n gs < limit → all_valid n gs ≡ true → All (FitsIn limit) (stored (clauses_of n gs))
+  words_within n gs few more h v = stored_fits (variables_of n gs) (max_lines + 3) (clauses_of n gs) h more (omega arith) (clauses_within n gs few v) (counts_small n gs few)
 
 -- no list of a miter has more variables than a word holds, and no clause more literals
 pub limits_fit : (max_variables < word_limit) × (max_lines + 3 < word_limit)
@@ -120,4 +119,4 @@ limits_fit = (omega arith, omega arith)
 
 -- every number of a list fits a word
 pub words_fit : (n : ℕ) (gs : List Gate) → n ≤ max_lines → length gs ≤ max_miter_gates → all_valid n gs ≡ true → AllFit (stored (clauses_of n gs))
-words_fit n gs few short v = words_within word_limit n gs few limits_fit.1 (omega (arith, limits_fit.0)) v
+words_fit n gs few short v = words_within word_limit n gs few limits_fit.1 (omega (arith, limits_fit.0, variables_few n gs)) v

@@ -134,10 +134,10 @@ module _ (h : Header) (a b : List Gate) (few : h.lines ≤ max_lines) where
       by false = omega (arith, variables_few n (miter_gates a b), length-append a (inverse b), inverse_length b)
 
   -- every number of the list is one of a width that holds so many variables, and fits a word
-  pub pair_words_within : (limit : ℕ) → max_lines + 3 < limit → 2 * n + 2 * (length a + length b) < limit → all_valid n a ≡ true → all_valid n b ≡ true
+  pub pair_words_within : (limit : ℕ) → max_lines + 3 < limit → pair_variables h a b < limit → all_valid n a ≡ true → all_valid n b ≡ true
       → All (FitsIn limit) (stored (pair_clauses h a b))
   pair_words_within limit more fits v w =
-      stored_fits limit (pair_variables h a b) (max_lines + 3) (pair_clauses h a b) (omega (arith, pair_variables_few)) more (omega arith) (pair_within v w) short_pair
+      stored_fits limit (pair_variables h a b) (max_lines + 3) (pair_clauses h a b) fits more (omega arith) (pair_within v w) short_pair
 
   pub pair_words_fit : length a ≤ max_gates → length b ≤ max_gates → all_valid n a ≡ true → all_valid n b ≡ true → AllFit (stored (pair_clauses h a b))
-  pair_words_fit short_a short_b v w = pair_words_within word_limit limits_fit.1 (omega (arith, limits_fit.0)) v w
+  pair_words_fit short_a short_b v w = pair_words_within word_limit limits_fit.1 (omega (arith, limits_fit.0, pair_variables_few)) v w

@@ -11,7 +11,7 @@ use Rattle.checking.specs.WidthLaws.{Passing, ConvertRefused, Converts, WidthLaw
 use Rattle.checking.proofs.lemmas.Each.{each_good, each_wrong, served_each}
 use Rattle.checking.proofs.lemmas.clauses.Fits.{words_within}
 use Rattle.checking.proofs.lemmas.pair_emission.Fits.{pair_words_within}
-use Rattle.checking.proofs.lemmas.widths.Laws.{narrow_word}
+use Rattle.checking.proofs.lemmas.widths.Laws.{narrow_word, narrow_bits, word_bits}
 
 -- ---- the two calls, by the test of a word
 
@@ -116,12 +116,14 @@ pub width_laws : WidthLaws
 width_laws =
     record {
       narrow_word = narrow_word;
+      narrow_bits = narrow_bits;
+      word_bits = word_bits;
       widens = widens;
       narrows = narrows;
       converts_only = converts_only;
       comes_back = comes_back;
       reads_same = reads_same;
       cut_off = λ answer leaves ws room k e out c. out (λ j h d. (narrow_word _).0 (((c.served_exactly ws room k).0 e).0 j h d));
-      narrow_list = λ n gs few h v. every_of Narrow _ (words_within narrow_limit n gs few (omega arith) h v);
-      narrow_pair = λ h a b few small v w. every_of Narrow _ (pair_words_within h a b few narrow_limit (omega arith) small v w);
+      narrow_list = λ n gs few v h. every_of Narrow _ (words_within narrow_limit n gs few (omega arith) h v);
+      narrow_pair = λ h a b few v w small. every_of Narrow _ (pair_words_within h a b few narrow_limit (omega arith) small v w);
     }

@@ -7,6 +7,7 @@ use Rattle.bits.proofs.Bools.{not_held}
 use Rattle.circuit.specs.Outcome.{served}
 use Rattle.circuit.specs.Refusal.{word_too_wide}
 use Rattle.checking.specs.Each.{each_from, Every}
+use Rattle.checking.specs.Stored.{FitsWord}
 use Rattle.checking.specs.Widths.{Narrow, is_narrow}
 use Rattle.checking.proofs.lemmas.Each.{each_good}
 
@@ -22,17 +23,22 @@ wide_word w = (
   (λ f. not_held (is_narrow w) (λ t. f ((narrow_word w).0 t))),
 )
 
-narrow_fits : (w : ℤ) → Narrow w → SFits w16 w
-narrow_fits (pos v) h = record { sfits = omega arith }
-narrow_fits (negsuc i) h = record { sfits = omega arith }
+pub narrow_bits : (w : ℤ) → Narrow w ↔ SFits w16 w
+narrow_bits (pos v) = ((λ h. record { sfits = omega arith }), (λ f. omega (arith, f.sfits)))
+narrow_bits (negsuc i) = ((λ h. record { sfits = omega arith }), (λ f. omega (arith, f.sfits)))
 
-wide_fits : (w : ℤ) → Narrow w → SFits w32 w
-wide_fits (pos v) h = record { sfits = omega arith }
-wide_fits (negsuc i) h = record { sfits = omega arith }
+pub word_bits : (w : ℤ) → FitsWord w ↔ SFits w32 w
+word_bits (pos v) = ((λ h. record { sfits = omega arith }), (λ f. omega (arith, f.sfits)))
+word_bits (negsuc i) = ((λ h. record { sfits = omega arith }), (λ f. omega (arith, f.sfits)))
+
+-- 32 bits hold what 16 hold
+narrow_wide : (w : ℤ) → Narrow w → FitsWord w
+narrow_wide (pos v) h = omega arith
+narrow_wide (negsuc i) h = omega arith
 
 -- such a word in 32 bits, cut to 16, is itself
 pub cut_same : (w : ℤ) → Narrow w → to_z w16 (of_z w16 (to_z w32 (of_z w32 w))) ≡ w
-cut_same w h = ap (λ (z : ℤ). to_z w16 (of_z w16 z)) (to_z-of_z w32 w (wide_fits w h)) ∙ to_z-of_z w16 w (narrow_fits w h)
+cut_same w h = ap (λ (z : ℤ). to_z w16 (of_z w16 z)) (to_z-of_z w32 w ((word_bits w).0 (narrow_wide w h))) ∙ to_z-of_z w16 w ((narrow_bits w).0 h)
 
 -- ---- a list
 
