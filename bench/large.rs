@@ -7,9 +7,10 @@
 //! both. But a call that tests all gates before it writes comes to them again, and then a sixteenth is in a
 //! nearer cache. The growth of a call of linear time is otherwise 1, of quadratic time 16.
 
+use crate::capi::{CountAnswer, StateAnswer};
 use crate::plain::{unmarked, LIMIT, MITER_LIMIT};
 use crate::random::Random;
-use crate::{emit, inputs, median, pair, steps, widths};
+use crate::{emit, faults, inputs, median, pair, steps, widths};
 use crate::{same, same_file, same_read, text, text_room};
 use crate::{INVERSE, READ, RUN, SIZES, WRITE};
 use std::hint::black_box;
@@ -27,6 +28,12 @@ struct Work<I> {
     name: &'static str,
     whole: [I; 1],
     parts: Vec<I>,
+}
+
+impl<I> Work<I> {
+    fn of<J>(name: &'static str, all: &[J], make: impl Fn(&[J]) -> I) -> Work<I> {
+        Work { name, whole: [make(all)], parts: all.chunks(all.len() / PARTS).map(make).collect() }
+    }
 }
 
 /// Two cascades of as many gates, the gates of both, and the text of the first.
@@ -62,8 +69,28 @@ const LIST_WORDS: usize = 65_536;
 /// A list of clauses in words of 16 bits and of 32.
 fn list() -> Work<(Vec<i16>, Vec<i32>)> {
     let words = widths::list(2_048, LIST_WORDS);
-    let both = |words: &[i32]| (widths::narrowed(words), words.to_vec());
-    Work { name: "clauses", whole: [both(&words)], parts: words.chunks(LIST_WORDS / PARTS).map(both).collect() }
+    Work::of("clauses", &words, |words| (widths::narrowed(words), words.to_vec()))
+}
+
+const FEW_LINES: u64 = 4;
+
+/// A cascade on few lines.
+fn narrow_cascade() -> Work<Vec<u64>> {
+    let words = inputs::few_controls(&mut Random::new(13), FEW_LINES, LIMIT);
+    Work::of("4 lines", &words, <[u64]>::to_vec)
+}
+
+/// A cascade and one that differs from it on every state, by its last gate.
+type Suspect = (Vec<u64>, Vec<u64>);
+
+fn suspect(words: &[u64]) -> Suspect {
+    let before = &words[..words.len() - 3];
+    ([before, &[0, 0, 1]].concat(), [before, &[0, 0, 0]].concat())
+}
+
+/// Sixteen states on 64 lines.
+fn states() -> Vec<u64> {
+    Random::new(14).words(16)
 }
 
 // ---- equal answers
@@ -86,6 +113,25 @@ fn check_equal(a: &[u64], b: &[u64]) {
     }
 }
 
+/// Both sides give the same masks.
+fn same_masks((suspect, reference): &Suspect) -> CountAnswer {
+    let header = unmarked(LINES);
+    let mut outs = [vec![9; suspect.len()], vec![9; suspect.len()]];
+    let [library, plain] = [0, 1].map(|side| {
+        faults::FAULT_MASKS[side](header, suspect, header, reference, &states(), &mut outs[side])
+    });
+    assert_eq!((library, &outs[0]), (plain, &outs[1]));
+    library
+}
+
+/// Both sides find the same first difference.
+fn same_difference(a: &[u64], b: &[u64]) -> StateAnswer {
+    let header = unmarked(FEW_LINES);
+    let [library, plain] = faults::FIRST_DIFFERENCE.map(|call| call(header, a, header, b));
+    assert_eq!(library, plain);
+    library
+}
+
 /// Both sides refuse one gate more, and change no buffer.
 fn check_refused(a: &[u64]) {
     let more = [a, &a[..3]].concat();
@@ -105,6 +151,8 @@ fn check_refused(a: &[u64]) {
             assert_eq!(pair::same(header, a, header, b, pair::longest(MITER_LIMIT + 1)).number, 6);
         }
     }
+    assert_eq!(same_masks(&suspect(&more)).number, 6);
+    assert_eq!(same_difference(&more, a).number, 6);
     let mut texts = [(); 2].map(|_| vec![9; text_room(LIMIT + 1)]);
     for (write, text) in WRITE.iter().zip(&mut texts) {
         let answer = write(unmarked(LINES), &more, text);
@@ -187,6 +235,15 @@ pub fn rows() -> bool {
     }
     check_refused(&works[0].whole[0].a);
     widths::check_equal(&lists[0].whole[0].1);
+    let suspects: Vec<_> = works.iter().map(|work| Work::of(work.name, &work.whole[0].a, suspect)).collect();
+    for suspect in &suspects {
+        assert_eq!(same_masks(&suspect.whole[0]).number, 0);
+    }
+    let narrow = [narrow_cascade()];
+    let equal = &narrow[0].whole[0];
+    let answer = same_difference(equal, equal);
+    assert_eq!((answer.number, answer.found), (0, 0));
+    assert_eq!(same_difference(&suspect(equal).0, equal).found, 1);
     println!("\nat the limits, nanoseconds a gate or word; growth: in times of sixteen calls, each on a sixteenth");
     let [call, name, ours, theirs, ratio] = ["call", "cascades", "ns", "plain ns", "ratio"];
     println!("{call:<16} {name:<38} {ours:>9} {theirs:>9} {ratio:>6} growth  plain");
@@ -249,6 +306,23 @@ pub fn rows() -> bool {
         move |input: &Input, out: &mut [u8]| write(unmarked(LINES), &input.a, out).written as usize
     });
     highest.rows("cascade_write", one, LIMIT, &works, PARTS * text_room(LIMIT / PARTS), write);
+
+    let masks = faults::FAULT_MASKS.map(|masks| {
+        let (header, states) = (unmarked(LINES), states());
+        move |(suspect, reference): &Suspect, out: &mut [u64]| {
+            2 * masks(header, suspect, header, reference, &states, out).gates as usize
+        }
+    });
+    highest.rows("fault_masks", "16,384 gates, 16 states", LIMIT, &suspects, 2 * LIMIT, masks);
+
+    let difference = faults::FIRST_DIFFERENCE.map(|call| {
+        let header = unmarked(FEW_LINES);
+        move |words: &Vec<u64>, _: &mut [u64]| {
+            black_box(call(header, words, header, words));
+            0
+        }
+    });
+    highest.rows("first_difference", "equal, 16,384 gates", LIMIT, &narrow, 0, difference);
 
     type List = (Vec<i16>, Vec<i32>);
     let widen = widths::WIDEN.map(|widen| move |list: &List, out: &mut [i32]| widen(&list.0, out).words as usize);
