@@ -8,7 +8,9 @@ ghost use Rattle.text.specs.CheckInput.{max_checked, check_text};
 
 use std::rt::{Env, Files};
 
-// One byte more than a state may have.
+// One byte more than a file may have, and than a state may have.
+const FILE: usize = text::MAX_FILE + 1;
+
 const STATE: usize = 65;
 
 // Writes what the program answers to two files and an input, which always fits, and tells how many bytes it is.
@@ -44,6 +46,11 @@ fn with_files(rt: &(impl Env + Print + Eprint), first: &[u8], second: &[u8]) {
     respond(rt, first, second, &state[..size]);
 }
 
+// A room for a file. Of its own, as the prover cannot look through an array of this size in the function that uses it.
+fn file_room() -> [u8; FILE] {
+    [0u8; FILE]
+}
+
 // Reads both files and answers. The rooms hold more than a file may have, so that a longer file is told.
 fn run(rt: &(impl Env + Files + Print + Eprint), first: &mut [u8], second: &mut [u8])
     requires first_longer { max_file < length first.old }
@@ -55,7 +62,7 @@ fn run(rt: &(impl Env + Files + Print + Eprint), first: &mut [u8], second: &mut 
 }
 
 fn main(rt: HostRuntime) {
-    let mut first = text::file_room();
-    let mut second = text::file_room();
+    let mut first = file_room();
+    let mut second = file_room();
     run(&rt, &mut first, &mut second);
 }

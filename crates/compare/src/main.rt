@@ -8,6 +8,9 @@ ghost use Rattle.text.specs.Compare.{max_file, max_list, max_compared, file_word
 use checking::clauses::ClauseWord;
 use std::rt::{Env, Files};
 
+// One byte more than a file may have.
+const FILE: usize = text::MAX_FILE + 1;
+
 // Writes what the program answers to two files, which always fits, and tells how many bytes it is.
 fn answer(
     out: &mut [u8],
@@ -28,7 +31,11 @@ fn answer(
     text::compare(first, second, out, a, b, miter, clauses).unwrap()
 }
 
-// A room for the text. Of its own, as the prover cannot look through an array of this size in the function that uses it.
+// A room for a file, and one for the text. Of their own, as the prover cannot look through arrays of these sizes in the function that uses them.
+fn file_room() -> [u8; FILE] {
+    [0u8; FILE]
+}
+
 fn text_room() -> [u8; text::MAX_COMPARED] {
     [0u8; text::MAX_COMPARED]
 }
@@ -63,7 +70,7 @@ fn run(rt: &(impl Env + Files + Print + Eprint), first: &mut [u8], second: &mut 
 }
 
 fn main(rt: HostRuntime) {
-    let mut first = text::file_room();
-    let mut second = text::file_room();
+    let mut first = file_room();
+    let mut second = file_room();
     run(&rt, &mut first, &mut second);
 }

@@ -95,11 +95,6 @@ pub fn compare(
     crate::answer::fit_answer(out, answer, clauses)
 }
 
-// A room for a file of a comparison, and for one byte more, so that a longer file is told. Of its own, as the prover cannot look through an array of this size in the function that uses it.
-pub fn file_room() -> [u8; MAX_FILE + 1] {
-    [0; MAX_FILE + 1]
-}
-
 // Gives an input, a character 0 or 1 for each line, to the cascades of two files, and writes `differ` or `agree` and both outputs at the start of `out`; else 10.
 // The words of the cascades stand in the rooms that follow; what these hold afterwards is no answer, and where one is too short they are as they were.
 #[tactic(auto, unfolding(crate::specs::CheckInput::input_outcome, crate::specs::CheckInput::input_buffer))]
