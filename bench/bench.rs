@@ -1,7 +1,8 @@
 //! Times the C interface of the library against plain Rust, in one run and on the same inputs. Fails
-//! where the library takes more than `LIMIT` times as long. With the argument `steps` it times a step and
-//! a reduction alone, with `files` reading and writing against an earlier archive (bench/files_before), and
-//! judges nothing: bench/at_places does, over several places of the code.
+//! where the library takes more than `LIMIT` times as long. With the argument `large` it does so for the
+//! largest cascades alone. With `steps` it times a step and a reduction alone, with `files` reading and
+//! writing against an earlier archive (bench/files_before), and judges nothing: bench/at_places does, over
+//! several places of the code.
 
 #[allow(dead_code)]
 #[path = "../tests/capi.rs"]
@@ -9,6 +10,7 @@ mod capi;
 mod emit;
 mod faults;
 mod inputs;
+mod large;
 mod pair;
 mod plain;
 mod plain_emit;
@@ -17,6 +19,7 @@ mod plain_file;
 #[path = "../tests/random.rs"]
 mod random;
 mod steps;
+mod widths;
 
 use capi::{CountAnswer, Header, ReadAnswer, RunAnswer, SizesAnswer, WriteAnswer};
 use plain::unmarked;
@@ -74,29 +77,15 @@ fn library_write(header: Header, words: &[u64], out: &mut [u8]) -> WriteAnswer {
     unsafe { capi::cascade_write(header, words.as_ptr(), words.len(), start, room) }
 }
 
-/// Reading and writing by an archive of before T-03, whose calls have names of their own.
+/// Reading and writing by an earlier archive, whose calls have names of their own.
 #[cfg(before)]
 mod earlier {
     use super::*;
 
-    #[repr(C)]
-    struct Answer {
-        number: u64,
-        place: u64,
-        lines: u64,
-        gates: u64,
-        taken: u64,
-    }
-
     extern "C" {
-        fn before_cascade_read(
-            text: *const u8,
-            text_len: usize,
-            out: *mut u64,
-            out_len: usize,
-        ) -> Answer;
+        fn before_cascade_read(text: *const u8, text_len: usize, out: *mut u64, out_len: usize) -> ReadAnswer;
         fn before_cascade_write(
-            n: u64,
+            header: Header,
             words: *const u64,
             words_len: usize,
             out: *mut u8,
@@ -106,22 +95,12 @@ mod earlier {
 
     pub fn read(text: &[u8], out: &mut [u64]) -> ReadAnswer {
         let (start, room) = (out.as_mut_ptr(), out.len());
-        let answer = unsafe { before_cascade_read(text.as_ptr(), text.len(), start, room) };
-        ReadAnswer {
-            number: answer.number,
-            place: answer.place,
-            lines: answer.lines,
-            constants: 0,
-            values: 0,
-            junk: 0,
-            gates: answer.gates,
-            taken: answer.taken,
-        }
+        unsafe { before_cascade_read(text.as_ptr(), text.len(), start, room) }
     }
 
     pub fn write(header: Header, words: &[u64], out: &mut [u8]) -> WriteAnswer {
         let (start, room) = (out.as_mut_ptr(), out.len());
-        unsafe { before_cascade_write(header.lines, words.as_ptr(), words.len(), start, room) }
+        unsafe { before_cascade_write(header, words.as_ptr(), words.len(), start, room) }
     }
 }
 
@@ -155,11 +134,16 @@ fn work(
     }
 }
 
+/// Bytes that hold the text of a cascade of so many gates: no gate's line has more than 247, all other lines
+/// together have fewer than 2,048.
+fn text_room(gates: usize) -> usize {
+    256 * gates + 2_048
+}
+
 fn text(header: Header, words: &[u64]) -> Vec<u8> {
-    let mut out = vec![0; 1 << 18];
+    let mut out = vec![0; text_room(words.len() / 3)];
     let written = plain_file::write(header, words, &mut out).written;
-    out.truncate(written as usize);
-    out
+    out[..written as usize].to_vec()
 }
 
 fn works() -> Vec<Work> {
@@ -214,9 +198,9 @@ fn check_equal(works: &[Work]) {
     let mut bad = words.clone();
     bad[3 * 700] = u64::MAX;
     bad[3 * 800 + 2] = 64;
-    let too_long = [&words[..], &bad].concat();
+    let long = [&words.repeat(16), &bad[..]].concat();
     for n in [0, 1, 63, 64, 65, u64::MAX] {
-        for words in [words, &bad, &too_long, &vec![], &vec![0; 3]] {
+        for words in [words, &bad, &long, &vec![], &vec![0; 3]] {
             for cut in 0..3.min(words.len() + 1) {
                 same(n, &words[..words.len() - cut], 1 << 62, words.len());
                 same(n, &words[..words.len() - cut], u64::MAX, words.len() / 2);
@@ -237,27 +221,34 @@ fn same(n: u64, words: &[u64], state: u64, room: usize) {
 
 /// Both sides write the same text, and read the same words back, also where it is cut.
 fn same_file(header: Header, words: &[u64]) {
-    let mut texts = [vec![9; 1 << 18], vec![9; 1 << 18]];
+    let mut texts = [(); 2].map(|_| vec![9; text_room(words.len() / 3)]);
     let library = library_write(header, words, &mut texts[0]);
     assert_eq!(library, plain_file::write(header, words, &mut texts[1]));
     assert_eq!(texts[0], texts[1]);
+    assert_eq!(library.number, 0);
     let length = library.written as usize;
     for cut in [0, 1, 4, 5, 9, length / 2] {
-        let text = &texts[0][..length - cut];
-        let mut outs = [vec![9; words.len()], vec![9; words.len()]];
-        let library = library_read(text, &mut outs[0]);
-        assert_eq!(library, plain_file::read(text, &mut outs[1]));
-        assert_eq!(outs[0], outs[1]);
+        same_read(&texts[0][..length - cut], words.len());
     }
+}
+
+/// Both sides read the same words.
+fn same_read(text: &[u8], room: usize) -> ReadAnswer {
+    let mut outs = [vec![9; room], vec![9; room]];
+    let library = library_read(text, &mut outs[0]);
+    assert_eq!(library, plain_file::read(text, &mut outs[1]));
+    assert_eq!(outs[0], outs[1]);
+    library
 }
 
 /// The earlier archive writes the same text, and reads the same words.
 #[cfg(before)]
 fn check_earlier(work: &Work) {
     for words in &work.cascades {
-        let mut texts = [vec![9; 1 << 18], vec![9; 1 << 18]];
+        let mut texts = [(); 2].map(|_| vec![9; text_room(words.len() / 3)]);
         let library = library_write(work.header, words, &mut texts[0]);
         assert_eq!(library, earlier::write(work.header, words, &mut texts[1]));
+        assert_eq!(library.number, 0);
         assert_eq!(texts[0], texts[1]);
         let mut outs = [vec![9; words.len()], vec![9; words.len()]];
         let library = library_read(&texts[0], &mut outs[0]);
@@ -321,7 +312,7 @@ fn time_read(work: &Work, read: Read) -> f64 {
 
 /// Into a buffer that is long enough.
 fn time_write(work: &Work, write: Write) -> f64 {
-    let mut out = vec![0; 1 << 18];
+    let mut out = vec![0; text_room(work.cascades[0].len() / 3)];
     work.time(FILE_GATES_A_ROUND, |index| {
         let words = black_box(&work.cascades[index]);
         black_box(write(work.header, words, black_box(&mut out)));
@@ -385,14 +376,19 @@ fn main() {
     if what.as_deref() == Some("steps") {
         return steps::rows();
     }
+    if what.as_deref() == Some("large") {
+        std::process::exit(i32::from(!large::rows()));
+    }
     let (works, marked) = (works(), marked_works());
     check_equal(&works);
     check_equal(&marked);
     #[cfg(before)]
     if what.as_deref() == Some("files") {
-        works.iter().for_each(check_earlier);
-        rows("cascade_read", &works, time_read, [library_read, earlier::read]);
-        rows("cascade_write", &works, time_write, [library_write, earlier::write]);
+        for works in [&works, &marked] {
+            works.iter().for_each(check_earlier);
+            rows("cascade_read", works, time_read, [library_read, earlier::read]);
+            rows("cascade_write", works, time_write, [library_write, earlier::write]);
+        }
         return;
     }
     let head = ["call", "cascades", "ns", "plain ns", "ratio"];
@@ -406,6 +402,7 @@ fn main() {
         faults::highest(),
         emit::highest(),
         pair::highest(),
+        widths::highest(),
     ];
     let highest = ratios.into_iter().fold(0.0, f64::max);
     println!("bench: the highest ratio is {highest:.2}, the limit {LIMIT}");
@@ -417,9 +414,10 @@ fn main() {
     ];
     let file_highest = ratios.into_iter().fold(0.0, f64::max);
     println!("bench: of files {file_highest:.2}, the limit {FILE_LIMIT}");
+    let large = large::rows();
     println!("\nagainst plain Rust with std::hint::select_unpredictable (not judged)");
     rows("cascade_run", &works, time_run, HINTED_RUN);
-    if highest > LIMIT || file_highest > FILE_LIMIT {
+    if highest > LIMIT || file_highest > FILE_LIMIT || !large {
         std::process::exit(1);
     }
 }

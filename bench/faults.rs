@@ -6,6 +6,12 @@ use crate::random::Random;
 use crate::{compare, inputs, time};
 use std::hint::black_box;
 
+type FirstDifference = fn(Header, &[u64], Header, &[u64]) -> StateAnswer;
+type FaultMasks = fn(Header, &[u64], Header, &[u64], &[u64], &mut [u64]) -> CountAnswer;
+
+pub const FIRST_DIFFERENCE: [FirstDifference; 2] = [library_first_difference, plain::first_difference];
+pub const FAULT_MASKS: [FaultMasks; 2] = [library_fault_masks, plain::fault_masks];
+
 fn library_first_difference(ha: Header, a: &[u64], hb: Header, b: &[u64]) -> StateAnswer {
     unsafe { capi::cascade_first_difference(ha, a.as_ptr(), a.len(), hb, b.as_ptr(), b.len()) }
 }
@@ -49,21 +55,16 @@ fn sweep(random: &mut Random) -> f64 {
         );
     }
     let b = a.clone();
-    let sweep = |call: fn(Header, &[u64], Header, &[u64]) -> StateAnswer| {
-        time(1, |_| {
-            black_box(call(header, black_box(&a), header, black_box(&b)));
-        })
-    };
-    compare(
-        "first_difference",
-        "equal, 200 gates, 16 lines",
-        21,
-        || sweep(library_first_difference),
-        || sweep(plain::first_difference),
-    )
+    let [library, plain] = FIRST_DIFFERENCE.map(|call| {
+        let (a, b) = (&a, &b);
+        move || {
+            time(1, |_| {
+                black_box(call(header, black_box(a), header, black_box(b)));
+            })
+        }
+    });
+    compare("first_difference", "equal, 200 gates, 16 lines", 21, library, plain)
 }
-
-type FaultMasks = fn(Header, &[u64], Header, &[u64], &[u64], &mut [u64]) -> CountAnswer;
 
 /// The ratio of the fault masks of 1,024 gates over 1,000 states on 64 lines. The last gate of the
 /// suspect lacks a control that is 0 there for each of the states.

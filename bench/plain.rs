@@ -1,11 +1,13 @@
 //! The calls in plain Rust, written for speed, with the same answers as the C interface.
 
 use crate::capi::{CountAnswer, Header, ReduceAnswer, RunAnswer};
-use crate::capi::{SizesAnswer, StateAnswer, StepAnswer};
+use crate::capi::{SizesAnswer, StateAnswer, StepAnswer, WordsAnswer};
 use std::hint::select_unpredictable;
 
-const LIMIT: usize = 1024;
-const MITER_LIMIT: usize = 2048;
+/// The gates of a cascade.
+pub const LIMIT: usize = 16_384;
+/// The gates of a miter.
+pub const MITER_LIMIT: usize = 32_768;
 
 /// The tests 2, 11, 6: the number of the first that holds, or 0.
 #[inline(always)]
@@ -530,4 +532,42 @@ pub fn fault_masks(
         }
     }
     answer(0, 0, suspect.len() as u64)
+}
+
+/// The number of words, or a refusal.
+fn words_answer(number: u64, place: usize, words: usize) -> WordsAnswer {
+    WordsAnswer {
+        number,
+        place: place as u64,
+        words: words as u64,
+    }
+}
+
+#[inline(never)]
+pub fn widen(words: &[i16], out: &mut [i32]) -> WordsAnswer {
+    let Some(out) = out.get_mut(..words.len()) else {
+        return words_answer(10, 0, 0);
+    };
+    for (to, &word) in out.iter_mut().zip(words) {
+        *to = i32::from(word);
+    }
+    words_answer(0, 0, words.len())
+}
+
+/// Tests all words without an end at the first that does not fit, so that several are tested at once, and
+/// then copies them.
+#[inline(never)]
+pub fn narrow(words: &[i32], out: &mut [i16]) -> WordsAnswer {
+    let fits = |word: &i32| i16::try_from(*word).is_ok();
+    if !words.iter().fold(true, |all, word| all & fits(word)) {
+        let place = words.iter().position(|word| !fits(word)).unwrap();
+        return words_answer(16, place, 0);
+    }
+    let Some(out) = out.get_mut(..words.len()) else {
+        return words_answer(10, 0, 0);
+    };
+    for (to, &word) in out.iter_mut().zip(words) {
+        *to = word as i16;
+    }
+    words_answer(0, 0, words.len())
 }

@@ -5,15 +5,15 @@ use crate::plain;
 use std::array;
 
 /// The current variable of each line.
-type Current = [i16; 64];
+type Current = [i32; 64];
 
 fn inputs() -> Current {
-    array::from_fn(|line| line as i16 + 1)
+    array::from_fn(|line| line as i32 + 1)
 }
 
 /// The sizes first, then the clauses, where there is room.
 #[inline(never)]
-pub fn emit(n: u64, words: &[u64], out: &mut [i16]) -> SizesAnswer {
+pub fn emit(n: u64, words: &[u64], out: &mut [i32]) -> SizesAnswer {
     let answer = plain::sizes(n, words);
     if answer.number != 0 {
         return answer;
@@ -22,7 +22,7 @@ pub fn emit(n: u64, words: &[u64], out: &mut [i16]) -> SizesAnswer {
         return plain::sizes_refused(10, 0);
     };
     let mut current = inputs();
-    let mut used = n as i16;
+    let mut used = n as i32;
     rest = put_gates(words.as_chunks().0.iter(), &mut current, &mut used, rest);
     put_differences(plain::unmarked(n), &inputs(), &current, used, rest);
     answer
@@ -31,7 +31,7 @@ pub fn emit(n: u64, words: &[u64], out: &mut [i16]) -> SizesAnswer {
 /// The same of two cascades: with marks each from the inputs, without marks the second reversed and from
 /// the first's last variables.
 #[inline(never)]
-pub fn pair_emit(ha: Header, a: &[u64], hb: Header, b: &[u64], out: &mut [i16]) -> SizesAnswer {
+pub fn pair_emit(ha: Header, a: &[u64], hb: Header, b: &[u64], out: &mut [i32]) -> SizesAnswer {
     let answer = plain::pair_sizes(ha, a, hb, b);
     if answer.number != 0 {
         return answer;
@@ -42,13 +42,13 @@ pub fn pair_emit(ha: Header, a: &[u64], hb: Header, b: &[u64], out: &mut [i16]) 
     let mut constants = ha.constants;
     while constants != 0 {
         let line = constants.trailing_zeros();
-        let input = line as i16 + 1;
+        let input = line as i32 + 1;
         let one = ha.values >> line & 1 == 1;
         rest = put(rest, [0, 1, if one { input } else { -input }]);
         constants &= constants - 1;
     }
     let (mut first, mut second) = (inputs(), inputs());
-    let mut used = ha.lines as i16;
+    let mut used = ha.lines as i32;
     let [of_a, of_b] = [a, b].map(|words| words.as_chunks().0.iter());
     rest = put_gates(of_a, &mut first, &mut used, rest);
     if ha.constants | ha.junk != 0 {
@@ -66,9 +66,9 @@ pub fn pair_emit(ha: Header, a: &[u64], hb: Header, b: &[u64], out: &mut [i16]) 
 fn put_gates<'a, 'g>(
     gates: impl Iterator<Item = &'g [u64; 3]>,
     current: &mut Current,
-    variables: &mut i16,
-    mut rest: &'a mut [i16],
-) -> &'a mut [i16] {
+    variables: &mut i32,
+    mut rest: &'a mut [i32],
+) -> &'a mut [i32] {
     let mut used = *variables;
     for &[positive, negative, target] in gates {
         let target = target as usize % 64;
@@ -86,7 +86,7 @@ fn put_gates<'a, 'g>(
             }
             k => {
                 let p = used + 1;
-                rest = put(rest, [0, k as i16 + 1, p]);
+                rest = put(rest, [0, k as i32 + 1, p]);
                 let (long, after) = rest.split_at_mut(k);
                 let (short, after) = after.split_at_mut(4 * k);
                 put_controls(positive, lines, current, p, long, short.as_chunks_mut().0);
@@ -102,7 +102,7 @@ fn put_gates<'a, 'g>(
 
 /// The words at the start; what is left.
 #[inline(always)]
-fn put<const N: usize>(out: &mut [i16], words: [i16; N]) -> &mut [i16] {
+fn put<const N: usize>(out: &mut [i32], words: [i32; N]) -> &mut [i32] {
     let (front, rest) = out.split_first_chunk_mut().unwrap();
     *front = words;
     rest
@@ -110,7 +110,7 @@ fn put<const N: usize>(out: &mut [i16], words: [i16; N]) -> &mut [i16] {
 
 /// The literal c of the lowest of the lines.
 #[inline(always)]
-fn literal(positive: u64, lines: u64, current: &Current) -> i16 {
+fn literal(positive: u64, lines: u64, current: &Current) -> i32 {
     let line = lines.trailing_zeros();
     let variable = current[line as usize % 64];
     if positive >> (line % 64) & 1 == 1 {
@@ -126,9 +126,9 @@ fn put_controls(
     positive: u64,
     mut lines: u64,
     current: &Current,
-    p: i16,
-    long: &mut [i16],
-    short: &mut [[i16; 4]],
+    p: i32,
+    long: &mut [i32],
+    short: &mut [[i32; 4]],
 ) {
     for (to, clause) in long.iter_mut().zip(short) {
         let c = literal(positive, lines, current);
@@ -141,7 +141,7 @@ fn put_controls(
 /// The clauses of the lines that count, and the OR of their d. The two variables of a line are the same
 /// where no gate targets it.
 #[inline(always)]
-fn put_differences(header: Header, first: &Current, second: &Current, used: i16, out: &mut [i16]) {
+fn put_differences(header: Header, first: &Current, second: &Current, used: i32, out: &mut [i32]) {
     let mut rest = out;
     let mut d = used;
     for line in 0..header.lines as usize {

@@ -1,9 +1,7 @@
 //! Reading and writing of cascade files in plain Rust, written for speed, with the same answers as the C interface.
 
 use crate::capi::{Header, ReadAnswer, WriteAnswer};
-use crate::plain::unmarked;
-
-const LIMIT: usize = 1024;
+use crate::plain::{unmarked, LIMIT};
 
 fn read_refusal(number: u64, place: u64) -> ReadAnswer {
     ReadAnswer {

@@ -15,6 +15,7 @@ use std::hint::black_box;
 use std::io::{Read, Write};
 
 const MOST_BYTES: usize = 65_536;
+const MOST_GATES: usize = 1_024;
 const MOST_WORDS: usize = 16_384;
 const DIGITS: &[u8; 200] = b"0001020304050607080910111213141516171819202122232425262728293031323334353637383940414243444546474849\
 5051525354555657585960616263646566676869707172737475767778798081828384858687888990919293949596979899";
@@ -39,7 +40,7 @@ fn put_number(out: &mut Vec<u8>, k: u64) {
     }
 }
 
-fn put_list(out: &mut Vec<u8>, variables: u64, clauses: u64, mut words: &[i16]) {
+fn put_list(out: &mut Vec<u8>, variables: u64, clauses: u64, mut words: &[i32]) {
     out.extend_from_slice(b"p cnf ");
     put_number(out, variables);
     out.push(b' ');
@@ -54,7 +55,7 @@ fn put_list(out: &mut Vec<u8>, variables: u64, clauses: u64, mut words: &[i16]) 
             if *literal < 0 {
                 out.push(b'-');
             }
-            put_number(out, literal.unsigned_abs() as u64);
+            put_number(out, u64::from(literal.unsigned_abs()));
             out.push(b' ');
         }
         // ` 0` closes, also where there is no literal
@@ -77,7 +78,7 @@ fn listed(input: &[u8], out: &mut Vec<u8>) -> Result<(), (u64, u64, u64)> {
     if input.len() > MOST_BYTES {
         return Err((10, 0, 0));
     }
-    let mut words = [[0; 3072]; 2];
+    let mut words = [[0; 3 * MOST_GATES]; 2];
     let first = plain_file::read(input, &mut words[0]);
     if first.number != 0 {
         return Err((first.number, 1, first.place));

@@ -97,19 +97,34 @@ fn works() -> Vec<Work> {
 
 /// Both sides give the same answers and the same words.
 fn check_equal(work: &Work) {
-    let mut ours = vec![9; work.miter.len()];
-    let (n, a, b) = (work.lines, &work.a, &work.b);
-    assert_eq!(
-        library_miter(n, a, n, b, &mut ours),
-        plain::miter(n, a, n, b, &mut vec![9; work.miter.len()])
-    );
-    assert_eq!(ours, work.miter);
-    let mut theirs = ours.clone();
-    let (library, plain) = (library_step(n, &mut ours), plain::step(n, &mut theirs));
-    assert_eq!((library, &ours), (plain, &theirs));
-    let (mut ours, mut theirs) = (work.miter.clone(), work.miter.clone());
-    let (library, plain) = (library_reduce(n, &mut ours), plain::reduce(n, &mut theirs));
-    assert_eq!((library, &ours), (plain, &theirs));
+    same_miter(work.lines, &work.a, &work.b, work.miter.len());
+    same_step(work.lines, &work.miter);
+    same_reduction(work.lines, &work.miter);
+}
+
+/// Both sides give the same answer and the same buffer.
+pub fn same_miter(n: u64, a: &[u64], b: &[u64], room: usize) -> CountAnswer {
+    let mut outs = [vec![9; room], vec![9; room]];
+    let library = library_miter(n, a, n, b, &mut outs[0]);
+    assert_eq!(library, plain::miter(n, a, n, b, &mut outs[1]));
+    assert_eq!(outs[0], outs[1]);
+    library
+}
+
+/// Both sides make the same step.
+pub fn same_step(n: u64, words: &[u64]) -> StepAnswer {
+    let (mut ours, mut theirs) = (words.to_vec(), words.to_vec());
+    let library = library_step(n, &mut ours);
+    assert_eq!((library, &ours), (plain::step(n, &mut theirs), &theirs));
+    library
+}
+
+/// Both sides reduce to the same words.
+pub fn same_reduction(n: u64, words: &[u64]) -> ReduceAnswer {
+    let (mut ours, mut theirs) = (words.to_vec(), words.to_vec());
+    let library = library_reduce(n, &mut ours);
+    assert_eq!((library, &ours), (plain::reduce(n, &mut theirs), &theirs));
+    library
 }
 
 /// Nanoseconds of one call on a fresh copy of the miter.
@@ -121,6 +136,8 @@ fn time_on_miter<A>(work: &Work, call: fn(u64, &mut [u64]) -> A) -> f64 {
 }
 
 type Miter = fn(u64, &[u64], u64, &[u64], &mut [u64]) -> CountAnswer;
+
+pub const MITER: [Miter; 2] = [library_miter, plain::miter];
 
 fn time_miter(work: &Work, call: Miter) -> f64 {
     let mut out = vec![0; work.miter.len()];
@@ -157,7 +174,7 @@ pub fn miter_highest() -> f64 {
     for work in &works() {
         check_equal(work);
         let side = |call: Miter| move || time_miter(work, call);
-        let (library, plain) = (side(library_miter), side(plain::miter));
+        let [library, plain] = MITER.map(side);
         highest = highest.max(compare("cascade_miter", work.name, 101, library, plain));
     }
     highest

@@ -37,6 +37,7 @@ static const char *name_of(uint64_t number)
     case CASCADE_TOO_WIDE: return "too many lines for a sweep";
     case CASCADE_BAD_MARK: return "a mark on no line, or not above the one before";
     case CASCADE_MARKS_DIFFER: return "marks that differ";
+    case CASCADE_WORD_TOO_WIDE: return "a clause word that does not fit 16 bits";
     default: return "a number that this program does not know";
     }
 }
@@ -93,7 +94,7 @@ static int read_file(const char *path, struct cascade *cascade)
 /* The clauses of the two, into a buffer of just their length. */
 static int tell_pair(const struct cascade *a, const struct cascade *b)
 {
-    static int16_t clauses[CASCADE_MAX_PAIR_WORDS];
+    static int32_t clauses[CASCADE_MAX_PAIR_WORDS];
     struct cascade_sizes_answer list = cascade_pair_sizes(a->header, a->words, 3 * a->gates, b->header, b->words, 3 * b->gates);
     if (refused("pair", list.number, list.place))
         return 1;
@@ -108,7 +109,7 @@ static int tell_pair(const struct cascade *a, const struct cascade *b)
 static int tell_miter(const struct cascade *a, const struct cascade *b)
 {
     static uint64_t miter[CASCADE_MAX_MITER_GATES * CASCADE_GATE_WORDS];
-    static int16_t clauses[CASCADE_MAX_CLAUSE_WORDS];
+    static int32_t clauses[CASCADE_MAX_CLAUSE_WORDS];
     const uint64_t lines = a->header.lines;
     struct cascade_count_answer made = cascade_miter(lines, a->words, 3 * a->gates, b->header.lines, b->words, 3 * b->gates, miter, sizeof miter / sizeof *miter);
     if (refused("miter", made.number, made.place))

@@ -1,6 +1,6 @@
 /* The C interface of the cascade checker. It may change until all change requests are worked in.
  *
- * CASCADES. A cascade has 1 to 64 lines and 0 to 1,024 gates; a miter has up to 2,048. A gate inverts
+ * CASCADES. A cascade has 1 to 64 lines and 0 to 16,384 gates; a miter has up to 32,768. A gate inverts
  * its target line where all its positive controls are 1 and all its negative ones 0; the first gate
  * acts first. In memory a gate is three 64-bit words: the mask of its positive controls, the mask of
  * its negative controls, the number of its target line. Bit k of a mask or of a state is line k. No
@@ -43,13 +43,17 @@
  *     cascade_miter         the words of both together; CASCADE_MAX_MITER_GATES * 3 hold every miter
  *     cascade_emit          the `words` that cascade_sizes gives; CASCADE_MAX_CLAUSE_WORDS hold all
  *     cascade_pair_emit     the `words` that cascade_pair_sizes gives; CASCADE_MAX_PAIR_WORDS hold all
+ *     cascade_widen         words_len words
+ *     cascade_narrow        words_len words
  *     cascade_fault_masks   CASCADE_GATE_MASKS words a gate of the suspect
  *
  * The calls keep no state and take no memory from the system, so threads may call at the same time,
  * each with buffers of its own. A call uses less than CASCADE_STACK bytes of stack.
  *
  * STEPS. A step and a reduction set freed words to 0. Three zero words are a gate: NOT on line 0. So
- * pass on just the gates that an answer counts, and no words behind them. Steps until none:
+ * pass on just the gates that an answer counts, and no words behind them. A step may compare each gate
+ * with all later ones, so its time is not linear in the gates, as that of the other calls is. Steps until
+ * none:
  *
  *     struct cascade_step_answer r;
  *     do {
@@ -65,6 +69,10 @@
  * assignment are lines 0 to n - 1 of a permitted state on which they do. An OR clause needs a true
  * literal, and an XOR clause an odd number of them; where every line is junk, the last OR has none.
  *
+ * STORED LISTS. A word of a clause list has 32 bits. Lists that are stored with words of 16 bits are made
+ * such lists by cascade_widen, and a list goes back to 16 bits by cascade_narrow where each word fits, which
+ * it does where there are at most 32,767 variables. No literal changes either way.
+ *
  * examples/editor.c uses all of this. `tests/archive` proves the library and writes it, for Linux on
  * x86-64-v2, to target/staticlib/libcapi.a; it is linked by cc -Iinclude PROGRAM.c target/staticlib/libcapi.a
  */
@@ -79,14 +87,14 @@ extern "C" {
 #endif
 
 #define CASCADE_MAX_LINES 64
-#define CASCADE_MAX_GATES 1024         /* of a cascade: read, write, run, inverse, miter, pairs, comparisons, faults */
-#define CASCADE_MAX_MITER_GATES 2048   /* of what step, reduce, sizes and emit are given */
+#define CASCADE_MAX_GATES 16384        /* of a cascade: read, write, run, inverse, miter, pairs, comparisons, faults */
+#define CASCADE_MAX_MITER_GATES 32768  /* of what step, reduce, sizes and emit are given */
 #define CASCADE_MAX_SWEEP_LINES 16     /* of cascade_first_difference */
 #define CASCADE_GATE_WORDS 3           /* words a gate */
 #define CASCADE_GATE_MASKS 2           /* masks a gate, of cascade_fault_masks */
-#define CASCADE_MAX_TEXT 254137        /* bytes of the longest text of a cascade */
-#define CASCADE_MAX_CLAUSE_WORDS 661890 /* words of the longest clause list of a miter */
-#define CASCADE_MAX_PAIR_WORDS 662082  /* words of the longest clause list of two cascades */
+#define CASCADE_MAX_TEXT 4048057       /* bytes of the longest text of a cascade */
+#define CASCADE_MAX_CLAUSE_WORDS 10584450 /* words of the longest clause list of a miter */
+#define CASCADE_MAX_PAIR_WORDS 10584642 /* words of the longest clause list of two cascades */
 #define CASCADE_STACK 2048             /* bytes of stack that a call stays below */
 
 /* Why a call is refused. */
@@ -106,10 +114,11 @@ enum cascade_number {
     CASCADE_AGREEING_STATE = 12,    /* a state on which suspect and reference agree; at its index */
     CASCADE_TOO_WIDE = 13,          /* a sweep over more than 16 lines */
     CASCADE_BAD_MARK = 14,          /* a mark on no line of the cascade, or value 1 on a line that is no constant; of a file: a mark on no line or not above the one before, at the file line */
-    CASCADE_MARKS_DIFFER = 15       /* two cascades with different marks */
+    CASCADE_MARKS_DIFFER = 15,      /* two cascades with different marks */
+    CASCADE_WORD_TOO_WIDE = 16      /* a word outside -32,768 to 32,767; at its index */
 };
-/* File lines count from 0, the line `lines` being 0; a missing line has the next index. Gates and states
- * count from 0. Of two cascades, the place of 7 is the index within the one that it was found in. */
+/* File lines count from 0, the line `lines` being 0; a missing line has the next index. Gates, states and
+ * words count from 0. Of two cascades, the place of 7 is the index within the one that it was found in. */
 
 /* How two gates match in a step. */
 enum cascade_kind {
@@ -163,6 +172,10 @@ struct cascade_sizes_answer {
     uint64_t number, place, variables, clauses, words;
 };
 
+struct cascade_words_answer {
+    uint64_t number, place, words;
+};
+
 /* found is 1 where the two differ, and then state is the lowest permitted one on which they do. */
 struct cascade_state_answer {
     uint64_t number, place, found, state;
@@ -213,7 +226,7 @@ struct cascade_sizes_answer cascade_sizes(uint64_t lines, const uint64_t *words,
 /* The clause list of a cascade, clause after clause: its kind, the number of literals, the literals.
  * Variables count from 1, and a negative literal is true where its variable is false. Refused with 2,
  * 11, 6, 7, 10. */
-struct cascade_sizes_answer cascade_emit(uint64_t lines, const uint64_t *words, size_t words_len, int16_t *out, size_t out_len);
+struct cascade_sizes_answer cascade_emit(uint64_t lines, const uint64_t *words, size_t words_len, int32_t *out, size_t out_len);
 
 /* The sizes of the clause list of two cascades. Refused with 2, 14, 11, 6, 7 of the first, the same of
  * the second, 8, 15. */
@@ -222,7 +235,15 @@ struct cascade_sizes_answer cascade_pair_sizes(struct cascade_header a_header, c
 /* The clause list of two cascades. With marks: an OR of one literal for each constant, the first's
  * gates, the second's from the same inputs, the lines that count. Without marks it is that of their
  * miter. Refused with 2, 14, 11, 6, 7 of each, 8, 15, 10. */
-struct cascade_sizes_answer cascade_pair_emit(struct cascade_header a_header, const uint64_t *a, size_t a_len, struct cascade_header b_header, const uint64_t *b, size_t b_len, int16_t *out, size_t out_len);
+struct cascade_sizes_answer cascade_pair_emit(struct cascade_header a_header, const uint64_t *a, size_t a_len, struct cascade_header b_header, const uint64_t *b, size_t b_len, int32_t *out, size_t out_len);
+
+/* Words of 16 bits as words of 32 bits, each with the same value; any words, a clause list or not. Refused
+ * with 10. */
+struct cascade_words_answer cascade_widen(const int16_t *words, size_t words_len, int32_t *out, size_t out_len);
+
+/* Words of 32 bits as words of 16 bits, each with the same value; any words, a clause list or not. Refused
+ * with 16, 10. */
+struct cascade_words_answer cascade_narrow(const int32_t *words, size_t words_len, int16_t *out, size_t out_len);
 
 /* The lowest permitted state on which two cascades differ, found by trying all. Refused with 2, 14, 11,
  * 6, 7 of the first, the same of the second, 8, 15, 13. */

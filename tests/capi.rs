@@ -45,6 +45,14 @@ pub struct SizesAnswer {
 
 #[repr(C)]
 #[derive(Clone, Copy, Debug, PartialEq)]
+pub struct WordsAnswer {
+    pub number: u64,
+    pub place: u64,
+    pub words: u64,
+}
+
+#[repr(C)]
+#[derive(Clone, Copy, Debug, PartialEq)]
 pub struct StepAnswer {
     pub number: u64,
     pub place: u64,
@@ -145,7 +153,7 @@ extern "C" {
         lines: u64,
         words: *const u64,
         words_len: usize,
-        out: *mut i16,
+        out: *mut i32,
         out_len: usize,
     ) -> SizesAnswer;
     pub fn cascade_pair_sizes(
@@ -163,9 +171,21 @@ extern "C" {
         b_header: Header,
         b: *const u64,
         b_len: usize,
-        out: *mut i16,
+        out: *mut i32,
         out_len: usize,
     ) -> SizesAnswer;
+    pub fn cascade_widen(
+        words: *const i16,
+        words_len: usize,
+        out: *mut i32,
+        out_len: usize,
+    ) -> WordsAnswer;
+    pub fn cascade_narrow(
+        words: *const i32,
+        words_len: usize,
+        out: *mut i16,
+        out_len: usize,
+    ) -> WordsAnswer;
     pub fn cascade_miter(
         a_lines: u64,
         a: *const u64,

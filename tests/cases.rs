@@ -30,8 +30,14 @@ impl Written for i16 {
     }
 }
 
+impl Written for i32 {
+    fn of_word(word: u64) -> i32 {
+        word as i32
+    }
+}
+
 /// Contents of a buffer.
-fn drawn<T: Written>(random: &mut Random, length: usize) -> Vec<T> {
+pub fn drawn<T: Written>(random: &mut Random, length: usize) -> Vec<T> {
     (0..length).map(|_| T::of_word(random.word())).collect()
 }
 

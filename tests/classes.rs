@@ -442,7 +442,7 @@ const PAIR_LIST: &[&str] = &[
     "served: marked, a line that counts targeted by both",
     "served: marked, a line that counts after a junk line",
     "served: marked, the second reads a line that the first targets",
-    "served: marked, 1,024 gates each, 63 controls each, all constant, none junk",
+    "served: marked, as many gates as the limit each, 63 controls each, all constant, none junk",
 ];
 
 /// The classes of a call that is asked for the clauses of two cascades.
@@ -513,7 +513,7 @@ pub fn count_pair_list(counts: &mut Counts, a: &Cascade, b: &Cascade) {
     };
     counts.add_if(
         most(&first) && most(&second) && header.constants == u64::MAX && header.junk == 0,
-        "served: marked, 1,024 gates each, 63 controls each, all constant, none junk",
+        "served: marked, as many gates as the limit each, 63 controls each, all constant, none junk",
     );
 }
 

@@ -22,8 +22,9 @@ use std::os::unix::ffi::OsStrExt;
 use std::process::Command;
 
 const SEED: u64 = 20_260_116;
-const MOST_BYTES: usize = 262_144;
-const MOST_WORDS: u64 = 262_144;
+const MOST_BYTES: usize = 524_288;
+const MOST_GATES: usize = 8_192;
+const MOST_WORDS: u64 = 300_000;
 const MOST_SWEPT: u64 = 16;
 
 // ---- the rules
@@ -33,11 +34,16 @@ type Refused = (u64, u64, u64);
 
 /// The header and the gates of two files, each to its last byte.
 fn pair(first: &[u8], second: &[u8]) -> Result<(Header, Vec<Gate>, Vec<Gate>), Refused> {
-    if first.len() > MOST_BYTES || second.len() > MOST_BYTES {
-        return Err((10, 0, 0));
+    for (text, file) in [(first, 1), (second, 2)] {
+        if text.len() > MOST_BYTES {
+            return Err((10, file, 0));
+        }
     }
     let whole = |text: &[u8], file| {
         let read = reference::read_text(text).map_err(|why| (why.number, file, why.place))?;
+        if read.gates.len() > MOST_GATES {
+            return Err((10, file, 0));
+        }
         if read.taken < text.len() {
             let lines = text[..read.taken].iter().filter(|byte| **byte == b'\n').count();
             return Err((1, file, lines as u64));
@@ -221,6 +227,129 @@ fn exchanged(one: u64, other: u64) -> (Vec<Gate>, Vec<Gate>) {
     (vec![add(one, other), add(other, one), add(one, other)], vec![add(other, one), add(one, other), add(other, one)])
 }
 
+/// A gate with all other lines of n as negative controls: of gates with targets in turn each reads the target of
+/// the one before, so that none matches.
+fn full_gate(n: u64, target: u64) -> Gate {
+    Gate { positive: 0, negative: inputs::all_lines(n) & !(1 << target), target }
+}
+
+/// A cascade on 64 lines: 927 full gates, targets in turn, which have 323 words each, then as many gates without
+/// controls, of 4 words, and with one, of 5, each on a line of its own, so that none matches.
+fn near_limit(header: Header, without: u64, with_one: u64) -> Vec<u8> {
+    let mut gates: Vec<Gate> = (0..927).map(|k| full_gate(64, k % 64)).collect();
+    let last = (0..without + with_one).map(|target| Gate { positive: if target < without { 0 } else { 1 << 63 }, negative: 0, target });
+    gates.extend(last);
+    reference::text_of(header, &gates)
+}
+
+/// The clause list at its limit and one word longer: 927 times 323 words, 5 a line and 66 for the last OR, which
+/// leaves 193; a constant takes 3 words more, and a junk line 6 less.
+fn check_words(seen: &mut Seen) {
+    let unmarked = Header::unmarked(64);
+    let marked = Header { constants: 2, junk: 4, ..unmarked };
+    for (header, [without, with_one], kind) in [
+        (unmarked, [47, 1], "clauses"),
+        (unmarked, [46, 2], "refused 10, file 0"),
+        (marked, [44, 4], "clauses, marked"),
+        (marked, [43, 5], "refused 10, file 0"),
+    ] {
+        let words = 927 * 323 + 64 * 5 + 66 + 4 * without + 5 * with_one - if header.marked() { 3 } else { 0 };
+        assert_eq!(words, MOST_WORDS + u64::from(kind.starts_with("refused")));
+        let (first, none) = (near_limit(header, without, with_one), reference::text_of(header, &[]));
+        assert_eq!(compared(&first, &none).1, kind);
+        seen.compare(&first, &none);
+        seen.compare(&none, &first);
+    }
+}
+
+/// Files of as many gates as they may have, and of more, beside all that may be wrong besides.
+fn check_gates(seen: &mut Seen) {
+    const END: &[u8] = b"end\n";
+    let gates = |number: usize, last: &[u8]| [b"lines\t2\n", &b"g\t0\t+1\ng\t1\t-0\n".repeat(number / 2)[..], &b"g\t0\n".repeat(number % 2)[..], last].concat();
+    let (none, most, over) = (gates(0, END), gates(MOST_GATES, END), gates(MOST_GATES + 1, END));
+    let mut both = |first: &[u8], second: &[u8]| {
+        seen.compare(first, second);
+        seen.check(first, second, "01");
+    };
+    both(&most, &none);
+    both(&none, &most);
+    for (first, second) in [(&over, &none), (&none, &over), (&over, &over), (&over, &most), (&most, &over)] {
+        both(first, second);
+        both(&[first, &b"\n"[..]].concat(), second);
+        both(first, &[second, &b"x"[..]].concat());
+    }
+    // a second file that is wrong, with other lines or marks
+    for text in [&b""[..], b"lines\t2\nend", b"lines\t3\nend\n", b"lines\t2\njunk\t0\nend\n", b"lines\t2\ng\t1\t+1\nend\n", b"lines\t2\nend\nend\n"] {
+        for file in [&most, &over] {
+            both(file, text);
+            both(text, file);
+        }
+    }
+    // what is wrong before `end`, after more gates than a file may have; 6 after the 16,384th
+    for last in [&b""[..], b"end", b"g\t2\nend\n", b"g\t0\t+0\nend\n", b"junk\t0\nend\n", b"\nend\n"] {
+        for number in [MOST_GATES, MOST_GATES + 1, 16_384] {
+            let wrong = gates(number, last);
+            both(&wrong, &none);
+            both(&none, &wrong);
+            both(&over, &wrong);
+            both(&wrong, &over);
+        }
+    }
+    for number in [16_384, 16_385] {
+        both(&gates(number, END), &none);
+        both(&none, &gates(number, END));
+    }
+    // as many gates as they may have, each with two controls, of which the target of the one before is one: the clause
+    // list of any two such cascades is no longer than one may be
+    let two = |positive: u64| {
+        let gate = |k: u64| {
+            let controls = 1 << ((k + 63) % 64) | 1 << ((k + 50) % 64);
+            Gate { positive: controls & positive, negative: controls & !positive, target: k % 64 }
+        };
+        reference::text_of(Header::unmarked(64), &(0..MOST_GATES as u64).map(gate).collect::<Vec<_>>())
+    };
+    let (first, second) = (two(0), two(u64::MAX));
+    assert_eq!(compared(&first, &second).1, "clauses");
+    seen.compare(&first, &second);
+    // a state that is none comes after
+    seen.check(&over, &none, "2");
+    seen.check(&none, &over, "011");
+    seen.check(&most, &none, "2");
+}
+
+/// Files of as many bytes as they may have, and of one more; 10 comes before all that is wrong with the other.
+fn check_bytes(seen: &mut Seen) {
+    // 2,122 full gates on 64 lines, of 247 bytes, 4 gates of 4 bytes and 25 of 5; 13 bytes for the first and the last line
+    let mut all: Vec<Gate> = (0..2_122).map(|k| full_gate(64, k % 64)).collect();
+    all.extend((0..4).chain(10..35).map(|target| Gate { positive: 0, negative: 0, target }));
+    let most = reference::text_of(Header::unmarked(64), &all);
+    assert_eq!(most.len(), MOST_BYTES);
+    assert_eq!(compared(&most, &most).1, "equal, reduction");
+    let none = reference::text_of(Header::unmarked(64), &[]);
+    let over = [&most, &b"\n"[..]].concat();
+    let state = "0".repeat(64);
+    for (first, second) in [(&most, &none), (&none, &most), (&most, &most), (&over, &none), (&none, &over), (&over, &over), (&most, &over), (&over, &most)] {
+        seen.compare(first, second);
+        seen.check(first, second, &state);
+    }
+    for wrong in [&b""[..], b"lines\t65\nend\n", b"lines\t17\nend\n", b"lines\t64\njunk\t0\nend\n"] {
+        for file in [&most, &over] {
+            seen.compare(file, wrong);
+            seen.compare(wrong, file);
+            seen.check(wrong, file, &state);
+        }
+    }
+    const GOOD: &[u8] = b"lines\t4\ng\t1\t+0\nend\n";
+    for bytes in [MOST_BYTES - 1, MOST_BYTES, MOST_BYTES + 1, 2 * MOST_BYTES] {
+        let mut text = GOOD.to_vec();
+        text.resize(bytes, b'x');
+        seen.compare(&text, GOOD);
+        seen.compare(GOOD, &text);
+        seen.check(&text, GOOD, "0000");
+        seen.check(GOOD, &text, "0000");
+    }
+}
+
 fn check_all(random: &mut Random, seen: &mut Seen) {
     const GOOD: &[u8] = b"lines\t4\ng\t1\t+0\nend\n";
     const MARKED: &[u8] = b"lines\t4\nconst\t2\t1\njunk\t1\ng\t1\t+0\nend\n";
@@ -297,7 +426,7 @@ fn check_all(random: &mut Random, seen: &mut Seen) {
             seen.compare(other.as_bytes(), &text);
         });
     }
-    // the longest files, and longer ones
+    // files of many bytes, and lists that are too long
     let longest = |header: Header, gates: usize| {
         let all: Vec<Gate> = (0..gates as u64).map(|k| Gate { positive: !(1 << (k % 64)) & 0x5555_5555_5555_5555u64.rotate_left((k / 64) as u32), negative: !(1 << (k % 64)) & !0x5555_5555_5555_5555u64.rotate_left((k / 64) as u32), target: k % 64 }).collect();
         reference::text_of(header, &all)
@@ -309,12 +438,34 @@ fn check_all(random: &mut Random, seen: &mut Seen) {
         seen.compare(&longest(header, 1_024), &longest(header, 1_024));
         seen.compare(&longest(header, 900), &none);
     }
-    for bytes in [MOST_BYTES - 1, MOST_BYTES, MOST_BYTES + 1, 2 * MOST_BYTES] {
-        let mut text = GOOD.to_vec();
-        text.resize(bytes, b'x');
-        seen.compare(&text, GOOD);
-        seen.compare(GOOD, &text);
-        seen.check(&text, GOOD, "0000");
+    check_gates(seen);
+    check_words(seen);
+    check_bytes(seen);
+}
+
+/// The rooms of a program are within 6 MiB of stack, also for the longest files that it takes.
+fn check_stack(seen: &mut Seen) {
+    let full = |lines, gates: u64| -> Vec<Gate> { (0..gates).map(|k| full_gate(lines, k % lines)).collect() };
+    let unmarked = Header::unmarked(64);
+    let long = reference::text_of(unmarked, &full(64, 927));
+    let longer = reference::text_of(unmarked, &full(64, 2_000));
+    let many = reference::text_of(Header::unmarked(8), &full(8, MOST_GATES as u64));
+    let none = |lines| reference::text_of(Header::unmarked(lines), &[]);
+    for (first, second) in [(&longer, &longer), (&long, &none(64)), (&many, &none(8))] {
+        seen.put(first, second);
+        let state = "0".repeat(reference::read_text(first).expect("a file").header.lines as usize);
+        let (right, kind) = compared(first, second);
+        for (program, words, right) in [(&seen.compare, &[][..], right), (&seen.check_input, &[&state[..]][..], checked(first, second, &state).0)] {
+            let output = Command::new("sh")
+                .args(["-c", "ulimit -s 6144 && exec \"$0\" \"$@\"", program])
+                .arg(seen.folder.join("first"))
+                .arg(seen.folder.join("second"))
+                .args(words)
+                .output()
+                .expect("the program runs");
+            assert!(output.status.success() && output.stdout == right.as_bytes(), "{program} with a stack of 6 MiB, {kind}: {:?}", output.status);
+        }
+        seen.cases += 2;
     }
 }
 
@@ -347,6 +498,7 @@ fn main() {
     check_unread(&compare, &check_input);
     let mut seen = Seen { compare, check_input, cases: 0, kinds: BTreeMap::new(), folder };
     check_all(&mut Random::new(seed), &mut seen);
+    check_stack(&mut seen);
     std::fs::remove_dir_all(&seen.folder).expect("the folder goes");
     let mut wanted: Vec<String> = ["check: agree", "check: agree, a junk line differs", "check: differ", "check: refused 9", "check: refused 9, a constant", "check: refused 15", "clauses, no line counts"].map(String::from).to_vec();
     for verdict in ["equal, reduction", "equal, sweep", "differ", "clauses"] {
@@ -354,8 +506,9 @@ fn main() {
     }
     wanted.extend([8, 10, 15].map(|number| format!("refused {number}, file 0")));
     for file in 1..=2 {
-        wanted.extend([1, 2, 3, 4, 5, 6, 14].map(|number| format!("refused {number}, file {file}")));
+        wanted.extend([1, 2, 3, 4, 5, 6, 10, 14].map(|number| format!("refused {number}, file {file}")));
     }
+    wanted.extend([6, 10].map(|number| format!("check: refused {number}")));
     for (kind, count) in &seen.kinds {
         println!("{kind}: {count}");
     }

@@ -14,6 +14,7 @@ mod calls {
     pub mod first_difference;
     pub mod inverse;
     pub mod miter;
+    pub mod narrow;
     pub mod pair_emit;
     pub mod pair_sizes;
     pub mod read;
@@ -21,6 +22,7 @@ mod calls {
     pub mod run;
     pub mod sizes;
     pub mod step;
+    pub mod widen;
     pub mod write;
 }
 mod capi;
@@ -52,6 +54,8 @@ const SECTIONS: &[fn(&mut Random) -> Counts] = &[
     calls::emit::section,
     calls::pair_sizes::section,
     calls::pair_emit::section,
+    calls::widen::section,
+    calls::narrow::section,
     calls::first_difference::section,
     calls::differs::section,
     calls::fewer::section,
@@ -67,11 +71,18 @@ fn main() {
     rows::check();
     let mut cases = 0;
     let mut complete = true;
-    for (index, section) in SECTIONS.iter().enumerate() {
-        let counts = section(&mut Random::new(seed.wrapping_add(index as u64)));
-        complete &= counts.report();
-        cases += counts.cases();
-    }
+    // the sections side by side, each with random numbers of its own
+    std::thread::scope(|scope| {
+        let started = SECTIONS.iter().enumerate().map(|(index, section)| {
+            let mut random = Random::new(seed.wrapping_add(index as u64));
+            scope.spawn(move || section(&mut random))
+        });
+        for section in started.collect::<Vec<_>>() {
+            let counts = section.join().expect("the section comes to its end");
+            complete &= counts.report();
+            cases += counts.cases();
+        }
+    });
     if !complete {
         println!("differential: a class that must occur is missing");
         std::process::exit(1);

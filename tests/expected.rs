@@ -2,7 +2,7 @@
 //! each value that a case does not have.
 
 use crate::capi::{CountAnswer, DiffersAnswer, FewerAnswer, Header, ReadAnswer, ReduceAnswer};
-use crate::capi::{RunAnswer, SizesAnswer, StateAnswer, StepAnswer, WriteAnswer};
+use crate::capi::{RunAnswer, SizesAnswer, StateAnswer, StepAnswer, WordsAnswer, WriteAnswer};
 use crate::reference::{self, FileCascade, Found, Match, Picked, Reduced, Refusal, Sizes};
 
 /// A header as the calls are given it.
@@ -55,6 +55,15 @@ pub fn sizes_answer(answer: Result<Sizes, Refusal>) -> SizesAnswer {
         place,
         variables,
         clauses,
+        words,
+    }
+}
+
+pub fn words_answer(answer: Result<u64, Refusal>) -> WordsAnswer {
+    let (number, place, words) = parts(answer);
+    WordsAnswer {
+        number,
+        place,
         words,
     }
 }

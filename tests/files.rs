@@ -441,10 +441,12 @@ fn all_marks() -> Vec<u8> {
 
 /// Rows around the limit of gate lines, and one with more control fields than lines.
 pub fn long_rows() -> Vec<(&'static str, Vec<u8>, Wanted)> {
-    let full = long_text(b"", 1024, b"end\n");
+    const MOST: u64 = 16_384;
+    let text = |marks: &[u8], gates: u64, last: &[u8]| long_text(marks, gates as usize, last);
+    let full = text(b"", MOST, b"end\n");
     let bytes = full.len() as u64;
     let all = all_marks();
-    let full_marked = long_text(&all, 1024, b"end\n");
+    let full_marked = text(&all, MOST, b"end\n");
     let marked_bytes = full_marked.len() as u64;
     let all_header = marked(64, u64::MAX, 0xaaaa_aaaa_aaaa_aaaa, u64::MAX);
     let mut many = b"lines\t64\ng\t63".to_vec();
@@ -453,62 +455,62 @@ pub fn long_rows() -> Vec<(&'static str, Vec<u8>, Wanted)> {
     }
     many.extend(b"\nend\n");
     vec![
-        ("row: 1,024 gates", full, Served(lines(64), 1024, bytes)),
+        ("row: 16,384 gates", full, Served(lines(64), MOST, bytes)),
         (
-            "row: 1,025th gate line",
-            long_text(b"", 1025, b"end\n"),
-            Refused(6, 1025),
+            "row: 16,385th gate line",
+            text(b"", MOST + 1, b"end\n"),
+            Refused(6, MOST + 1),
         ),
         (
-            "row: 1,025th gate line of the wrong form",
-            long_text(b"", 1024, b"g\t?\nend\n"),
-            Refused(6, 1025),
+            "row: 16,385th gate line of the wrong form",
+            text(b"", MOST, b"g\t?\nend\n"),
+            Refused(6, MOST + 1),
         ),
         (
-            "row: 1,025th `g` tab without LF",
-            long_text(b"", 1024, b"g\t"),
-            Refused(6, 1025),
+            "row: 16,385th `g` tab without LF",
+            text(b"", MOST, b"g\t"),
+            Refused(6, MOST + 1),
         ),
         (
-            "row: 1,025th `g` without tab",
-            long_text(b"", 1024, b"g"),
-            Refused(1, 1025),
+            "row: 16,385th `g` without tab",
+            text(b"", MOST, b"g"),
+            Refused(1, MOST + 1),
         ),
         (
-            "row: 1,024 gates without end",
-            long_text(b"", 1024, b""),
-            Refused(1, 1025),
+            "row: 16,384 gates without end",
+            text(b"", MOST, b""),
+            Refused(1, MOST + 1),
         ),
         (
-            "row: a wrong line before the 1,025th",
-            long_text(b"", 1023, b"g\t?\ng\t0\ng\t0\n"),
-            Refused(1, 1024),
+            "row: a wrong line before the 16,385th",
+            text(b"", MOST - 1, b"g\t?\ng\t0\ng\t0\n"),
+            Refused(1, MOST),
         ),
         ("row: 200 control fields", many, Refused(5, 1)),
         (
-            "row: all lines constant and junk, 1,024 gates",
+            "row: all lines constant and junk, 16,384 gates",
             full_marked,
-            Served(all_header, 1024, marked_bytes),
+            Served(all_header, MOST, marked_bytes),
         ),
         (
-            "row: 128 marks, 1,025th gate line",
-            long_text(&all, 1025, b"end\n"),
-            Refused(6, 1153),
+            "row: 128 marks, 16,385th gate line",
+            text(&all, MOST + 1, b"end\n"),
+            Refused(6, MOST + 129),
         ),
         (
-            "row: 128 marks, 1,024 gates without end",
-            long_text(&all, 1024, b""),
-            Refused(1, 1153),
+            "row: 128 marks, 16,384 gates without end",
+            text(&all, MOST, b""),
+            Refused(1, MOST + 129),
         ),
         (
             "row: 129 marks",
-            long_text(&all, 0, b"junk\t63\nend\n"),
+            text(&all, 0, b"junk\t63\nend\n"),
             Refused(14, 129),
         ),
         (
-            "row: a mark after 1,024 gates",
-            long_text(b"", 1024, b"junk\t0\nend\n"),
-            Refused(1, 1025),
+            "row: a mark after 16,384 gates",
+            text(b"", MOST, b"junk\t0\nend\n"),
+            Refused(1, MOST + 1),
         ),
     ]
 }

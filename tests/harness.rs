@@ -3,9 +3,9 @@
 
 use crate::capi::Gate;
 use std::collections::BTreeMap;
+use std::cell::Cell;
 use std::fmt::Debug;
 use std::ptr::NonNull;
-use std::sync::atomic::{AtomicU64, Ordering};
 
 // ---- buffers
 
@@ -45,12 +45,20 @@ impl Element for i16 {
     }
 }
 
-/// How often an empty buffer had a pointer to no memory.
-static DANGLING: AtomicU64 = AtomicU64::new(0);
+impl Element for i32 {
+    fn guard(index: usize) -> i32 {
+        0x5a00_c0de + index as i32
+    }
+}
+
+thread_local! {
+    /// How often an empty buffer of this section had a pointer to no memory.
+    static DANGLING: Cell<u64> = const { Cell::new(0) };
+}
 
 /// A pointer to no memory: null, or aligned and not null, by turns that have no pattern.
 fn dangling<T>() -> *mut T {
-    let turn = DANGLING.fetch_add(1, Ordering::Relaxed);
+    let turn = DANGLING.replace(DANGLING.get() + 1);
     if turn.wrapping_mul(0x9e37_79b9_7f4a_7c15) >> 63 == 0 {
         std::ptr::null_mut()
     } else {
@@ -114,10 +122,22 @@ impl<T: Element> Buffer<T> {
 pub fn compare<T: Debug + PartialEq>(case: &impl Debug, what: &str, library: T, reference: T) {
     if library != reference {
         println!("mismatch: {what}");
-        println!("  case:      {case:?}");
-        println!("  library:   {library:?}");
-        println!("  reference: {reference:?}");
+        println!("  case:      {}", shown(case));
+        println!("  library:   {}", shown(&library));
+        println!("  reference: {}", shown(&reference));
         std::process::exit(1);
+    }
+}
+
+/// The characters of a mismatch that are printed.
+const SHOWN: usize = 100_000;
+
+/// A value as text, the end left out where it is long.
+fn shown(value: &impl Debug) -> String {
+    let text = format!("{value:?}");
+    match text.char_indices().nth(SHOWN) {
+        Some((end, _)) => format!("{} ..", &text[..end]),
+        None => text,
     }
 }
 

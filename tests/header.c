@@ -2,9 +2,9 @@
  * numbers and limits, null pointers, stack, marks, and rows of document 01. */
 #define _DEFAULT_SOURCE
 #include "cascade.h"
+#include <pthread.h>
 #include <stdio.h>
 #include <string.h>
-#include <ucontext.h>
 
 #define FIELD(name, field, k) \
     _Static_assert(offsetof(struct cascade_##name, field) == 8 * k, #name ": " #field); \
@@ -60,6 +60,9 @@ FIELD(sizes_answer, variables, 2);
 FIELD(sizes_answer, clauses, 3);
 FIELD(sizes_answer, words, 4);
 
+ANSWER(words, 3);
+FIELD(words_answer, words, 2);
+
 ANSWER(state, 4);
 FIELD(state_answer, found, 2);
 FIELD(state_answer, state, 3);
@@ -105,7 +108,7 @@ static void fields(void)
     expect("sizes of two gates: variables", sizes.variables, 6);
     expect("sizes of two gates: clauses", sizes.clauses, 5);
     expect("sizes of two gates: words", sizes.words, 23);
-    int16_t clauses[23] = {0};
+    int32_t clauses[23] = {0};
     sizes = cascade_emit(2, two, 6, clauses, 23);
     expect("emission of two gates: variables", sizes.variables, 6);
     expect("emission of two gates: clauses", sizes.clauses, 5);
@@ -128,7 +131,7 @@ static void fields(void)
     expect("sizes of a marked pair: variables", sizes.variables, 10);
     expect("sizes of a marked pair: clauses", sizes.clauses, 9);
     expect("sizes of a marked pair: words", sizes.words, 38);
-    int16_t pair_list[38] = {0};
+    int32_t pair_list[38] = {0};
     sizes = cascade_pair_emit(marked(4, 3, 1, 8), two, 6, marked(4, 3, 1, 8), two, 3, pair_list, 38);
     expect("emission of a marked pair: variables", sizes.variables, 10);
     expect("emission of a marked pair: clauses", sizes.clauses, 9);
@@ -143,6 +146,25 @@ static void fields(void)
     expect("marks read: junk lines", read.junk, 8);
     expect("marks read: gates", read.gates, 0);
     expect("marks read: bytes", read.taken, sizeof text - 1);
+    const int16_t narrow[3] = {1, -2, 32767};
+    int32_t wide[4] = {9, 9, 9, 32768};
+    struct cascade_words_answer words = cascade_widen(narrow, 3, wide, 4);
+    expect("widened: number", words.number, CASCADE_SERVED);
+    expect("widened: words", words.words, 3);
+    expect("widened: the first", wide[0] == 1, 1);
+    expect("widened: the second", wide[1] == -2, 1);
+    expect("widened: the third", wide[2] == 32767, 1);
+    expect("widened: the rest", wide[3] == 32768, 1);
+    int16_t back[3] = {9, 9, 9};
+    words = cascade_narrow(wide, 4, back, 3);
+    expect("a wide word: number", words.number, CASCADE_WORD_TOO_WIDE);
+    expect("a wide word: place", words.place, 3);
+    expect("a wide word: words", words.words, 0);
+    expect("a wide word: nothing is written", back[0] == 9 && back[1] == 9 && back[2] == 9, 1);
+    words = cascade_narrow(wide, 3, back, 3);
+    expect("narrowed: number", words.number, CASCADE_SERVED);
+    expect("narrowed: words", words.words, 3);
+    expect("narrowed again", memcmp(back, narrow, sizeof back) == 0, 1);
     struct cascade_state_answer first = cascade_first_difference(unmarked(3), toffoli, 3, unmarked(3), toffoli, 0);
     expect("first difference to no gate found", first.found, 1);
     expect("first difference to no gate", first.state, 3);
@@ -164,9 +186,12 @@ static void refusals(void)
     const uint64_t agreeing[2] = {1, 3};
     const uint64_t outside[2] = {3, 8};
     const uint8_t text[] = "lines\t3\ng\t3\nend\n";
+    const int32_t wide[3] = {-32768, -32769, 32768};
+    const int16_t words[2] = {3, 8};
     uint64_t out[12];
     uint8_t bytes[64];
-    int16_t clauses[64];
+    int32_t clauses[64];
+    int16_t narrow[3];
     REFUSED(cascade_read(text, sizeof text - 1, out, 12), 3, 1);
     REFUSED(cascade_write(unmarked(2), bad, 6, bytes, 64), 7, 1);
     REFUSED(cascade_write(marked(2, 4, 0, 0), bad, 5, bytes, 64), 14, 0);
@@ -186,6 +211,9 @@ static void refusals(void)
     REFUSED(cascade_pair_emit(unmarked(2), good, 6, marked(2, 0, 0, 4), bad, 6, clauses, 64), 14, 0);
     REFUSED(cascade_pair_emit(unmarked(2), good, 6, marked(2, 0, 0, 1), good, 6, clauses, 64), 15, 0);
     REFUSED(cascade_pair_emit(marked(2, 0, 0, 1), good, 6, marked(2, 0, 0, 1), good, 6, clauses, 1), 10, 0);
+    REFUSED(cascade_widen(words, 2, clauses, 1), 10, 0);
+    REFUSED(cascade_narrow(wide, 3, narrow, 0), 16, 1);
+    REFUSED(cascade_narrow(wide, 1, narrow, 0), 10, 0);
     REFUSED(cascade_first_difference(unmarked(2), good, 6, unmarked(2), bad, 6), 7, 1);
     REFUSED(cascade_first_difference(unmarked(2), good, 6, unmarked(3), good, 6), 8, 0);
     REFUSED(cascade_differs(unmarked(2), good, 6, unmarked(2), bad, 6, 0), 7, 1);
@@ -223,28 +251,40 @@ static void marks(void)
     REFUSED(cascade_differs(constant, toffoli, 3, unmarked(4), toffoli, 3, 0), CASCADE_LINE_COUNTS_DIFFER, 0);
 }
 
-/* The longest file: 1,024 gates with 63 controls on 64 lines, targets in turn; twice as many, the
- * longest clause list; and one more. */
+/* The longest file: 16,384 gates with 63 controls on 64 lines, targets in turn; twice as many, the
+ * longest clause list; and one more. Each gate reads the target of the one before, so that none matches. */
 static uint64_t longest[(CASCADE_MAX_MITER_GATES + 1) * CASCADE_GATE_WORDS];
+/* The same with a pair, a drop and a turn at the start. */
+static uint64_t matching[CASCADE_MAX_MITER_GATES * CASCADE_GATE_WORDS];
+/* A cascade of as many gates as one may have on two lines, each the NOT of a line. */
+static uint64_t narrow[CASCADE_MAX_GATES * CASCADE_GATE_WORDS];
 
-static void fill_longest(void)
+static void fill(void)
 {
     for (size_t i = 0; i <= CASCADE_MAX_MITER_GATES; i++) {
         longest[3 * i] = 0;
         longest[3 * i + 1] = ~((uint64_t)1 << i % 64);
         longest[3 * i + 2] = i % 64;
     }
+    const uint64_t first[18] = {3, 0, 7, 3, 0, 7, 3, 0, 6, 1, 2, 6, 3, 0, 5, 1, 0, 5};
+    memcpy(matching, longest, sizeof matching);
+    memcpy(matching, first, sizeof first);
+    for (size_t i = 0; i < CASCADE_MAX_GATES; i++)
+        narrow[3 * i + 2] = i % 2;
 }
+
+static uint64_t words[CASCADE_MAX_MITER_GATES * CASCADE_GATE_WORDS];
+static uint8_t text[CASCADE_MAX_TEXT + 1];
+static int32_t list[CASCADE_MAX_PAIR_WORDS];
+static int16_t small_list[CASCADE_MAX_PAIR_WORDS];
+static const size_t few = CASCADE_MAX_GATES * CASCADE_GATE_WORDS, many = CASCADE_MAX_MITER_GATES * CASCADE_GATE_WORDS;
 
 static void limits(void)
 {
-    static uint8_t text[CASCADE_MAX_TEXT + 1];
-    static int16_t clauses[CASCADE_MAX_PAIR_WORDS];
-    static uint64_t words[CASCADE_MAX_GATES * CASCADE_GATE_WORDS];
-    const size_t few = CASCADE_MAX_GATES * CASCADE_GATE_WORDS, many = 2 * few;
-    fill_longest();
     const struct cascade_header all = marked(CASCADE_MAX_LINES, ~(uint64_t)0, 3, ~(uint64_t)0);
     const struct cascade_header constants = marked(CASCADE_MAX_LINES, ~(uint64_t)0, 3, 0);
+    expect("gates of a cascade", CASCADE_MAX_GATES, 16384);
+    expect("gates of a miter", CASCADE_MAX_MITER_GATES, 32768);
     struct cascade_write_answer write = cascade_write(all, longest, few, text, CASCADE_MAX_TEXT);
     expect("longest text: number", write.number, CASCADE_SERVED);
     expect("longest text: bytes", write.written, CASCADE_MAX_TEXT);
@@ -252,18 +292,28 @@ static void limits(void)
     expect("longest text without room", write.number, CASCADE_NO_ROOM);
     struct cascade_read_answer read = cascade_read(text, CASCADE_MAX_TEXT, words, few);
     expect("longest text read: gates", read.gates, CASCADE_MAX_GATES);
+    expect("longest text read: bytes", read.taken, CASCADE_MAX_TEXT);
     expect("longest text read: constants", read.constants, all.constants);
     expect("longest text read: values", read.values, all.values);
     expect("longest text read: junk lines", read.junk, all.junk);
-    expect("longest text read: words", memcmp(words, longest, sizeof words) == 0, 1);
-    struct cascade_sizes_answer sizes = cascade_emit(CASCADE_MAX_LINES, longest, many, clauses, CASCADE_MAX_CLAUSE_WORDS);
+    expect("longest text read: words", memcmp(words, longest, 8 * few) == 0, 1);
+    struct cascade_sizes_answer sizes = cascade_emit(CASCADE_MAX_LINES, longest, many, list, CASCADE_MAX_CLAUSE_WORDS);
     expect("longest clause list: number", sizes.number, CASCADE_SERVED);
     expect("longest clause list: words", sizes.words, CASCADE_MAX_CLAUSE_WORDS);
-    sizes = cascade_pair_emit(constants, longest, few, constants, longest + few, few, clauses, CASCADE_MAX_PAIR_WORDS);
+    REFUSED(cascade_emit(CASCADE_MAX_LINES, longest, many, list, CASCADE_MAX_CLAUSE_WORDS - 1), CASCADE_NO_ROOM, 0);
+    sizes = cascade_pair_emit(constants, longest, few, constants, longest + few, few, list, CASCADE_MAX_PAIR_WORDS);
     expect("longest clause list of a pair: number", sizes.number, CASCADE_SERVED);
     expect("longest clause list of a pair: words", sizes.words, CASCADE_MAX_PAIR_WORDS);
-    sizes = cascade_pair_emit(constants, longest, few, constants, longest + few, few, clauses, CASCADE_MAX_PAIR_WORDS - 1);
+    expect("longest clause list of a pair: the last literal", list[CASCADE_MAX_PAIR_WORDS - 1] == (int32_t)sizes.variables, 1);
+    expect("longest clause list of a pair: variables", sizes.variables, 64 + 2 * 32768 + 64);
+    expect("longest clause list of a pair in 16 bits", cascade_narrow(list, CASCADE_MAX_PAIR_WORDS, small_list, CASCADE_MAX_PAIR_WORDS).number, CASCADE_WORD_TOO_WIDE);
+    sizes = cascade_pair_emit(constants, longest, few, constants, longest + few, few, list, CASCADE_MAX_PAIR_WORDS - 1);
     expect("longest clause list of a pair without room", sizes.number, CASCADE_NO_ROOM);
+    memcpy(words, matching, sizeof words);
+    struct cascade_reduce_answer reduce = cascade_reduce(CASCADE_MAX_LINES, words, many);
+    expect("longest miter: gates left", reduce.gates, CASCADE_MAX_MITER_GATES - 4);
+    expect("longest miter: pairs", reduce.pairs, 1);
+    expect("longest miter: merges", reduce.merges, 2);
     REFUSED(cascade_pair_sizes(constants, longest, few, constants, longest, few + 3), CASCADE_TOO_MANY_GATES, 0);
     REFUSED(cascade_write(unmarked(64), longest, few + 3, text, sizeof text), CASCADE_TOO_MANY_GATES, 0);
     REFUSED(cascade_sizes(64, longest, many + 3), CASCADE_TOO_MANY_GATES, 0);
@@ -336,7 +386,7 @@ static void nulls(void)
     const uint64_t a[3] = {3, 0, 2};
     uint64_t out[3];
     uint8_t text[12];
-    int16_t clauses[16];
+    int32_t clauses[16];
     REFUSED(cascade_read(NULL, 0, out, 3), CASCADE_WRONG_FORM, 0);
     REFUSED(cascade_read((const uint8_t *)"lines\t3\ng\t0\nend\n", 16, NULL, 0), CASCADE_NO_ROOM, 0);
     expect("null: read", cascade_read((const uint8_t *)"lines\t3\nend\n", 12, NULL, 0).lines, 3);
@@ -358,6 +408,10 @@ static void nulls(void)
     expect("null: pair sizes, second", cascade_pair_sizes(unmarked(3), a, 3, unmarked(3), NULL, 0).words, 34);
     expect("null: pair emission", cascade_pair_emit(marked(1, 0, 0, 1), NULL, 0, marked(1, 0, 0, 1), NULL, 0, clauses, 16).words, 2);
     REFUSED(cascade_pair_emit(unmarked(1), NULL, 0, unmarked(1), NULL, 0, NULL, 0), CASCADE_NO_ROOM, 0);
+    expect("null: widened", cascade_widen(NULL, 0, NULL, 0).number, CASCADE_SERVED);
+    expect("null: narrowed", cascade_narrow(NULL, 0, NULL, 0).number, CASCADE_SERVED);
+    REFUSED(cascade_widen(small_list, 1, NULL, 0), CASCADE_NO_ROOM, 0);
+    REFUSED(cascade_narrow(list, 1, NULL, 0), CASCADE_NO_ROOM, 0);
     expect("null: first difference", cascade_first_difference(unmarked(3), NULL, 0, unmarked(3), a, 3).state, 3);
     expect("null: differs", cascade_differs(unmarked(3), NULL, 0, unmarked(3), a, 3, 3).differs, 1);
     expect("null: fewer gates", cascade_fewer_gates(3, a, 3, 3, NULL, 0).second, 1);
@@ -377,69 +431,81 @@ static void overlaps(void)
 
 /* ---- stack */
 
-static uint8_t stack[1 << 16];
-static ucontext_t caller, callee;
-static uint64_t pair[2 * CASCADE_MAX_GATES * CASCADE_GATE_WORDS], states[64], large[CASCADE_MAX_MITER_GATES * CASCADE_GATE_WORDS];
-static uint8_t bytes[CASCADE_MAX_TEXT];
-static int16_t list[CASCADE_MAX_PAIR_WORDS];
+static _Alignas(4096) uint8_t stack[1 << 20];
+static uint64_t states[64];
 static const struct cascade_header headed = {64, 6, 2, 9};
 
 static uint64_t told;
 static void idle(void) {}
-static void do_read(void) { told |= cascade_read(bytes, CASCADE_MAX_TEXT, large, 3072).number; }
-static void do_write(void) { told |= cascade_write(headed, longest, 3072, bytes, CASCADE_MAX_TEXT).number; }
-static void do_run(void) { told |= cascade_run(64, longest, 3072, 7).number; }
-static void do_records(void) { told |= cascade_run_records(64, (const struct cascade_gate *)longest, 1024, 7).number; }
-static void do_inverse(void) { told |= cascade_inverse(64, longest, 3072, large, 6144).number; }
-static void do_miter(void) { told |= cascade_miter(64, longest, 3072, 64, longest + 3072, 3072, large, 6144).number; }
-static void do_step(void) { told |= cascade_step(64, pair, 6144).number; }
-static void do_reduce(void) { told |= cascade_reduce(64, pair, 6144).number; }
-static void do_sizes(void) { told |= cascade_sizes(64, longest, 6144).number; }
-static void do_emit(void) { told |= cascade_emit(64, longest, 6144, list, CASCADE_MAX_CLAUSE_WORDS).number; }
-static void do_pair_sizes(void) { told |= cascade_pair_sizes(headed, longest, 3072, headed, longest + 3072, 3072).number; }
-static void do_pair_emit(void) { told |= cascade_pair_emit(headed, longest, 3072, headed, longest + 3072, 3072, list, CASCADE_MAX_PAIR_WORDS).number; }
-static void do_miter_emit(void) { told |= cascade_pair_emit(unmarked(64), longest, 3072, unmarked(64), longest + 3072, 3072, list, CASCADE_MAX_PAIR_WORDS).number; }
-static const uint64_t small[3] = {3, 0, 2};
-static void do_sweep(void) { told |= cascade_first_difference(unmarked(3), small, 3, unmarked(3), small, 0).number; }
-static void do_differs(void) { told |= cascade_differs(headed, longest, 3072, headed, longest, 3069, 2).number; }
-static void do_fewer(void) { told |= cascade_fewer_gates(64, longest, 3072, 64, longest, 3069).number; }
-static void do_faults(void) { told |= cascade_fault_masks(unmarked(64), longest, 3072, unmarked(64), longest, 0, states, 64, large, 2048).number; }
+/* Each call at its limits. */
+#define CALL(name, call) static void do_##name(void) { told |= (call).number; }
+CALL(write, cascade_write(headed, longest, few, text, sizeof text))
+CALL(read, cascade_read(text, sizeof text, words, few))
+CALL(run, cascade_run(64, longest, few, 7))
+CALL(records, cascade_run_records(64, (const struct cascade_gate *)longest, CASCADE_MAX_GATES, 7))
+CALL(inverse, cascade_inverse(64, longest, few, words, many))
+CALL(miter, cascade_miter(64, longest, few, 64, longest + few, few, words, many))
+CALL(step, cascade_step(64, matching, many))
+CALL(reduce, cascade_reduce(64, matching, many))
+CALL(sizes, cascade_sizes(64, longest, many))
+CALL(emit, cascade_emit(64, longest, many, list, CASCADE_MAX_CLAUSE_WORDS))
+CALL(pair_sizes, cascade_pair_sizes(headed, longest, few, headed, longest + few, few))
+CALL(pair_emit, cascade_pair_emit(headed, longest, few, headed, longest + few, few, list, CASCADE_MAX_PAIR_WORDS))
+CALL(miter_emit, cascade_pair_emit(unmarked(64), longest, few, unmarked(64), longest + few, few, list, CASCADE_MAX_PAIR_WORDS))
+CALL(widen, cascade_widen(small_list, CASCADE_MAX_PAIR_WORDS, list, CASCADE_MAX_PAIR_WORDS))
+CALL(narrow, cascade_narrow(list, CASCADE_MAX_PAIR_WORDS, small_list, CASCADE_MAX_PAIR_WORDS))
+CALL(sweep, cascade_first_difference(unmarked(2), narrow, few, unmarked(2), narrow, few))
+CALL(differs, cascade_differs(headed, longest, few, headed, longest, few - 3, 2))
+CALL(fewer, cascade_fewer_gates(64, longest, few, 64, longest, few - 3))
+CALL(faults, cascade_fault_masks(unmarked(64), longest, few, unmarked(64), longest, 0, states, 64, words, CASCADE_GATE_MASKS * CASCADE_MAX_GATES))
 
-/* The bytes of a stack that a function touches. */
+static void (*called)(void);
+static size_t used;
+
+/* Calls a function, and counts the bytes of the stack that are touched from here on. */
+static void *thread(void *none)
+{
+    const uint8_t here = 0;
+    size_t free = 0;
+    called();
+    while (stack[free] == 0xa5)
+        free++;
+    used = (size_t)(&here - (stack + free));
+    return none;
+}
+
+/* The bytes that a function touches of the stack of a thread, which has 1 MiB. */
 static size_t touched(void (*function)(void))
 {
+    pthread_attr_t attributes;
+    pthread_t id;
     memset(stack, 0xa5, sizeof stack);
-    getcontext(&callee);
-    callee.uc_stack.ss_sp = stack;
-    callee.uc_stack.ss_size = sizeof stack;
-    callee.uc_link = &caller;
-    makecontext(&callee, function, 0);
-    swapcontext(&caller, &callee);
-    size_t free = 0;
-    while (free < sizeof stack && stack[free] == 0xa5)
-        free++;
-    return sizeof stack - free;
+    called = function;
+    used = sizeof stack;
+    if (pthread_attr_init(&attributes) || pthread_attr_setstack(&attributes, stack, sizeof stack) || pthread_create(&id, &attributes, thread, NULL) || pthread_join(id, NULL))
+        expect("a thread with a stack of 1 MiB", 0, 1);
+    pthread_attr_destroy(&attributes);
+    return used;
 }
 
 static void stack_use(void)
 {
-    static void (*const calls[])(void) = {do_write, do_read, do_run, do_records, do_inverse, do_miter, do_step, do_reduce, do_sizes, do_emit, do_pair_sizes, do_pair_emit, do_miter_emit, do_sweep, do_differs, do_fewer, do_faults};
+    /* the longest file is written before it is read, and what is widened is narrowed */
+    static void (*const calls[])(void) = {do_write, do_read, do_run, do_records, do_inverse, do_miter, do_step, do_reduce, do_sizes, do_emit, do_pair_sizes, do_pair_emit, do_miter_emit, do_widen, do_narrow, do_sweep, do_differs, do_fewer, do_faults};
+    const size_t own = touched(idle);
     size_t most = 0;
-    memcpy(pair, longest, sizeof pair / 2);
-    for (size_t i = 0; i < CASCADE_MAX_GATES; i++)
-        memcpy(pair + 3 * (2047 - i), longest + 3 * i, 24);
-    size_t own = touched(idle);
     for (size_t i = 0; i < sizeof calls / sizeof *calls; i++) {
-        size_t used = touched(calls[i]) - own;
-        most = used > most ? used : most;
+        const size_t bytes = touched(calls[i]);
+        most = bytes > most ? bytes : most;
     }
-    printf("header: a call used at most %zu bytes of stack\n", most);
+    printf("header: a call used at most %zu bytes of stack, with its arguments; a thread that makes none, %zu\n", most, own);
     expect("stack: all calls served", told, CASCADE_SERVED);
-    expect("less than CASCADE_STACK bytes of stack", most > 0 && most < CASCADE_STACK, 1);
+    expect("less than CASCADE_STACK bytes of stack", most > own && most < CASCADE_STACK, 1);
 }
 
 int main(void)
 {
+    fill();
     fields();
     refusals();
     marks();
@@ -493,7 +559,7 @@ int main(void)
     struct cascade_reduce_answer reduce = cascade_reduce(2, two, 6);
     expect("reduce gates", reduce.gates, 2);
     expect("reduce pairs", reduce.pairs, 0);
-    int16_t clauses[34] = {0};
+    int32_t clauses[34] = {0};
     struct cascade_sizes_answer emitted = cascade_emit(3, toffoli, 3, clauses, 34);
     expect("emit number", emitted.number, 0);
     expect("emit words", emitted.words, 34);

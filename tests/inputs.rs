@@ -3,6 +3,9 @@
 use crate::random::Random;
 use crate::reference::{self, Gate, Header, CASCADE_GATES, MITER_GATES};
 
+/// The gates of a long cascade, where as many as the limit would take long.
+pub const LONG: usize = 2_048;
+
 /// A line count, marks and words as a call gets them, good or bad, and a state to start from.
 #[derive(Clone, Debug)]
 pub struct Cascade {
@@ -255,12 +258,33 @@ fn small_words(random: &mut Random) -> Cascade {
 }
 
 fn gate_count(random: &mut Random, limit: usize) -> usize {
-    match random.below(100) {
+    match random.below(5_000) {
         0 => random.pick(&[limit - 1, limit, limit, limit + 1, limit + 2, 2 * limit]),
-        1..=7 => 0,
-        8..=20 => 1,
+        1..=25 => random.index(LONG),
+        26..=400 => 0,
+        401..=1_050 => 1,
         _ => 2 + random.index(12),
     }
+}
+
+/// A cascade of valid gates on two lines or more, of which none matches a later one that it may be moved to:
+/// each reads the target of the one before, and no line is a positive control of one gate and a negative
+/// control of another.
+pub fn blocked_cascade(random: &mut Random, lines: u64, gates: usize) -> Cascade {
+    let start = random.word() & all_lines(lines);
+    let positive = random.word();
+    let mut words = Vec::with_capacity(3 * gates);
+    let mut before = random.below(lines);
+    for _ in 0..gates {
+        let target = (before + 1 + random.below(lines - 1)) % lines;
+        let mut controls = 1 << before;
+        if random.one_in(2) {
+            controls |= control_lines(random, lines) & all_lines(lines) & !(1 << target);
+        }
+        words.extend([controls & positive, controls & !positive, target]);
+        before = target;
+    }
+    Cascade::new(lines, words, start)
 }
 
 /// Damages up to three gates, the first and the last often among them.
@@ -391,13 +415,28 @@ pub fn each_mark(check: &mut impl FnMut(Cascade)) {
 
 // ---- cascades for steps
 
-/// A cascade of up to 2,048 gates: mostly one with matches, else any.
+/// A cascade, mostly one of up to 2,048 gates with matches, else any.
 pub fn any_or_matching(random: &mut Random) -> Cascade {
     if random.one_in(4) {
-        cascade(random, MITER_GATES)
+        cascade(random, LONG)
     } else {
-        matching_cascade(random, MITER_GATES)
+        matching_cascade(random, LONG)
     }
+}
+
+/// As many gates as a miter may have, of which none matches but the first two, where the first choice says so,
+/// and the last two, where the second does: these are the same gate twice.
+pub fn few_matches(random: &mut Random, [first, last]: [bool; 2]) -> Cascade {
+    let lines = 3 + random.below(62);
+    let mut cascade = blocked_cascade(random, lines, MITER_GATES);
+    if first {
+        cascade.words.copy_within(3..6, 0);
+    }
+    if last {
+        let at = 3 * (MITER_GATES - 2);
+        cascade.words.copy_within(at..at + 3, at + 3);
+    }
+    cascade
 }
 
 /// A cascade of valid gates of which many match: few lines, gates copied and slightly changed, and
@@ -486,19 +525,39 @@ pub fn faulty_cascade(random: &mut Random, faults: [bool; 4], limit: usize) -> C
 
 // ---- two cascades
 
-/// Hands over two cascades with each choice of faults, on the same lines and on any.
+/// Hands over two cascades with each choice of faults, on the same lines and on any; where one has a gate too
+/// many, with one fault more at most.
 pub fn each_faulty_pair(
     random: &mut Random,
     check: &mut impl FnMut(&mut Random, Cascade, Cascade),
 ) {
     for mask in 0..256u32 {
         let faults = |shift: u32| [0, 1, 2, 3].map(|bit| mask >> (shift + bit) & 1 == 1);
+        if (faults(0)[2] || faults(4)[2]) && mask.count_ones() > 2 {
+            continue;
+        }
         for same_lines in [true, false] {
             let a = faulty_cascade(random, faults(0), CASCADE_GATES);
             let mut b = faulty_cascade(random, faults(4), CASCADE_GATES);
             if same_lines {
                 b.lines = a.lines;
             }
+            check(random, a, b);
+        }
+    }
+    each_long_pair(random, check);
+}
+
+/// Hands over two cascades of which one has a gate too many, or both, on 64 lines and on 17.
+pub fn each_long_pair(
+    random: &mut Random,
+    check: &mut impl FnMut(&mut Random, Cascade, Cascade),
+) {
+    for [first, second] in [[64, 64], [64, 17], [17, 64]] {
+        for over in [[true, false], [false, true], [true, true]] {
+            let [a, b] = over.map(|over| if over { CASCADE_GATES + 1 } else { 2 });
+            let a = blocked_cascade(random, first, a);
+            let b = blocked_cascade(random, second, b);
             check(random, a, b);
         }
     }
@@ -529,6 +588,15 @@ pub fn each_faulty_marked_pair(
             let (a, b) = (a.clone(), b.clone());
             check(random, a.with_marks(marks[0]), b.with_marks(marks[1]));
         }
+    });
+    // other marks, and all lines junk
+    each_long_pair(random, &mut |random, a, b| {
+        let junk = [a.lines, b.lines].map(|lines| Marks {
+            junk: all_lines(lines),
+            ..Marks::default()
+        });
+        check(random, a.clone(), b.clone().with_marks(junk[1]));
+        check(random, a.with_marks(junk[0]), b.with_marks(junk[1]));
     });
 }
 
@@ -638,6 +706,15 @@ pub fn longest(random: &mut Random) -> Vec<u64> {
         .collect()
 }
 
+/// Two cascades on as many lines, two or more, each of as many gates as the limit, of which one differs.
+pub fn longest_pair(random: &mut Random, lines: u64) -> (Cascade, Cascade) {
+    let a = blocked_cascade(random, lines, CASCADE_GATES);
+    let mut b = a.clone();
+    let at = 3 * random.index(CASCADE_GATES);
+    b.words[at..at + 3].copy_from_slice(&[0, 0, random.below(lines)]);
+    (a, b)
+}
+
 /// Hands over pairs whose clauses are asked for: with each choice of faults and of bad marks, with each
 /// kind of mark, with each number of controls, and with as many gates as two cascades may have.
 pub fn each_pair_for_clauses(
@@ -664,7 +741,7 @@ pub fn each_pair_for_clauses(
         values: random.word(),
         junk: 0,
     };
-    for marks in [Marks::default(), all, some_marks(random)] {
+    for marks in [Marks::default(), all] {
         let side = |words: &[u64]| from_zero(64, words.to_vec()).with_marks(marks);
         check(random, side(first), side(second));
     }
@@ -726,38 +803,47 @@ fn each_target(check: &mut impl FnMut(Cascade)) {
     }
 }
 
-/// Gate counts around the limit with good and bad n, left-over words and bad gates.
+/// Few gates and a long cascade with good and bad n, left-over words and bad gates; and gate counts around the
+/// limit with each of these.
 fn each_long_cascade(random: &mut Random, limit: usize, check: &mut impl FnMut(Cascade)) {
-    for gates in [0, 1, 2, limit - 1, limit, limit + 1, 2 * limit] {
+    let mut each = |random: &mut Random, gates, lines: u64, left_over: usize, places: &[[usize; 2]]| {
+        let gates_on = if (1..=64).contains(&lines) { lines } else { 8 };
+        let draw = if gates > LONG { blocked_cascade } else { good_cascade };
+        let mut good = draw(random, gates_on, gates);
+        good.lines = lines;
+        good.words.extend(&[0, 0][..left_over]);
+        each_bad_place(&good, places, &mut *check);
+    };
+    for gates in [0, 1, 2, 100] {
         for lines in [0, 1, 8, 63, 64, 65, u64::MAX] {
-            let gates_on = if (1..=64).contains(&lines) { lines } else { 8 };
-            let good = good_cascade(random, gates_on, gates);
             for left_over in 0..3 {
-                each_bad_place(&good, |mut cascade| {
-                    cascade.lines = lines;
-                    cascade.words.extend(&[0, 0][..left_over]);
-                    check(cascade);
-                });
+                each(random, gates, lines, left_over, &bad_places(gates));
             }
+        }
+    }
+    for gates in [limit - 1, limit, limit + 1, 2 * limit] {
+        each(random, gates, 2, 0, &bad_places(gates));
+        each(random, gates, 64, 0, &bad_places(gates));
+        for (lines, left_over) in [(0, 0), (0, 1), (65, 0), (u64::MAX, 0), (8, 1), (63, 2)] {
+            each(random, gates, lines, left_over, &[[gates - 1; 2]]);
         }
     }
 }
 
-/// The cascade itself, then with a bad gate first, in the middle, last, and both first and last.
-fn each_bad_place(good: &Cascade, mut check: impl FnMut(Cascade)) {
-    let gates = good.words.len() / 3;
-    check(good.clone());
-    if gates == 0 {
-        return;
+/// First, in the middle, last, and both first and last.
+fn bad_places(gates: usize) -> Vec<[usize; 2]> {
+    match gates {
+        0 => vec![],
+        _ => vec![[0, 0], [gates / 2, gates / 2], [gates - 1, gates - 1], [0, gates - 1]],
     }
-    for places in [
-        [0, 0],
-        [gates / 2, gates / 2],
-        [gates - 1, gates - 1],
-        [0, gates - 1],
-    ] {
+}
+
+/// The cascade itself, then with bad gates at each two of the places.
+fn each_bad_place(good: &Cascade, places: &[[usize; 2]], check: &mut impl FnMut(Cascade)) {
+    check(good.clone());
+    for two in places {
         let mut cascade = good.clone();
-        for place in places {
+        for place in two {
             cascade.words[3 * place + 2] = 64;
         }
         check(cascade);
@@ -766,8 +852,11 @@ fn each_bad_place(good: &Cascade, mut check: impl FnMut(Cascade)) {
 
 // ---- buffers
 
-/// The lengths around what an answer needs.
+/// The lengths around what an answer needs; fewer where that is long.
 pub fn edge_lengths(needed: usize) -> Vec<usize> {
+    if needed > 3 * LONG {
+        return vec![needed, 0, needed - 1];
+    }
     let mut lengths = vec![needed, needed + 1, needed + 3];
     if needed > 0 {
         lengths.extend([0, needed - 1]);

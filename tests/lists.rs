@@ -36,7 +36,7 @@ pub struct List {
 /// The clause list of a cascade's words.
 pub fn emit(lines: u64, words: &[u64]) -> List {
     let sizes = unsafe { capi::cascade_sizes(lines, words.as_ptr(), words.len()) };
-    read(sizes, |out: &mut [i16]| {
+    read(sizes, |out: &mut [i32]| {
         let (start, room) = (out.as_mut_ptr(), out.len());
         unsafe { capi::cascade_emit(lines, words.as_ptr(), words.len(), start, room) }
     })
@@ -48,7 +48,7 @@ pub fn pair(header: Header, a: &[u64], b: &[u64]) -> List {
     let sizes = unsafe {
         capi::cascade_pair_sizes(header, first, a.len(), header, second, b.len())
     };
-    read(sizes, |out: &mut [i16]| {
+    read(sizes, |out: &mut [i32]| {
         let (start, room) = (out.as_mut_ptr(), out.len());
         unsafe {
             capi::cascade_pair_emit(header, first, a.len(), header, second, b.len(), start, room)
@@ -57,9 +57,9 @@ pub fn pair(header: Header, a: &[u64], b: &[u64]) -> List {
 }
 
 /// The list of those sizes that is emitted, read strictly.
-fn read(sizes: SizesAnswer, emit: impl FnOnce(&mut [i16]) -> SizesAnswer) -> List {
+fn read(sizes: SizesAnswer, emit: impl FnOnce(&mut [i32]) -> SizesAnswer) -> List {
     assert_eq!(sizes.number, 0, "sizes are refused");
-    let mut out = vec![0i16; sizes.words as usize];
+    let mut out = vec![0i32; sizes.words as usize];
     let answer = emit(&mut out);
     assert_eq!(answer, sizes, "the emission's totals are not the sizes");
     let mut clauses = Vec::new();

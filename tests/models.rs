@@ -1,7 +1,8 @@
 //! The satisfying assignments of emitted clauses on small cascades, against simulation: pairs, also
 //! after lists of steps and reductions on their miter; and pairs with constants and junk lines, also
 //! after such lists on each of the two alone. Every assignment is tried, and CryptoMiniSat is asked as
-//! well where it is there. The spelled inputs are compared, and not just counted.
+//! well where it is there. The spelled inputs are compared, and not just counted. Long pairs are judged by the
+//! solver alone.
 
 #[allow(dead_code)]
 mod capi;
@@ -22,6 +23,10 @@ const SOLVED: usize = 400;
 /// The same of pairs with marks.
 const MARKED_PAIRS: usize = 6_000;
 const MARKED_SOLVED: usize = 400;
+/// The gates of each of two long cascades, at least.
+const LONG: usize = 3_000;
+/// Long pairs of each kind.
+const LONG_PAIRS: usize = 3;
 /// Lists with more variables are not tried by every assignment.
 const MOST_VARIABLES: u64 = 18;
 /// Pairs, equal ones and others, of which at least so many are tried after a step that only T-01's rule
@@ -366,6 +371,80 @@ fn check_empty(lines: u64, text: &str, seen: &mut Seen) {
     see(seen, SOLVED_EMPTY);
 }
 
+// ---- long cascades
+
+/// A gate on 64 lines that works inside one of 16 groups of four lines, with up to three controls.
+fn grouped_gate(random: &mut Random) -> Gate {
+    let group = 4 * random.below(16);
+    let [positive, negative, target] = random_gate(random, 4);
+    [positive << group, negative << group, target + group]
+}
+
+/// The lines of a gate.
+fn lines_of(&[positive, negative, target]: &Gate) -> u64 {
+    positive | negative | 1 << target
+}
+
+/// A cascade of grouped gates, and one that is equal: gates of different groups exchanged, and gates put in
+/// twice.
+fn long_pair(random: &mut Random) -> (Vec<Gate>, Vec<Gate>) {
+    let a: Vec<Gate> = (0..LONG).map(|_| grouped_gate(random)).collect();
+    let mut b = a.clone();
+    for _ in 0..LONG {
+        let at = random.index(b.len() - 1);
+        if lines_of(&b[at]) & lines_of(&b[at + 1]) == 0 {
+            b.swap(at, at + 1);
+        }
+    }
+    for _ in 0..LONG / 10 {
+        let at = random.index(b.len());
+        let gate = grouped_gate(random);
+        b.splice(at..at, [gate, gate]);
+    }
+    (a, b)
+}
+
+/// Long pairs, and the same with one gate changed: without marks by the list of their miter as it is made, with
+/// marks by that of the two. A model of each pair that differs spells an input on which it does.
+fn check_long(random: &mut Random) {
+    let (mut equal, mut differ) = (0, 0);
+    let marked = Header { lines: 64, constants: 1 << 9 | 1 << 30, values: 1 << 30, junk: 1 << 40 | 1 << 9 };
+    for round in 0..2 * LONG_PAIRS {
+        let header = if round % 2 == 0 { unmarked(64) } else { marked };
+        let (a, mut b) = long_pair(random);
+        let model = |b: &[Gate]| {
+            let list = match round % 2 {
+                0 => emit(64, &miter(64, &a, b)),
+                _ => lists::pair(header, &a.concat(), &b.concat()),
+            };
+            solver::model(64, dimacs(&list).as_bytes())
+        };
+        assert_eq!(model(&b), None, "an equal pair of long cascades has a model");
+        equal += 1;
+        // another target of the same group
+        let at = random.index(b.len());
+        let [positive, negative, target] = b[at];
+        let other = 4 * (target / 4) + (target + 1) % 4;
+        b[at] = [positive & !(1 << other), negative & !(1 << other), other];
+        let differs = |input: u64| (simulate(&a, input) ^ simulate(&b, input)) & !header.junk != 0;
+        match model(&b) {
+            Some(input) => {
+                assert_eq!((input ^ header.values) & header.constants, 0, "a model breaks a constant");
+                assert!(differs(input), "a model spells an input on which the two agree");
+                differ += 1;
+            }
+            // the changed gate may bear on the junk lines alone
+            None => {
+                assert_eq!(round % 2, 1, "a pair that differs has no model");
+                let permitted = |word: u64| word & !header.constants | header.values;
+                assert!((0..1_000).all(|_| !differs(permitted(random.word()))), "a pair that differs has no model");
+            }
+        }
+    }
+    assert!(differ > LONG_PAIRS, "no long pair with marks and a gate changed had a model");
+    println!("models: {equal} equal pairs of {LONG} gates and more, {differ} that differ, by the solver");
+}
+
 fn main() {
     let with_solver = solver::is_there();
     let seed = match std::env::args().nth(1) {
@@ -377,6 +456,9 @@ fn main() {
     example_five();
     check_pairs(&mut random, with_solver, &mut seen);
     check_marked_pairs(&mut random, with_solver, &mut seen);
+    if with_solver {
+        check_long(&mut random);
+    }
     for (what, count) in &seen {
         println!("{count:>9}  {what}");
     }

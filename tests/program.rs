@@ -13,10 +13,11 @@ mod inputs;
 mod random;
 #[allow(dead_code)]
 mod reference;
+#[allow(dead_code)]
 mod solver;
 
 use random::Random;
-use reference::{Clause, ClauseList, Header};
+use reference::{Clause, ClauseList, FileCascade, Header};
 use std::collections::BTreeMap;
 use std::io::Write;
 use std::process::{Command, Output, Stdio};
@@ -24,6 +25,7 @@ use std::time::Duration;
 
 const SEED: u64 = 20_240_601;
 const MOST_BYTES: usize = 65_536;
+const MOST_GATES: usize = 1_024;
 const MOST_WORDS: u64 = 16_384;
 /// Pairs that the solver gets.
 const SOLVED: usize = 200;
@@ -48,14 +50,24 @@ fn dimacs(list: &ClauseList) -> Vec<u8> {
     text.into_bytes()
 }
 
+/// The file at the start of a text: what is wrong with it up to its `end`, then 10 for more gates than a file may
+/// have.
+fn file(text: &[u8], file: u64) -> Result<FileCascade, (u64, u64, u64)> {
+    let read = reference::read_text(text).map_err(|why| (why.number, file, why.place))?;
+    if read.gates.len() > MOST_GATES {
+        return Err((10, file, 0));
+    }
+    Ok(read)
+}
+
 /// The header and the clause list of an input's two files; else the number, the file and the place.
 fn list(input: &[u8]) -> Result<(Header, ClauseList), (u64, u64, u64)> {
     if input.len() > MOST_BYTES {
         return Err((10, 0, 0));
     }
-    let first = reference::read_text(input).map_err(|why| (why.number, 1, why.place))?;
+    let first = file(input, 1)?;
     let rest = &input[first.taken..];
-    let second = reference::read_text(rest).map_err(|why| (why.number, 2, why.place))?;
+    let second = file(rest, 2)?;
     if second.taken < rest.len() {
         let lines = rest[..second.taken].iter().filter(|byte| **byte == b'\n').count();
         return Err((1, 2, lines as u64));
@@ -181,6 +193,61 @@ fn near_limit(marks: &str, without: usize, with_one: usize) -> Vec<u8> {
     text
 }
 
+/// A file of so many gates on two lines, each the NOT of line 0, and then the text after the last one.
+fn gates(number: usize, last: &[u8]) -> Vec<u8> {
+    [b"lines\t2\n", &b"g\t0\n".repeat(number)[..], last].concat()
+}
+
+/// Files of as many gates as they may have, and of more, beside all that may be wrong besides.
+fn check_gates(seen: &mut Seen) {
+    const END: &[u8] = b"end\n";
+    let (most, over) = (gates(MOST_GATES, END), gates(MOST_GATES + 1, END));
+    let none = gates(0, END);
+    for first in [&none, &most, &over] {
+        for second in [&none, &most, &over] {
+            for after in [&b""[..], b"\n", b"lines\t2\nend\n", b"x"] {
+                seen.check(&[first, second, after].concat());
+            }
+        }
+    }
+    // a second file that is wrong or is not there, with other lines or marks
+    for (_, text, _) in files::ROWS {
+        for first in [&most, &over] {
+            seen.check(&[first, *text].concat());
+            seen.check(&[*text, first].concat());
+        }
+    }
+    for other in [&b"lines\t3\nend\n"[..], b"lines\t2\njunk\t0\nend\n"] {
+        for file in [&most, &over] {
+            seen.check(&[file, other].concat());
+            seen.check(&[other, file].concat());
+        }
+    }
+    // what is wrong before `end`, after more gates than a file may have
+    for last in [&b""[..], b"en", b"end", b"ends\n", b"g\t2\nend\n", b"g\t0\t+0\nend\n", b"junk\t0\nend\n", b"\nend\n"] {
+        for number in [MOST_GATES, MOST_GATES + 1, 2 * MOST_GATES] {
+            let wrong = gates(number, last);
+            seen.check(&[&wrong, &none[..]].concat());
+            seen.check(&[&none[..], &wrong].concat());
+            seen.check(&[&over[..], &wrong].concat());
+            seen.check(&[&wrong, &over[..]].concat());
+        }
+    }
+    // as many as the bytes allow, and a list that is too long
+    let all = (MOST_BYTES - 2 * none.len()) / 4;
+    for number in [all - 1, all, all + 1] {
+        let long = gates(number, END);
+        seen.check(&[&long, &none[..]].concat());
+        seen.check(&[&none[..], &long].concat());
+    }
+    for number in [MOST_GATES, MOST_GATES + 1] {
+        let long = [b"lines\t4\n", &b"g\t0\t+1\t-2\t+3\n".repeat(number)[..], END].concat();
+        seen.check(&[&long, &b"lines\t4\nend\n"[..]].concat());
+        seen.check(&[b"lines\t4\nend\n", &long[..]].concat());
+        seen.check(&[&long[..], &long].concat());
+    }
+}
+
 /// An input of so many bytes: two good files, and a line after them.
 fn long_input(bytes: usize) -> Vec<u8> {
     let mut input = b"lines\t2\ng\t0\nend\nlines\t2\ng\t1\nend\n".to_vec();
@@ -224,6 +291,7 @@ fn check_all(random: &mut Random, seen: &mut Seen) {
     for bytes in [MOST_BYTES - 1, MOST_BYTES, MOST_BYTES + 1, MOST_BYTES + 2, 3 * MOST_BYTES] {
         seen.check(&long_input(bytes));
     }
+    check_gates(seen);
 }
 
 // ---- pieces and errors of reading
@@ -364,8 +432,9 @@ fn main() {
     }
     let mut wanted = ["served", "served, marked", "served, no line counts"].map(String::from).to_vec();
     wanted.extend([8, 10, 15].map(|number| format!("refused {number}, file 0")));
+    // 16,385 gate lines, and so 6, are more bytes than an input may have
     for file in 1..=2 {
-        wanted.extend([1, 2, 3, 4, 5, 6, 14].map(|number| format!("refused {number}, file {file}")));
+        wanted.extend([1, 2, 3, 4, 5, 10, 14].map(|number| format!("refused {number}, file {file}")));
     }
     for outcome in wanted {
         if !seen.outcomes.contains_key(&outcome) {

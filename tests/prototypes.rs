@@ -86,6 +86,7 @@ fn argument(words: &[String]) -> Vec<String> {
         "u64" => "uint64_t".to_string(),
         "u8" => "uint8_t".to_string(),
         "i16" => "int16_t".to_string(),
+        "i32" => "int32_t".to_string(),
         "Gate" => "struct cascade_gate".to_string(),
         "Header" => "struct cascade_header".to_string(),
         _ => panic!("{words:?}"),

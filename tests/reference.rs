@@ -1,13 +1,13 @@
-//! The rules of document 01, a second time, with the requests of document 02 that have landed (T-01, T-03).
+//! The rules of document 01, a second time, with the requests of document 02 that have landed (T-01, T-03, T-04).
 //! Every rule is spelled line by line and in the document's order, so that it can be held against the
 //! text. No code is shared with the crates, and speed is no aim. A call of 01 is a function here: it
 //! answers its values, or the refusal.
 
 /// The most gates of one cascade.
-pub const CASCADE_GATES: usize = 1024;
+pub const CASCADE_GATES: usize = 16_384;
 
 /// The most gates of a miter: for step, reduction, sizes and emission.
-pub const MITER_GATES: usize = 2048;
+pub const MITER_GATES: usize = 32_768;
 
 /// The masks of a gate of the suspect.
 pub const GATE_MASKS: usize = 2;
@@ -712,19 +712,19 @@ fn stored(clause: &Clause) -> Vec<i64> {
 }
 
 /// 10, or the stored clauses at the buffer's start.
-fn put_list(list: &ClauseList, out: &mut [i16]) -> Result<Sizes, Refusal> {
+fn put_list(list: &ClauseList, out: &mut [i32]) -> Result<Sizes, Refusal> {
     let answer: Vec<i64> = list.clauses.iter().flat_map(stored).collect();
     if short_buffer(out, answer.len()) {
         return refuse(10, 0);
     }
     for (word, value) in out.iter_mut().zip(answer) {
-        *word = i16::try_from(value).expect("every word of a list fits 16 bits");
+        *word = i32::try_from(value).expect("every word of a list fits 32 bits");
     }
     Ok(sizes_of(list))
 }
 
 /// The sizes; the stored clauses are at the buffer's start.
-pub fn emit(n: u64, words: &[u64], out: &mut [i16]) -> Result<Sizes, Refusal> {
+pub fn emit(n: u64, words: &[u64], out: &mut [i32]) -> Result<Sizes, Refusal> {
     let gates = test_cascade(n, words, MITER_GATES)?;
     put_list(&clause_list(n, &gates), out)
 }
@@ -735,10 +735,67 @@ pub fn pair_emit(
     a: &[u64],
     b_header: Header,
     b: &[u64],
-    out: &mut [i16],
+    out: &mut [i32],
 ) -> Result<Sizes, Refusal> {
     let (first, second) = test_headed_pair(a_header, a, b_header, b)?;
     put_list(&pair_list(a_header, &first, &second), out)
+}
+
+// ---- clause words of 16 and of 32 bits
+
+/// The number of words; they are at the buffer's start, each with the same value.
+pub fn widen(words: &[i16], out: &mut [i32]) -> Result<u64, Refusal> {
+    if short_buffer(out, words.len()) {
+        return refuse(10, 0);
+    }
+    for (place, word) in words.iter().enumerate() {
+        out[place] = i32::from(*word);
+    }
+    Ok(words.len() as u64)
+}
+
+/// 16: the place of the first word outside -32,768 to 32,767.
+pub fn first_wide_word(words: &[i32]) -> Option<u64> {
+    for (place, word) in words.iter().enumerate() {
+        if *word < -32_768 || *word > 32_767 {
+            return Some(place as u64);
+        }
+    }
+    None
+}
+
+/// 16, then 10; else the number of words, which are at the buffer's start, each with the same value.
+pub fn narrow(words: &[i32], out: &mut [i16]) -> Result<u64, Refusal> {
+    if let Some(place) = first_wide_word(words) {
+        return refuse(16, place);
+    }
+    if short_buffer(out, words.len()) {
+        return refuse(10, 0);
+    }
+    for (place, word) in words.iter().enumerate() {
+        out[place] = i16::try_from(*word).expect("every word fits 16 bits");
+    }
+    Ok(words.len() as u64)
+}
+
+/// The clauses that words of either width store, one after the other to the last word; none where the
+/// words are no such list.
+pub fn clauses_of<W: Copy + Into<i64>>(words: &[W]) -> Option<Vec<Clause>> {
+    let mut clauses = Vec::new();
+    let mut at = 0;
+    while at < words.len() {
+        let count: i64 = (*words.get(at + 1)?).into();
+        let end = at + 2 + usize::try_from(count).ok()?;
+        let literals = words.get(at + 2..end)?;
+        let literals = literals.iter().map(|literal| (*literal).into()).collect();
+        clauses.push(match words[at].into() {
+            0 => Clause::Or(literals),
+            1 => Clause::Xor(literals),
+            _ => return None,
+        });
+        at = end;
+    }
+    Some(clauses)
 }
 
 // ---- sweep

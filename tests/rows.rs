@@ -16,6 +16,7 @@ pub fn check() {
     pair_clauses();
     sizes();
     emission();
+    widths();
     miter();
     starred_steps();
     passing_steps();
@@ -286,6 +287,40 @@ fn emission() {
     let answer = emit(junk, &[0, 0, 1], junk, &[], &mut out);
     assert_eq!(answer.map(|sizes| sizes.words), Ok(6));
     assert_eq!(out, [1, 2, 4, 2, 0, 0, 9]);
+}
+
+/// Words of 16 bits and the same of 32; a refusal leaves all.
+fn widths() {
+    let narrow: [i16; 5] = [1, -1, 0, -32_768, 32_767];
+    let wide: [i32; 5] = [1, -1, 0, -32_768, 32_767];
+    let mut out = [9; 6];
+    assert_eq!(reference::widen(&narrow, &mut out), Ok(5));
+    assert_eq!(out, [1, -1, 0, -32_768, 32_767, 9]);
+    let mut out = [9; 4];
+    assert_eq!(reference::widen(&narrow, &mut out), refusal(10, 0));
+    assert_eq!(out, [9; 4]);
+    let mut out = [9; 6];
+    assert_eq!(reference::narrow(&wide, &mut out), Ok(5));
+    assert_eq!(out, [1, -1, 0, -32_768, 32_767, 9]);
+    let mut out = [9; 4];
+    assert_eq!(reference::narrow(&wide, &mut out), refusal(10, 0));
+    for bad in [-32_769, 32_768, i32::MIN, i32::MAX, 65_536] {
+        assert_eq!(reference::narrow(&[0, bad, bad], &mut out), refusal(16, 1));
+        assert_eq!(reference::narrow(&[0, 0, 0, 0, bad], &mut out), refusal(16, 4));
+        assert_eq!(reference::narrow(&[bad], &mut []), refusal(16, 0));
+    }
+    assert_eq!(out, [9; 4]);
+    assert_eq!(reference::widen(&[], &mut []), Ok(0));
+    assert_eq!(reference::narrow(&[], &mut []), Ok(0));
+    // OR (3, -40000), the OR of nothing, XOR (1); then a list that is cut, one of another kind, and a count below 0
+    let list = [Clause::Or(vec![3, -40_000]), or(&[]), xor(&[1])];
+    let words = [0, 2, 3, -40_000, 0, 0, 1, 1, 1];
+    assert_eq!(reference::clauses_of(&words), Some(list.to_vec()));
+    assert_eq!(reference::clauses_of(&words[..8]), None);
+    assert_eq!(reference::clauses_of(&words[..7]), None);
+    assert_eq!(reference::clauses_of(&[2, 0]), None);
+    assert_eq!(reference::clauses_of(&[0, -1]), None);
+    assert_eq!(reference::clauses_of::<i16>(&[]), Some(vec![]));
 }
 
 /// A's gates, then B's reversed; the rest stays.

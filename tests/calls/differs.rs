@@ -7,7 +7,7 @@ use crate::expected;
 use crate::harness::Counts;
 use crate::inputs::{self, Cascade};
 use crate::random::Random;
-use crate::reference::{self, Header};
+use crate::reference::{self, Header, CASCADE_GATES};
 
 const RANDOM_CASES: u64 = 60_000;
 
@@ -19,6 +19,7 @@ const CLASSES: &[&str] = &[
     "served: n = 64, state 2^64 - 1",
     "served: state 2^n - 1",
     "served: both empty",
+    "served: both have as many gates as the limit",
     "served: differ, with marks",
     "served: agree, a junk line differs",
     "9: state 2^n",
@@ -39,6 +40,11 @@ pub fn section(random: &mut Random) -> Counts {
         }
     });
     inputs::each_mark(&mut |a| check(Pair::new(a.clone(), a, true)));
+    for lines in [2, 64] {
+        let (a, b) = inputs::longest_pair(random, lines);
+        check(Pair::new(a.clone(), b, false));
+        check(Pair::new(a.clone(), a, false));
+    }
     for _ in 0..RANDOM_CASES {
         let (a, b) = inputs::marked_pair(random);
         let state = inputs::state(random, &a);
@@ -81,6 +87,10 @@ fn count(Pair { a, b, .. }: &Pair, answer: Result<bool, reference::Refusal>, cou
             counts.add_if(
                 a.words.is_empty() && b.words.is_empty(),
                 "served: both empty",
+            );
+            counts.add_if(
+                a.words.len() + b.words.len() == 6 * CASCADE_GATES,
+                "served: both have as many gates as the limit",
             );
         }
         Err(refusal) if refusal.number == 9 => {

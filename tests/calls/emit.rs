@@ -25,7 +25,7 @@ pub fn section(random: &mut Random) -> Counts {
     for controls in 0..64 {
         counts.require(&[&with_controls(controls)]);
     }
-    let mut check = |case: Single<i16>| check(&case, &mut counts);
+    let mut check = |case: Single<i32>| check(&case, &mut counts);
     let dangling = |random: &mut Random| random.one_in(2);
     let mut each_length = |random: &mut Random, lines, words| {
         let cascade = inputs::from_zero(lines, words);
@@ -61,13 +61,13 @@ fn needed(cascade: &Cascade) -> usize {
     }
 }
 
-fn call(lines: u64, words: &mut Buffer<u64>, out: &mut Buffer<i16>) -> SizesAnswer {
+pub fn call(lines: u64, words: &mut Buffer<u64>, out: &mut Buffer<i32>) -> SizesAnswer {
     let (words_len, out_len) = (words.len(), out.len());
     unsafe { capi::cascade_emit(lines, words.pointer(), words_len, out.pointer(), out_len) }
 }
 
 /// An empty buffer is shorter than every clause list, that of words which are no cascade included.
-fn check(case: &Single<i16>, counts: &mut Counts) {
+fn check(case: &Single<i32>, counts: &mut Counts) {
     let Cascade { lines, words, .. } = &case.cascade;
     let mut wanted = case.out.clone();
     let answer = expected::sizes_answer(reference::emit(*lines, words, &mut wanted));

@@ -8,7 +8,7 @@ use crate::expected;
 use crate::harness::{compare, Counts};
 use crate::inputs::{self, Cascade, Marks, Missing};
 use crate::random::Random;
-use crate::reference::{self, has, Gate, Header, GATE_MASKS};
+use crate::reference::{self, has, Gate, Header, CASCADE_GATES, GATE_MASKS};
 
 const RANDOM_CASES: u64 = 40_000;
 const LONG_LISTS: u64 = 40;
@@ -18,7 +18,7 @@ const CLASSES: &[&str] = &[
     "served: no states, a line stands in both masks",
     "served: one state",
     "served: 1,000 states or more",
-    "served: 1,024 gates",
+    "served: as many gates as the limit",
     "served: no gates",
     "served: n = 1",
     "served: n = 64",
@@ -59,7 +59,16 @@ pub fn section(random: &mut Random) -> Counts {
             each_length(random, (&a, &b), &states, None, &mut counts);
         }
     });
-    for (lines, gates, states) in [(64, 1024, 1), (64, 1024, 3), (1, 0, 0), (64, 0, 0)] {
+    inputs::each_long_pair(random, &mut |random, a, b| {
+        let given = Pair {
+            states: vec![0],
+            ..Pair::new(a, b, random.one_in(2))
+        };
+        let missing = None;
+        check(&Case { given, missing }, &mut counts);
+    });
+    let most = CASCADE_GATES;
+    for (lines, gates, states) in [(64, most, 0), (64, most, 1), (64, most, 3), (1, 0, 0), (64, 0, 0)] {
         for marked in [false, true] {
             let right = inputs::good_cascade(random, lines, gates);
             with_missing(random, right, states, marked, &mut counts);
@@ -289,7 +298,8 @@ fn count_served(Pair { a, states, .. }: &Pair, masks: &[u64], counts: &mut Count
     counts.add_if(states.len() >= 1_000, "served: 1,000 states or more");
     let twice = states.len() > 1 && states[1..].contains(&states[0]);
     counts.add_if(twice, "served: a state twice");
-    counts.add_if(masks.len() == 2048, "served: 1,024 gates");
+    let most = masks.len() == GATE_MASKS * CASCADE_GATES;
+    counts.add_if(most, "served: as many gates as the limit");
     counts.add_if(masks.is_empty(), "served: no gates");
     counts.add_if(n == 1, "served: n = 1");
     counts.add_if(n == 64, "served: n = 64");

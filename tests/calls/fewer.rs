@@ -7,7 +7,7 @@ use crate::expected;
 use crate::harness::Counts;
 use crate::inputs;
 use crate::random::Random;
-use crate::reference;
+use crate::reference::{self, CASCADE_GATES};
 
 const RANDOM_CASES: u64 = 60_000;
 
@@ -21,7 +21,7 @@ const CLASSES: &[&str] = &[
     "served: both empty",
     "served: only the first empty",
     "served: only the second empty",
-    "served: both have 1,024",
+    "served: both have as many as the limit",
     "served: n = 64",
 ];
 
@@ -30,8 +30,9 @@ pub fn section(random: &mut Random) -> Counts {
     let mut counts = classes::pair_counts(name, given, &[], &["a", "b"], CLASSES);
     let mut check = |a, b, dangling| check(&Pair::new(a, b, dangling), &mut counts);
     inputs::each_faulty_pair(random, &mut |random, a, b| check(a, b, random.one_in(2)));
-    for first in [0, 1, 2, 1023, 1024] {
-        for second in [0, 1, 2, 1023, 1024] {
+    let numbers = [0, 1, 2, CASCADE_GATES - 1, CASCADE_GATES];
+    for first in numbers {
+        for second in numbers {
             for dangling in [false, true] {
                 let a = inputs::good_cascade(random, 64, first);
                 let b = inputs::good_cascade(random, 64, second);
@@ -74,6 +75,7 @@ fn count(Pair { a, b, .. }: &Pair, counts: &mut Counts) {
     counts.add_if(first + second == 0, "served: both empty");
     counts.add_if(first == 0 && second > 0, "served: only the first empty");
     counts.add_if(second == 0 && first > 0, "served: only the second empty");
-    counts.add_if(first + second == 2048, "served: both have 1,024");
+    let most = first + second == 2 * CASCADE_GATES;
+    counts.add_if(most, "served: both have as many as the limit");
     counts.add_if(a.lines == 64, "served: n = 64");
 }

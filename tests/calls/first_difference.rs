@@ -7,7 +7,7 @@ use crate::expected;
 use crate::harness::Counts;
 use crate::inputs::{self, Cascade};
 use crate::random::Random;
-use crate::reference::{self, Header, SWEEP_LINES};
+use crate::reference::{self, Header, CASCADE_GATES, SWEEP_LINES};
 
 const RANDOM_CASES: u64 = 30_000;
 
@@ -21,6 +21,7 @@ const CLASSES: &[&str] = &[
     "served: n = 1",
     "served: n = 16, state 2^16 - 2",
     "served: both empty",
+    "served: both have as many gates as the limit",
     "served: none, a state that breaks a constant differs",
     "served: none, a junk line differs",
     "served: found, a lower state that breaks a constant differs",
@@ -43,6 +44,9 @@ pub fn section(random: &mut Random) -> Counts {
             check(Pair::new(a.clone(), late(&a), true));
         }
     }
+    let (a, b) = inputs::longest_pair(random, 2);
+    check(Pair::new(a.clone(), b, false));
+    check(Pair::new(a.clone(), a, false));
     for _ in 0..RANDOM_CASES {
         let (a, mut b) = inputs::marked_pair(random);
         if random.one_in(8) && (1..=64).contains(&a.lines) {
@@ -157,6 +161,10 @@ fn count(
         counts.add_if(
             a.words.is_empty() && b.words.is_empty(),
             "served: both empty",
+        );
+        counts.add_if(
+            a.words.len() + b.words.len() == 6 * CASCADE_GATES,
+            "served: both have as many gates as the limit",
         );
     }
 }

@@ -8,12 +8,12 @@ use crate::expected;
 use crate::harness::{compare, Buffer, Counts};
 use crate::inputs::{self, Cascade};
 use crate::random::Random;
-use crate::reference::{self, CASCADE_GATES};
+use crate::reference::{self, CASCADE_GATES, MITER_GATES};
 
 const RANDOM_CASES: u64 = 100_000;
 
 const CLASSES: &[&str] = &[
-    "served: 2,048 gates",
+    "served: as many gates as the limit",
     "served: both empty",
     "served: the first empty",
     "served: the second empty",
@@ -30,7 +30,8 @@ pub fn section(random: &mut Random) -> Counts {
     inputs::each_faulty_pair(random, &mut |random, a, b| {
         cases::each_pair_length(random, &a, &b, needed(&a, &b), &mut check);
     });
-    for (first, second) in [(1024, 1024), (1024, 0), (0, 1024), (0, 0), (1, 1023)] {
+    let most = CASCADE_GATES;
+    for (first, second) in [(most, most), (most, 0), (0, most), (0, 0), (1, most - 1)] {
         let a = inputs::good_cascade(random, 64, first);
         let b = inputs::good_cascade(random, 64, second);
         cases::each_pair_length(random, &a, &b, needed(&a, &b), &mut check);
@@ -85,7 +86,7 @@ fn count(case: &Pair, number: u64, counts: &mut Counts) {
     classes::count_out(counts, out, case.dangling, needed, number);
     if number == 0 {
         let reversed: Vec<_> = reference::gates_of(&b.words).into_iter().rev().collect();
-        counts.add_if(needed == 6144, "served: 2,048 gates");
+        counts.add_if(needed == 3 * MITER_GATES, "served: as many gates as the limit");
         counts.add_if(needed == 0, "served: both empty");
         counts.add_if(a.words.is_empty() && needed > 0, "served: the first empty");
         counts.add_if(b.words.is_empty() && needed > 0, "served: the second empty");

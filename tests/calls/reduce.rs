@@ -6,7 +6,7 @@ use crate::cases::{self, Single};
 use crate::classes::{self, Given};
 use crate::expected;
 use crate::harness::{compare, Buffer, Counts};
-use crate::inputs::{self, Cascade};
+use crate::inputs::{self, Cascade, LONG};
 use crate::random::Random;
 use crate::reference::{self, MITER_GATES};
 
@@ -21,6 +21,7 @@ const CLASSES: &[&str] = &[
     "reduced: a chain of three steps or more",
     "reduced: with a step that only T-01's rule allows",
     "reduced: 2,048 gates to none",
+    "reduced: as many gates as the limit, the first two and the last two gone",
     "the same with another n",
 ];
 
@@ -30,11 +31,12 @@ pub fn section(random: &mut Random) -> Counts {
     let mut check = |case: Single| check(&case, &mut counts);
     cases::each_edge(random, MITER_GATES, &mut check);
     for lines in [1, 4, 16, 64] {
-        let mut mirrored = inputs::good_cascade(random, lines, MITER_GATES / 2);
+        let mut mirrored = inputs::good_cascade(random, lines, LONG / 2);
         let back: Vec<u64> = mirrored.words.rchunks(3).flatten().copied().collect();
         mirrored.words.extend(back);
         check(Single::new(mirrored, false));
     }
+    check(Single::new(inputs::few_matches(random, [true, true]), false));
     cases::each_drawn(random, RANDOM_CASES, inputs::any_or_matching, &mut check);
     counts
 }
@@ -119,7 +121,11 @@ fn count(case: &Cascade, answer: ReduceAnswer, counts: &mut Counts) {
         "reduced: a chain of three steps or more",
     );
     counts.add_if(
-        gates == 0 && case.words.len() == 3 * MITER_GATES,
+        gates == 0 && case.words.len() == 3 * LONG,
         "reduced: 2,048 gates to none",
+    );
+    counts.add_if(
+        pairs == 2 && merges == 0 && case.words.len() == 3 * MITER_GATES,
+        "reduced: as many gates as the limit, the first two and the last two gone",
     );
 }

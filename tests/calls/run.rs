@@ -24,8 +24,8 @@ const CLASSES: &[&str] = &[
     "records: 6",
     "records: 7",
     "records: 9",
-    "records: 1,024 gates served",
-    "records: 1,025 gates",
+    "records: as many gates as the limit served",
+    "records: one gate over the limit",
 ];
 
 pub fn section(random: &mut Random) -> Counts {
@@ -89,8 +89,10 @@ fn check_records(case: &Cascade, dangling: bool, counts: &mut Counts) {
         number => counts.add(&format!("records: {number}")),
     }
     let served = reference.number == 0;
-    counts.add_if(served && gates.len() == 1024, "records: 1,024 gates served");
-    counts.add_if(gates.len() == 1025, "records: 1,025 gates");
+    let most = served && gates.len() == CASCADE_GATES;
+    counts.add_if(most, "records: as many gates as the limit served");
+    let over = gates.len() == CASCADE_GATES + 1;
+    counts.add_if(over, "records: one gate over the limit");
 }
 
 fn record(gate: &reference::Gate) -> Gate {

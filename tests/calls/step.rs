@@ -34,6 +34,9 @@ const CLASSES: &[&str] = &[
     "none: no gates",
     "none: one gate",
     "the same with another n",
+    "as many gates as the limit: the first two match",
+    "as many gates as the limit: only the last two match",
+    "as many gates as the limit: none match",
 ];
 
 pub fn section(random: &mut Random) -> Counts {
@@ -41,6 +44,9 @@ pub fn section(random: &mut Random) -> Counts {
     let mut check = |case: Single| check(&case, &mut counts);
     cases::each_edge(random, MITER_GATES, &mut check);
     each_two_gates(&mut check);
+    for twice in [[true, false], [false, true], [false, false]] {
+        check(Single::new(inputs::few_matches(random, twice), false));
+    }
     cases::each_drawn(random, RANDOM_CASES, inputs::any_or_matching, &mut check);
     for lines in [3, 4] {
         check_orders(lines, &mut counts);
@@ -134,6 +140,8 @@ fn count(gates: &[Gate], answer: StepAnswer, counts: &mut Counts) {
     if answer.found == 0 {
         counts.add_if(gates.is_empty(), "none: no gates");
         counts.add_if(gates.len() == 1, "none: one gate");
+        let most = gates.len() == MITER_GATES;
+        counts.add_if(most, "as many gates as the limit: none match");
         if gates.len() == 2 {
             counts.add_if(
                 gates[0].target == gates[1].target,
@@ -167,6 +175,12 @@ fn count_found(gates: &[Gate], answer: StepAnswer, counts: &mut Counts) {
     counts.add_if(j > i + 1, "found: gates passed");
     counts.add_if(i > 0, "found: not from the first gate");
     counts.add_if(j + 1 < gates.len(), "found: gates after it move");
+    if gates.len() == MITER_GATES {
+        let first = "as many gates as the limit: the first two match";
+        counts.add_if((i, j) == (0, 1), first);
+        let last = "as many gates as the limit: only the last two match";
+        counts.add_if((i, j) == (MITER_GATES - 2, MITER_GATES - 1), last);
+    }
 }
 
 /// Whether 01's own rule forbids the step that was found: gate i passes one that it may pass only by

@@ -1,24 +1,48 @@
-//! cascade_write, and reading back what it wrote.
+//! cascade_write, and reading back what it wrote; the longest texts among it.
 
 use crate::capi;
 use crate::cases::{self, Single};
 use crate::classes::{self, Given};
 use crate::expected;
 use crate::harness::{compare, compare_buffer, Buffer, Counts};
-use crate::inputs::{self, Cascade};
+use crate::inputs::{self, Cascade, Marks};
 use crate::random::Random;
 use crate::reference::{self, CASCADE_GATES};
 
 const RANDOM_CASES: u64 = 100_000;
 
+const CLASSES: &[&str] = &[
+    "served: the longest text",
+    "served: the longest text without marks",
+];
+
 pub fn section(random: &mut Random) -> Counts {
     let buffers = &["words", "out"];
-    let mut counts = classes::single_counts("cascade_write", Given::Header, &[10], buffers, &[]);
+    let (name, given) = ("cascade_write", Given::Header);
+    let mut counts = classes::single_counts(name, given, &[10], buffers, CLASSES);
     let mut check = |case: Single<u8>| check(&case, &mut counts);
     inputs::each_mark(&mut |cascade| {
         let needed = needed(&cascade);
         cases::each_length(random, &cascade, needed, |_| true, &mut check);
     });
+    // bad marks and a gate too many
+    let marks = Marks {
+        junk: 1 << 8,
+        ..Marks::default()
+    };
+    let long = inputs::blocked_cascade(random, 8, CASCADE_GATES + 1).with_marks(marks);
+    cases::each_length(random, &long, needed(&long), |_| true, &mut check);
+    let all = Marks {
+        constants: u64::MAX,
+        values: random.word(),
+        junk: u64::MAX,
+    };
+    for marks in [Marks::default(), all] {
+        let mut words = inputs::longest(random);
+        words.truncate(3 * CASCADE_GATES);
+        let longest = inputs::from_zero(64, words).with_marks(marks);
+        cases::each_length(random, &longest, needed(&longest), |_| true, &mut check);
+    }
     cases::each_with_out(
         random,
         CASCADE_GATES,
@@ -57,6 +81,14 @@ fn check(case: &Single<u8>, counts: &mut Counts) {
     let (given, number) = (Given::Header, answer.number);
     classes::count_single(counts, case, given, CASCADE_GATES, &further, number);
     classes::count_out(counts, &case.out, case.dangling, text, answer.number);
+    if number == 0 {
+        // lines: 9 bytes; a constant 9 and a junk line 6, both with the digits of the line; a gate with 63 controls
+        // 129 and the digits of all 64 lines, which are 118; end: 4
+        let gates = 9 + CASCADE_GATES * (129 + 118) + 4;
+        let marks = 64 * (9 + 6) + 2 * 118;
+        counts.add_if(text == gates, "served: the longest text without marks");
+        counts.add_if(text == gates + marks, "served: the longest text");
+    }
 }
 
 /// The library reads the text back, and takes all that was written.

@@ -28,10 +28,10 @@ pub record ClauseLaws : Type 0 where
   pub read_back : (cs : List Clause) (rest : List ℤ) → clauses_in (take (length (stored cs)) (stored cs ++ rest)) ≡ clauses_read cs
   pub read_stored : (ws : List ℤ) (cs : List Clause) → clauses_in ws ≡ clauses_read cs → ws ≡ stored cs
   pub read_bad : (ws : List ℤ) (i : ℕ) → clauses_in ws ≡ bad_record i → BadAt ws i
-  -- each variable is an input, a gate's w, a p or a d; there are two at most for each line and each gate; by the limits no list of a miter has more variables than a word holds numbers, and no clause more literals; so every number of a list fits a word
+  -- each variable is an input, a gate's w, a p or a d; there are two at most for each line and each gate; by the limits a word holds the number of each, and every number of a list fits a word
   pub variables_counted : (n : ℕ) (gs : List Gate) → variables_of n gs ≡ n + (length gs + count_p gs) + n
   pub variables_few : (n : ℕ) (gs : List Gate) → variables_of n gs ≤ 2 * n + 2 * length gs
-  pub limits_fit : (max_variables < word_limit) × (max_lines + 3 < word_limit)
+  pub limits_fit : max_variables < word_limit
   pub words_fit : (n : ℕ) (gs : List Gate) → n ≤ max_lines → length gs ≤ max_miter_gates → all_valid n gs ≡ true → AllFit (stored (clauses_of n gs))
   -- the sums gate by gate are the variables, clauses and words of the list
   pub sizes_list : (n : ℕ) (gs : List Gate) → n ≤ max_lines → all_valid n gs ≡ true

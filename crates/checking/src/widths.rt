@@ -1,6 +1,6 @@
 // A clause list in words of 16 bits made one in clause words, and back.
 
-ghost use Rattle.std.specs.Prelude.{◌≡◌, not, ◌≤◌, length, position};
+ghost use Rattle.std.specs.Prelude.{◌≡◌, true, not, ◌≤◌, length, position};
 ghost use Rattle.bits.specs.Lists.{over};
 ghost use Rattle.circuit.specs.Outcome.{outcome_of, Yields};
 ghost use Rattle.circuit.specs.Refusal.{word_too_wide};
@@ -30,6 +30,17 @@ fn is_narrow(word: ClauseWord) -> bool
     NarrowWord::MIN as ClauseWord <= word && word <= NarrowWord::MAX as ClauseWord
 }
 
+// Whether 16 bits hold every word. The loop goes to the end, so that the compiler tests several words at once.
+fn all_narrow(words: &[ClauseWord]) -> bool
+    ensures { result ≡ true → Every Narrow words.now }
+{
+    let mut all = true;
+    for i in 0..words.len() {
+        all &= is_narrow(words[i]);
+    }
+    all
+}
+
 // The first word that 16 bits do not hold.
 fn first_wide(words: &[ClauseWord]) -> Option<usize>
     ensures { result ≡ position (λ w. not (is_narrow w)) words.now }
@@ -41,6 +52,9 @@ fn first_wide(words: &[ClauseWord]) -> Option<usize>
 fn check_narrow(words: &[ClauseWord]) -> Result<usize, Refusal>
     ensures { outcome_of result ≡ each_from is_narrow word_too_wide 0 words.now }
 {
+    if all_narrow(words) {
+        return Ok(words.len());
+    }
     match first_wide(words) {
         Some(i) => Err(Refusal::WordTooWide(i as u64)),
         None => Ok(words.len()),

@@ -31,7 +31,7 @@ fn answer(
     text::compare(first, second, out, a, b, miter, clauses).unwrap()
 }
 
-// A room for a file, and one for the text. Of their own, as the prover cannot look through arrays of these sizes in the function that uses them.
+// Rooms for a file and for the text. Of their own, as the prover cannot look through arrays of these sizes in the function that uses them.
 fn file_room() -> [u8; FILE] {
     [0u8; FILE]
 }

@@ -19,7 +19,7 @@ use Rattle.text.specs.FileOutcome.{FileOutcome, answered, of_both, of_that, of_f
 use Rattle.text.specs.Plain.{plain_clauses}
 use Rattle.text.specs.WholeFile.{whole_file}
 
--- a file has 524,288 bytes at most and its cascade 8,192 gates, and a clause list 262,144 words
+-- a file has 524,288 bytes at most and its cascade 8,192 gates, and a clause list 300,000 words
 abbrev pub max_file : ℕ
 max_file = 524288
 
@@ -27,7 +27,7 @@ abbrev pub max_file_gates : ℕ
 max_file_gates = 8192
 
 abbrev pub max_list : ℕ
-max_list = 262144
+max_list = 300000
 
 -- the words that a file's cascade and a miter have at most
 abbrev pub file_words : ℕ
@@ -89,7 +89,7 @@ alone gs = (reduce_gates gs).left
 unfoldable pub left_formula : Header → List Gate → List Gate → Formula
 left_formula h a b = cond (marked h) (pair_formula h (alone a) (alone b)) (formula_of h.lines (gates_left a b))
 
--- a clause list of more than 262,144 words: 10
+-- a clause list of more than 300,000 words: 10
 unfoldable pub list_as : Formula → FileOutcome Comparison
 list_as f = of_both (nat_le (length (stored f.clauses)) max_list) no_room (answered (unsolved f))
 

@@ -28,7 +28,7 @@ use Rattle.text.specs.TwoFiles.{TwoFiles, FilesRefused}
 pub data MayWrite (first second text : List ℕ) : Type 0 where
   -- a refusal: what is wrong with the files first
   refuses : (number file place : ℕ) → text ≡ refusal_text number file place → FilesRefused first second number file place → MayWrite first second text
-  -- and of two good ones, 10 for more than 16 lines, gates that the reduction of the miter leaves, and a clause list for a solver of more than 262,144 words
+  -- and of two good ones, 10 for more than 16 lines, gates that the reduction of the miter leaves, and a clause list for a solver of more than 300,000 words
   overflows : (h : Header) (a b : List Gate) → TwoFiles first second h a b → text ≡ refusal_text no_room 0 0 → (gates_left a b ≡ [] → ⊥) → max_sweep_lines < h.lines
       → max_list < length (stored (left_formula h a b).clauses) → MayWrite first second text
   -- equal cascades, of whose miter the full reduction leaves no gate
@@ -88,7 +88,7 @@ pub record CompareLaws : Type 0 where
   -- the call writes the text exactly where the rooms and the buffer are long enough
   pub call : (first second : List ℕ) (lent : Rooms) (out : List ℕ) → WritesWhere (RoomsFit lent × (length (compare_text first second) ≤ length out))
       (compare_outcome first second lent (length out)) (compare_text first second) out (compare_buffer first second lent out)
-  -- every text fits a buffer of 2,673,875 bytes
+  -- every text fits a buffer of 2,938,867 bytes
   pub text_fits : (first second : List ℕ) → length (compare_text first second) ≤ max_compared
   pub room_enough : (first second : List ℕ) (lent : Rooms) (room : ℕ) → RoomsFit lent → max_compared ≤ room
       → compare_outcome first second lent room ≡ served (length (compare_text first second))

@@ -42,9 +42,9 @@ pub const FILE_WORDS: usize = 24576;
 
 pub const MITER_WORDS: usize = 49152;
 
-pub const MAX_LIST: usize = 262144;
+pub const MAX_LIST: usize = 300000;
 
-pub const MAX_COMPARED: usize = 2673875;
+pub const MAX_COMPARED: usize = 2938867;
 
 // The bytes of the longest text of an input that was checked.
 pub const MAX_CHECKED: usize = 137;

@@ -1,9 +1,11 @@
 // Reads two cascade files from standard input, one after the other, and writes the clauses that tell whether they differ, or a refusal. Where the input could not be read, writes `failed`. Says on standard error why it could not read or not write all.
 #![tactic(auto)]
 
-ghost use Rattle.std.specs.Prelude.{◌≤◌, length};
+ghost use Rattle.std.specs.Prelude.{◌<◌, ◌≤◌, length};
 ghost use Rattle.bits.specs.Lists.{Put};
-ghost use Rattle.text.specs.Tomiter.{max_text, tomiter_text};
+ghost use Rattle.text.specs.Tomiter.{max_input, max_text, tomiter_text};
+
+use std::io::Read;
 
 // One byte more than an input may have.
 const INPUT: usize = text::MAX_INPUT + 1;
@@ -23,10 +25,17 @@ fn respond(rt: &(impl Print + Eprint), input: &[u8]) {
     streams::write(rt, &out[..size], b"tomiter: standard output");
 }
 
-fn main(rt: HostRuntime) {
-    let mut input = [0u8; INPUT];
-    match streams::read_all(&mut rt.stdin(), &mut input) {
-        Ok(taken) => respond(&rt, &input[..taken]),
-        Err(error) => streams::fail(&rt, b"tomiter: standard input", &error),
+// Reads the input and answers. The room holds more than an input may have, so that a longer one is told.
+fn run(rt: &(impl Print + Eprint), input: &mut impl Read, room: &mut [u8])
+    requires { max_input < length room.old }
+{
+    match streams::read_all(input, room) {
+        Ok(taken) => respond(rt, &room[..taken]),
+        Err(error) => streams::fail(rt, b"tomiter: standard input", &error),
     }
+}
+
+fn main(rt: HostRuntime) {
+    let mut room = [0u8; INPUT];
+    run(&rt, &mut rt.stdin(), &mut room);
 }

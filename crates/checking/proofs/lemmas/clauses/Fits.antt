@@ -113,10 +113,13 @@ module _ (limit : ℕ) where
   pub words_within : (n : ℕ) (gs : List Gate) → n ≤ max_lines → max_lines + 3 < limit → variables_of n gs < limit → all_valid n gs ≡ true → All (FitsIn limit) (stored (clauses_of n gs))
   words_within n gs few more h v = stored_fits (variables_of n gs) (max_lines + 3) (clauses_of n gs) h more (omega arith) (clauses_within n gs few v) (counts_small n gs few)
 
--- no list of a miter has more variables than a word holds, and no clause more literals
-pub limits_fit : (max_variables < word_limit) × (max_lines + 3 < word_limit)
-limits_fit = (omega arith, omega arith)
+-- a word holds the number of each variable of a miter's list, and of the literals of a clause
+pub limits_fit : max_variables < word_limit
+limits_fit = omega arith
+
+pub count_fits : max_lines + 3 < word_limit
+count_fits = omega arith
 
 -- every number of a list fits a word
 pub words_fit : (n : ℕ) (gs : List Gate) → n ≤ max_lines → length gs ≤ max_miter_gates → all_valid n gs ≡ true → AllFit (stored (clauses_of n gs))
-words_fit n gs few short v = words_within word_limit n gs few limits_fit.1 (omega (arith, limits_fit.0, variables_few n gs)) v
+words_fit n gs few short v = words_within word_limit n gs few count_fits (omega (arith, limits_fit, variables_few n gs)) v

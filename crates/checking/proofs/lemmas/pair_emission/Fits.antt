@@ -17,7 +17,7 @@ use Rattle.checking.specs.Miter.{miter_gates}
 use Rattle.checking.specs.Pair.{constant_clause, constant_clauses, without_junk, counted_lines, either_targets, used_after_both, side_by_side, pair_clauses, pair_variables}
 use Rattle.checking.proofs.lemmas.clauses.Forced.{Below, below_up_from, used_more, length_up_from}
 use Rattle.checking.proofs.lemmas.clauses.Within.{inputs_named, after_named, gates_within, differences_within, last_within, clauses_within}
-use Rattle.checking.proofs.lemmas.clauses.Fits.{Short, short_gates, short_differences, short_last, stored_fits, counts_small, limits_fit, used_bound, variables_few}
+use Rattle.checking.proofs.lemmas.clauses.Fits.{Short, short_gates, short_differences, short_last, stored_fits, counts_small, limits_fit, count_fits, used_bound, variables_few}
 
 -- ---- the lines of a mask, and those that count, are lines below n
 
@@ -140,4 +140,4 @@ module _ (h : Header) (a b : List Gate) (few : h.lines ≤ max_lines) where
       stored_fits limit (pair_variables h a b) (max_lines + 3) (pair_clauses h a b) fits more (omega arith) (pair_within v w) short_pair
 
   pub pair_words_fit : length a ≤ max_gates → length b ≤ max_gates → all_valid n a ≡ true → all_valid n b ≡ true → AllFit (stored (pair_clauses h a b))
-  pair_words_fit short_a short_b v w = pair_words_within word_limit limits_fit.1 (omega (arith, limits_fit.0, pair_variables_few)) v w
+  pair_words_fit short_a short_b v w = pair_words_within word_limit count_fits (omega (arith, limits_fit, pair_variables_few)) v w
