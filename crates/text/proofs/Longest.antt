@@ -67,7 +67,7 @@ module _ (first second : List ℕ) (h : Header) (a b : List Gate) (t : TwoFiles 
   list_few few =
       let l = listable h a b t.first_good t.second_good in
       let (x, y) = plain_few f.clauses (left_short h a b l) (left_within h a b l) in
-      omega (arith, x, left_xors h a b l, few, l.lines, t.first_good.gates, t.second_good.gates, header_few f.variables (length (plain_clauses f.clauses)) (left_variables h a b l) (omega (arith, y)), dimacs_long f.variables (plain_clauses f.clauses))
+      omega (arith, x, left_xors h a b l, few, l.lines, t.first_good.few, t.second_good.few, header_few f.variables (length (plain_clauses f.clauses)) (left_variables h a b l) (omega (arith, y)), dimacs_long f.variables (plain_clauses f.clauses))
 
   pair_few : length (compared_text (compared h a b)) ≤ max_compared
   pair_few =

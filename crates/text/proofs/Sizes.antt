@@ -155,7 +155,7 @@ pair_small : (h : Header) (a : List Gate) (k : Header) (b : List Gate) → FileW
 unfolding pair_verdict
 pair_small h a k b x y =
     by_headers h k
-    (λ s. subst Small (sym (headers_met h k _ s)) (list_small h a b (listable h a b x (subst (λ (z : Header). FileWithin max_input_gates z b) (sym s) y)) x.gates y.gates))
+    (λ s. subst Small (sym (headers_met h k _ s)) (list_small h a b (listable h a b x (subst (λ (z : Header). FileWithin max_input_gates z b) (sym s) y)) x.few y.few))
     (λ l. subst Small (sym (lines_apart h k _ l)) (omega arith, omega arith, omega arith))
     (λ l m. subst Small (sym (marks_apart h k _ l m)) (omega arith, omega arith, omega arith))
 

@@ -60,10 +60,10 @@ once_good = record { lines_low = omega arith; lines_high = omega arith; marks = 
 
 -- of at most so many gates
 pub none_within : (most : ℕ) → FileWithin most plain []
-none_within most = record { cascade = none_good; gates = omega arith }
+none_within most = record { cascade = none_good; few = omega arith }
 
 pub once_within : (most : ℕ) → 1 ≤ most → FileWithin most plain once
-once_within most l = record { cascade = once_good; gates = omega (arith, l) }
+once_within most l = record { cascade = once_good; few = omega (arith, l) }
 
 -- which differ on state 0
 pub once_differs : EqualFor plain once [] → ⊥
@@ -130,8 +130,8 @@ files_of_two : (h : Header) (a b : List Gate) → length a ≤ 1 → length b �
     → leb (length (text_of h b)) max_file ≡ true → TwoFiles (text_of h a) (text_of h b) h a b
 files_of_two h a b i j x y l m =
     record {
-      first_good = record { cascade = x; gates = omega (arith, i) };
-      second_good = record { cascade = y; gates = omega (arith, j) };
+      first_good = record { cascade = x; few = omega (arith, i) };
+      second_good = record { cascade = y; few = omega (arith, j) };
       first_text = refl;
       second_text = refl;
       first_bytes = leb-true _ _ l;
@@ -243,8 +243,8 @@ fits_of_two : (h : Header) (a b : List Gate) → length a ≤ 1 → length b ≤
     → Fitting (text_of h a ++ text_of h b) h a b
 fits_of_two h a b i j t l m =
     record {
-      first = record { cascade = t.first_good.cascade; gates = omega (arith, i) };
-      second = record { cascade = t.second_good.cascade; gates = omega (arith, j) };
+      first = record { cascade = t.first_good.cascade; few = omega (arith, i) };
+      second = record { cascade = t.second_good.cascade; few = omega (arith, j) };
       files = refl;
       bytes = leb-true _ _ l;
       words = leb-true _ _ m;

@@ -41,14 +41,14 @@ module _ (most : ℕ) where
         let (d, r, m) = then_both (reading text) _ c e in
         let (few, s) = demanded (leb (length d.gates) most) no_room 0 (served d) c m in
         let f : d ≡ c = cc in
-        subst (ReadWithin most text) f (record { read = (read_as text d).0 r; gates = leb-true _ _ few })),
-    (λ w. then_served _ _ c ((read_as text c).1 w.read) ∙ demand_met _ _ _ _ (le-leb _ _ w.gates)),
+        subst (ReadWithin most text) f (record { read = (read_as text d).0 r; few = leb-true _ _ few })),
+    (λ w. then_served _ _ c ((read_as text c).1 w.read) ∙ demand_met _ _ _ _ (le-leb _ _ w.few)),
   )
 
   -- a file, followed by anything, is read as what is said of it
   pub starts_as : (h : Header) (a : List Gate) (rest : List ℕ) → FileWithin most h a → file_within most (text_of h a ++ rest) ≡ served (whole h a)
   starts_as h a rest good =
-      (within_as _ (whole h a)).1 (record { read = record { good = good.cascade; rest = rest; starts = refl; bytes = refl }; gates = good.gates })
+      (within_as _ (whole h a)).1 (record { read = record { good = good.cascade; rest = rest; starts = refl; bytes = refl }; few = good.few })
 
   module _ (text : List ℕ) (c : Reading) (e : file_within most text ≡ served c) where
     -- what was read is inside the text
@@ -61,7 +61,7 @@ module _ (most : ℕ) where
     pub within_text : (FileWithin most c.header c.gates) × (take c.taken text ≡ text_of c.header c.gates)
     within_text =
         let w = (within_as text c).0 e in
-        (record { cascade = w.read.good; gates = w.gates }, (reader.read_text text c ((read_as text c).1 w.read)).1)
+        (record { cascade = w.read.good; few = w.few }, (reader.read_text text c ((read_as text c).1 w.read)).1)
 
   -- ---- to its last byte, by what its reading gives
 

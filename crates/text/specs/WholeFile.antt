@@ -10,7 +10,7 @@ use Rattle.circuit.specs.FileLaws.{FileCascade, FileRefused, ReadAs}
 -- a cascade of a file, of at most `most` gates
 pub record FileWithin (most : ℕ) (h : Header) (gs : List Gate) : Type 0 where
   pub cascade : FileCascade h gs
-  pub gates : length gs ≤ most
+  pub few : length gs ≤ most
 
 -- the file at the start of a text: its own refusal, then 10 for more than `most` gates
 unfoldable pub file_within : ℕ → List ℕ → Outcome Reading
@@ -23,7 +23,7 @@ WithinRefused most text = Wrong (FileRefused text) (ReadAs text) (λ c. Fails (m
 -- a text that starts with the text of what is read, of at most `most` gates
 pub record ReadWithin (most : ℕ) (text : List ℕ) (c : Reading) : Type 0 where
   pub read : ReadAs text c
-  pub gates : length c.gates ≤ most
+  pub few : length c.gates ≤ most
 
 -- the file to its last byte: what is wrong at the start, then 1 for bytes after its `end`, at the line index after that
 unfoldable pub whole_file : ℕ → List ℕ → Outcome Reading

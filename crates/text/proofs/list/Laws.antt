@@ -222,7 +222,7 @@ module _ (text : List ℕ) (most : ℕ) (out : List ℕ) (is : length out ≡ 3 
       let few : gates ≤ max_gates = omega (arith, s.gates, g.few) in
       record {
         cascade = hs;
-        is = (within_as most text c).1 (record { read = r; gates = omega (arith, s.fits, is) });
+        is = (within_as most text c).1 (record { read = r; few = omega (arith, s.fits, is) });
         few = omega (arith, s.gates, s.fits, is);
         inside = omega (arith, ap length stands, over_length (words_of hs) out (omega arith));
         words =
