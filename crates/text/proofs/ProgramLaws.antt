@@ -2,6 +2,7 @@
 use mathlib.Core.Path.{◌≡◌, refl, sym, ap, subst, ◌∙◌}
 use mathlib.Core.List.{List, ◌++◌}
 use Prim.Native.Nat.{ℕ, ◌≤◌, ◌<◌}
+use native.Mathlib.Omega.{arith}
 use lib.Dec.{leb}
 use lib.ListN.{length, take}
 use lib.Seq.{take_at}
@@ -11,19 +12,19 @@ use Rattle.circuit.specs.declared.header.Header.{Header}
 use Rattle.circuit.specs.Outcome.{Outcome, served, before, Yields}
 use Rattle.circuit.specs.Text.{text_of}
 use Rattle.circuit.specs.FileLaws.{FileCascade}
-use Rattle.circuit.proofs.Promises.{demanded}
+use Rattle.circuit.proofs.Promises.{never, demanded}
 use Rattle.circuit.specs.Refusal.{no_room}
 use Rattle.text.specs.Answers.{fit_outcome, fit_buffer, WritesWhere}
 use Rattle.text.specs.Formula.{Formula}
 use Rattle.text.specs.FileOutcome.{FileOutcome, answered, refused_at, refusal_text}
-use Rattle.text.specs.WholeFile.{FileWithin}
+use Rattle.text.specs.WholeFile.{FileWithin, WithinRefused}
 use Rattle.text.specs.Tomiter.{max_input, max_input_gates, verdict, verdict_text, tomiter_text, tomiter_outcome, tomiter_buffer, WritesText}
 use Rattle.text.specs.BytesTell.{StartsProblem, TextTells, BytesTell}
-use Rattle.text.specs.TextLaws.{ProgramRefused, first_file, in_second_file, RightText, clauses, refusal, ProgramLaws, AsBuilt}
+use Rattle.text.specs.TextLaws.{ProgramRefused, too_long, first_file, in_second_file, lines_differ, other_marks, list_long, RightText, clauses, refusal, ProgramLaws, AsBuilt}
 use Rattle.text.proofs.Fields.{refusal_apart}
 use Rattle.text.proofs.Telling.{refusal_starts, listed_fits, text_starts, text_fitting, text_told, as_built, dimacs_starts}
 use Rattle.text.proofs.Refusals.{refused_exactly}
-use Rattle.text.proofs.WholeFile.{large_refused}
+use Rattle.text.proofs.WholeFile.{within_refused, starts_as, large_refused}
 use Rattle.text.proofs.Writes.{writes_where}
 
 -- ---- the program
@@ -71,6 +72,21 @@ pub second_large : (program : List ℕ → List ℕ) → ProgramLaws program →
     → length (text_of h a ++ (text_of k b ++ rest)) ≤ max_input → program (text_of h a ++ (text_of k b ++ rest)) ≡ refusal_text no_room 2 0
 second_large program laws h k a b rest good-a good more short =
     (laws.refused _ no_room 2 0).1 (in_second_file h a (text_of k b ++ rest) no_room 0 short good-a refl (before (large_refused max_input_gates k b rest good more)))
+
+-- what is said of the first file is wrong with it
+of_first : (input : List ℕ) (number file place : ℕ) → ProgramRefused input number file place → file ≡ 1 → WithinRefused max_input_gates input number place
+of_first input _ _ _ (too_long h) e = absurd (omega arith)
+of_first input _ _ _ (first_file number place s f) e = f
+of_first input _ _ _ (in_second_file h a rest number place s good is w) e = absurd (omega arith)
+of_first input _ _ _ (lines_differ h a k b s good-a good-b is l) e = absurd (omega arith)
+of_first input _ _ _ (other_marks h a k b s good-a good-b is l m) e = absurd (omega arith)
+of_first input _ _ _ (list_long h a b s good-a good-b is l) e = absurd (omega arith)
+
+pub first_held : (program : List ℕ → List ℕ) → ProgramLaws program → (h : Header) (a : List Gate) (rest : List ℕ) (number place : ℕ) → FileCascade h a → length a ≤ max_input_gates
+    → program (text_of h a ++ rest) ≡ refusal_text number 1 place → ⊥
+first_held program laws h a rest number place good few e =
+    let w = of_first _ number 1 place ((laws.refused _ number 1 place).0 e) refl in
+    never (starts_as max_input_gates h a rest (record { cascade = good; few = few })) ((within_refused max_input_gates _ number place).1 w)
 
 -- every such program writes this text
 pub program_only : (program : List ℕ → List ℕ) → ProgramLaws program → AsBuilt program → (input : List ℕ) → program input ≡ tomiter_text input

@@ -95,6 +95,9 @@ pub record TextLaws : Type 0 where
       → length (text_of h a ++ rest) ≤ max_input → program (text_of h a ++ rest) ≡ refusal_text no_room 1 0
   pub second_large : (program : List ℕ → List ℕ) → ProgramLaws program → (h k : Header) (a b : List Gate) (rest : List ℕ) → FileWithin max_input_gates h a → FileCascade k b → max_input_gates < length b
       → length (text_of h a ++ (text_of k b ++ rest)) ≤ max_input → program (text_of h a ++ (text_of k b ++ rest)) ≡ refusal_text no_room 2 0
+  -- and refuses nothing of a first file of at most 1,024 gates
+  pub first_held : (program : List ℕ → List ℕ) → ProgramLaws program → (h : Header) (a : List Gate) (rest : List ℕ) (number place : ℕ) → FileCascade h a → length a ≤ max_input_gates
+      → program (text_of h a ++ rest) ≡ refusal_text number 1 place → ⊥
   -- our text is that of such a program, by the pair's clauses, and every such program writes it
   pub program : ProgramLaws tomiter_text
   pub as_built : AsBuilt tomiter_text

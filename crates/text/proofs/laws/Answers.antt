@@ -6,7 +6,7 @@ use Rattle.text.proofs.Fields.{refusal_fields, refusal_apart, differ_fields}
 use Rattle.text.proofs.Strict.{text_was}
 use Rattle.text.proofs.Sizes.{text_fits, room_enough}
 use Rattle.text.proofs.Telling.{as_built, unmarked_text}
-use Rattle.text.proofs.ProgramLaws.{program_laws, first_large, second_large, program_only, call}
+use Rattle.text.proofs.ProgramLaws.{program_laws, first_large, second_large, first_held, program_only, call}
 use Rattle.text.proofs.StandIns.{contradiction_fails, without_first_fails, refuses_all, junk_counted as program_junk, constants_ignored as program_constants}
 use Rattle.text.proofs.PlainClauses.{plain_satisfied, plain_within, plain_or, plain_each, plain_same}
 use Rattle.text.proofs.plain.Laws.{pair_parts, triple_parts}
@@ -32,6 +32,7 @@ returns c =
             refusal_apart = refusal_apart;
             first_large = first_large;
             second_large = second_large;
+            first_held = first_held;
             program = program_laws;
             as_built = as_built;
             unmarked_text = unmarked_text;
