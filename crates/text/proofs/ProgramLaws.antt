@@ -18,8 +18,8 @@ use Rattle.text.specs.Answers.{fit_outcome, fit_buffer, WritesWhere}
 use Rattle.text.specs.Formula.{Formula}
 use Rattle.text.specs.FileOutcome.{FileOutcome, answered, refused_at, refusal_text}
 use Rattle.text.specs.WholeFile.{FileWithin, WithinRefused}
-use Rattle.text.specs.Tomiter.{max_input, max_input_gates, verdict, verdict_text, tomiter_text, tomiter_outcome, tomiter_buffer, WritesText}
-use Rattle.text.specs.BytesTell.{StartsProblem, TextTells, BytesTell}
+use Rattle.text.specs.Tomiter.{max_input, verdict, verdict_text, tomiter_text, tomiter_outcome, tomiter_buffer, WritesText}
+use Rattle.text.specs.BytesTell.{max_input_gates, StartsProblem, TextTells, BytesTell}
 use Rattle.text.specs.TextLaws.{ProgramRefused, too_long, first_file, in_second_file, lines_differ, other_marks, list_long, RightText, clauses, refusal, ProgramLaws, AsBuilt}
 use Rattle.text.proofs.Fields.{refusal_apart}
 use Rattle.text.proofs.Telling.{refusal_starts, listed_fits, text_starts, text_fitting, text_told, as_built, dimacs_starts}
@@ -115,8 +115,8 @@ bytes_tell input out told last e l k s starts =
       header = h;
       first = a;
       second = b;
-      first_good = f.first.cascade;
-      second_good = f.second.cascade;
+      first_good = f.first;
+      second_good = f.second;
       files = f.files;
       told = subst (λ (text : List ℕ). TextTells text h a b) (sym same) (text_told input h a b f);
     }

@@ -15,7 +15,8 @@ use Rattle.circuit.specs.File.{Reading}
 use Rattle.checking.specs.Pair.{pair_clauses}
 use Rattle.checking.specs.Stored.{stored}
 use Rattle.text.specs.FileOutcome.{refused_at}
-use Rattle.text.specs.Tomiter.{max_input, max_input_gates, max_words, list_verdict, pair_verdict, second_verdict, verdict}
+use Rattle.text.specs.BytesTell.{max_input_gates}
+use Rattle.text.specs.Tomiter.{max_input, max_words, list_verdict, pair_verdict, second_verdict, verdict}
 use Rattle.text.specs.WholeFile.{FileWithin, file_within, whole_file}
 use Rattle.text.specs.TextLaws.{ProgramRefused, too_long, first_file, in_second_file, lines_differ, other_marks, list_long}
 use Rattle.text.proofs.FileOutcome.{not_refused, same_at, both_met, both_failed}

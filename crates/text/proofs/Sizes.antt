@@ -28,7 +28,8 @@ use Rattle.text.specs.Dimacs.{blank, literal_text, literals_text, body_text, clo
 use Rattle.text.specs.Formula.{Formula}
 use Rattle.text.specs.WholeFile.{FileWithin, WithinRefused, WholeRefused, file_within, whole_file}
 use Rattle.text.specs.FileOutcome.{FileOutcome, answered, refused_at, of_file}
-use Rattle.text.specs.Tomiter.{max_input, max_input_gates, max_words, max_text, list_verdict, pair_verdict, second_verdict, verdict, verdict_text, tomiter_text, tomiter_outcome}
+use Rattle.text.specs.BytesTell.{max_input_gates}
+use Rattle.text.specs.Tomiter.{max_input, max_words, max_text, list_verdict, pair_verdict, second_verdict, verdict, verdict_text, tomiter_text, tomiter_outcome}
 use Rattle.text.proofs.Decimal.{decimal_few}
 use Rattle.text.proofs.FileOutcome.{both_met, both_failed}
 use Rattle.text.proofs.WholeFile.{within_refused, within_text, WholeJudged, whole_judged}

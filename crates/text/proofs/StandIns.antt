@@ -29,10 +29,10 @@ use Rattle.text.specs.Dimacs.{Dimacs, dimacs_of, dimacs_read}
 use Rattle.text.specs.Formula.{Formula}
 use Rattle.text.specs.Compare.{max_file}
 use Rattle.text.specs.FileOutcome.{refusal_text, answer_text}
-use Rattle.text.specs.Tomiter.{max_input, max_input_gates, max_words}
+use Rattle.text.specs.Tomiter.{max_input, max_words}
 use Rattle.text.specs.WholeFile.{FileWithin}
 use Rattle.text.specs.TwoFiles.{TwoFiles}
-use Rattle.text.specs.BytesTell.{StartsProblem, TextTells}
+use Rattle.text.specs.BytesTell.{max_input_gates, StartsProblem, TextTells}
 use Rattle.text.specs.TextLaws.{Fitting, ProgramLaws, contradiction, without_first}
 use Rattle.text.proofs.Reading.{text_back}
 use Rattle.text.proofs.Pairs.{listable, list_within}

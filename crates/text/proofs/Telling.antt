@@ -19,8 +19,8 @@ use Rattle.checking.proofs.Promises.{unmarked_clauses, unmarked_variables}
 use Rattle.text.specs.Dimacs.{header_text, dimacs_of, dimacs_read}
 use Rattle.text.specs.Formula.{Formula, pair_formula}
 use Rattle.text.specs.FileOutcome.{FileOutcome, answered, refused_at, refusal_text}
-use Rattle.text.specs.Tomiter.{max_input, max_input_gates, max_words, list_verdict, pair_verdict, second_verdict, verdict, verdict_text, tomiter_text}
-use Rattle.text.specs.BytesTell.{StartsProblem, TextTells}
+use Rattle.text.specs.Tomiter.{max_input, max_words, list_verdict, pair_verdict, second_verdict, verdict, verdict_text, tomiter_text}
+use Rattle.text.specs.BytesTell.{max_input_gates, StartsProblem, TextTells}
 use Rattle.text.specs.WholeFile.{FileWithin, file_within, whole_file}
 use Rattle.text.specs.TextLaws.{Fitting}
 use Rattle.text.proofs.FileOutcome.{both_met, both_passed, file_passed}

@@ -5,9 +5,13 @@ use Rattle.circuit.specs.declared.gate.Gate.{Gate}
 use Rattle.circuit.specs.declared.header.Header.{Header}
 use Rattle.circuit.specs.Outcome.{Outcome, served}
 use Rattle.circuit.specs.Text.{text_of}
-use Rattle.circuit.specs.FileLaws.{FileCascade}
 use Rattle.checking.specs.PairTold.{TellsFor}
 use Rattle.text.specs.Dimacs.{blank, problem_word, cnf_word, Dimacs, dimacs_read}
+use Rattle.text.specs.WholeFile.{FileWithin}
+
+-- each file of an input has 1,024 gates at most
+abbrev pub max_input_gates : ℕ
+max_input_gates = 1024
 
 -- the text starts `p cnf`, so that it is no refusal
 abbrev pub StartsProblem : List ℕ → Type 0
@@ -27,8 +31,8 @@ pub record FilesTold (input text : List ℕ) : Type 0 where
   pub header : Header
   pub first : List Gate
   pub second : List Gate
-  pub first_good : FileCascade header first
-  pub second_good : FileCascade header second
+  pub first_good : FileWithin max_input_gates header first
+  pub second_good : FileWithin max_input_gates header second
   pub files : input ≡ text_of header first ++ text_of header second
   pub told : TextTells text header first second
 

@@ -29,13 +29,13 @@ abbrev pub map_answer : {A B : Type 0} → (A → B) → FileOutcome A → FileO
 map_answer f (answered a) = answered (f a)
 map_answer f (refused_at number file place) = refused_at number file place
 
--- goes on where the test holds, and is else refused, with file and place 0
-abbrev pub of_both : {A : Type 0} → Bool → ℕ → FileOutcome A → FileOutcome A
-of_both test number more = cond test more (refused_at number 0 0)
-
--- the same, said of that file
+-- goes on where the test holds, and is else refused, with this file and place 0
 abbrev pub of_that : {A : Type 0} → ℕ → Bool → ℕ → FileOutcome A → FileOutcome A
 of_that file test number more = cond test more (refused_at number file 0)
+
+-- the same, said of both files
+abbrev pub of_both : {A : Type 0} → Bool → ℕ → FileOutcome A → FileOutcome A
+of_both test number more = of_that 0 test number more
 
 -- goes on with what is read from a file; what is wrong with it is said of that file
 abbrev pub of_file : {A B : Type 0} → ℕ → Outcome A → (A → FileOutcome B) → FileOutcome B

@@ -16,12 +16,12 @@ use Rattle.checking.specs.FaultLaws.{without_constants, all_counted}
 use Rattle.checking.specs.Stored.{stored}
 use Rattle.checking.specs.Satisfaction.{ClausesWithin}
 use Rattle.text.specs.Dimacs.{decimal, clauses_text, header_text, Dimacs, dimacs_of, number_read, dimacs_read}
-use Rattle.text.specs.BytesTell.{StartsProblem, TextTells}
+use Rattle.text.specs.BytesTell.{max_input_gates, StartsProblem, TextTells}
 use Rattle.text.specs.Answers.{WritesWhere}
 use Rattle.text.specs.WholeFile.{FileWithin, WithinRefused, WholeRefused}
 use Rattle.text.specs.Rows.{RowsHold, text_rows}
 use Rattle.text.specs.FileOutcome.{refused_word, refusal_text, answer_text}
-use Rattle.text.specs.Tomiter.{max_input, max_input_gates, max_words, max_text, verdict, tomiter_text, tomiter_outcome, tomiter_buffer}
+use Rattle.text.specs.Tomiter.{max_input, max_words, max_text, verdict, tomiter_text, tomiter_outcome, tomiter_buffer}
 
 -- the input is the files of two cascades with the header h, and nothing is too long
 pub record Fitting (input : List ℕ) (h : Header) (a b : List Gate) : Type 0 where

@@ -11,15 +11,12 @@ use Rattle.text.specs.Answers.{fit_outcome, fit_buffer}
 use Rattle.text.specs.Dimacs.{dimacs_of}
 use Rattle.text.specs.Formula.{Formula, pair_formula}
 use Rattle.text.specs.FileOutcome.{FileOutcome, answered, of_both, of_file, answer_text}
-use Rattle.text.specs.BytesTell.{BytesTell}
+use Rattle.text.specs.BytesTell.{max_input_gates, BytesTell}
 use Rattle.text.specs.WholeFile.{file_within, whole_file}
 
--- the input has 65,536 bytes at most, each of its files 1,024 gates, and the clause buffer 16,384 words
+-- the input has 65,536 bytes at most, and the clause buffer 16,384 words
 abbrev pub max_input : ℕ
 max_input = 65536
-
-abbrev pub max_input_gates : ℕ
-max_input_gates = 1024
 
 abbrev pub max_words : ℕ
 max_words = 16384

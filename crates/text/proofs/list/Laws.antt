@@ -35,7 +35,8 @@ use Rattle.text.specs.declared.refused.FileRefusal.{FileRefusal}
 use Rattle.text.specs.WholeFile.{file_within, whole_file, WithinRefused}
 use Rattle.text.specs.Formula.{Formula, formula_of, pair_formula}
 use Rattle.text.specs.FileOutcome.{FileOutcome, answered, refused_at, of_file, file_number, answer_of}
-use Rattle.text.specs.Tomiter.{max_input, max_input_gates, max_words, list_verdict, pair_verdict, second_verdict, verdict}
+use Rattle.text.specs.BytesTell.{max_input_gates}
+use Rattle.text.specs.Tomiter.{max_input, max_words, list_verdict, pair_verdict, second_verdict, verdict}
 use Rattle.text.specs.private.Lists.{FileWords, ListStands, Delivers}
 use Rattle.text.specs.private.Words.{AllShort}
 use Rattle.text.proofs.FileOutcome.{both_met, both_failed, file_served, file_refused, said, said_wrong}

@@ -42,7 +42,7 @@ module _ (h : Header) (ws : List ℕ) where
 
 -- ---- the sizes of a pair
 
--- sums over at most 1,024 gates
+-- sums over no more gates than a cascade may have
 small : (n : ℕ) (gs : List Gate) → n ≤ max_lines → all_valid n gs ≡ true → length gs ≤ max_gates → (s : Sums) → sums_of n gs ≡ s → Small max_gates s.totals
 small n gs few v short s e = subst (λ (x : Sums). Small max_gates x.totals) e (small_more (length gs) max_gates (gates_sizes gs) short (small_sums n gs few v))
 

@@ -8,7 +8,7 @@ use Rattle.circuit.specs.Refusal.{no_room}
 use Rattle.circuit.specs.Words.{gates_of}
 use Rattle.text.specs.declared.refused.File.TheVariants.{Both}
 use Rattle.text.specs.private.Files.{reading_of, whole_of}
-use Rattle.text.specs.Tomiter.{max_input_gates}
+use Rattle.text.specs.BytesTell.{max_input_gates}
 use Rattle.text.specs.WholeFile.{file_within, whole_file}
 use Rattle.text.proofs.FileOutcome.{said}
 use Rattle.text.proofs.WholeFile.{taken_within}
