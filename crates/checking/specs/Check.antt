@@ -1,5 +1,5 @@
 -- The whole way from two cascades to clauses: the miter, a list of calls on it, and the emission.
-use Rattle.std.specs.Prelude.{◌≡◌, ℕ, ◌+◌, ◌*◌, ◌≤◌, List, [], ◌∷◌, length, take, ℤ}
+use Rattle.std.specs.Prelude.{◌≡◌, ℕ, zero, suc, ◌+◌, ◌*◌, ◌≤◌, List, [], ◌∷◌, length, take, ℤ}
 use Rattle.bits.specs.Lists.{over}
 use Rattle.circuit.specs.Gate.{max_gates}
 use Rattle.circuit.specs.Outcome.{Outcome, served, refused, and_then}
@@ -14,6 +14,16 @@ use Rattle.checking.specs.Equality.{Claim}
 use Rattle.checking.specs.declared.check.Call.TheVariants.{ReduceOn}
 use Rattle.checking.specs.declared.check.Call.TheVariants.{StepOn}
 use Rattle.checking.specs.declared.check.Call.{Call}
+
+-- two words a call: 0 for a step or anything else for a full reduction, and its n; a last word alone is no call
+abbrev pub call_of : ℕ → ℕ → Call
+call_of zero n = StepOn n
+call_of (suc kind) n = ReduceOn n
+
+unfoldable pub calls_of : List ℕ → List Call
+calls_of [] = []
+calls_of (kind ∷ []) = []
+calls_of (kind ∷ n ∷ ws) = call_of kind n ∷ calls_of ws
 
 -- a buffer and the number of gates that stand at its start
 pub record Held : Type 0 where

@@ -12,7 +12,7 @@ use Rattle.checking.specs.Told.{Told, ServedTells}
 use Rattle.checking.specs.Emit.{emit_outcome, emit_buffer}
 use Rattle.checking.specs.Equality.{after_all, miter_leaves, left_after, Emitted, Claim}
 use Rattle.checking.specs.declared.check.Call.{Call}
-use Rattle.checking.specs.Check.{held_words, held, checked_outcome, work_left, clauses_left, Checks}
+use Rattle.checking.specs.Check.{called_all, held_words, held, checked_outcome, work_left, clauses_left, Checks}
 use Rattle.checking.proofs.lemmas.miter.Laws.{miter_laws}
 use Rattle.checking.proofs.lemmas.clauses.Answers.{emit_laws}
 use Rattle.checking.proofs.lemmas.Listed.{served_same}
@@ -97,6 +97,13 @@ module _ (na : ℕ) (a b : List ℕ) (calls : List Call) (room : List ℕ) (out 
 -- ---- what the function owes, where the miter is refused and where it is served
 
 module _ (na : ℕ) (a : List ℕ) (nb : ℕ) (b : List ℕ) (calls : List Call) (room : List ℕ) where
+  -- the calls made on the buffer that the miter leaves
+  pub held_made : (k r : ℕ) (before words : List ℕ) → before ≡ miter_buffer na a nb b room
+      → Yields r words (called_all calls (record { gates = k; words = before })).gates (called_all calls (record { gates = k; words = before })).words
+      → Yields r words (held na a nb b calls room k).gates (held na a nb b calls room k).words
+  held_made k r before words e y =
+      subst (λ (ws : List ℕ). Yields r words (called_all calls (record { gates = k; words = ws })).gates (called_all calls (record { gates = k; words = ws })).words) e y
+
   module _ (k : ℕ) (made : miter_outcome na a nb b (length room) ≡ served k) where
     pub miter_room : 3 * k ≤ length (miter_buffer na a nb b room)
     miter_room = omega (arith, (miter_laws.miter_stands na a nb b room k made).cascade.size, length-take (3 * k) (miter_buffer na a nb b room))

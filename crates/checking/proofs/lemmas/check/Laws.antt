@@ -1,8 +1,8 @@
 -- What a call and a list of calls leave in the miter's buffer, and demand 3 of what the code answers. Assumes nothing.
-use Rattle.std.proofs.Common.{◌≡◌, ℕ, ◌+◌, ◌*◌, ◌≤◌, List, [], ◌∷◌, ◌++◌, length, take, drop, sym, refl, ap, ◌∙◌, subst, ap₂, le_refl, arith, drop_of_length-le, length-take-le, take_at}
+use Rattle.std.proofs.Common.{◌≡◌, ℕ, ◌+◌, ◌*◌, ◌/◌, ◌<◌, ◌≤◌, List, [], ◌∷◌, ◌++◌, length, get_or, take, drop, sym, refl, ap, ◌∙◌, subst, ap₂, le_refl, arith, drop_of_length-le, length-drop, length-take-le, take_at}
 use lib.Seq.{take-append-le}
 use Rattle.bits.specs.Lists.{over}
-use Rattle.bits.proofs.Lists.{over_length}
+use Rattle.bits.proofs.Lists.{over_length, two}
 use Rattle.circuit.specs.declared.gate.Gate.{Gate}
 use Rattle.circuit.specs.Gate.{max_lines, max_miter_gates}
 use Rattle.circuit.specs.Outcome.{Outcome, served, refused, Yields}
@@ -15,7 +15,7 @@ use Rattle.checking.specs.Equality.{step_leaves, reduce_leaves, after, after_all
 use Rattle.checking.specs.declared.check.Call.TheVariants.{ReduceOn}
 use Rattle.checking.specs.declared.check.Call.TheVariants.{StepOn}
 use Rattle.checking.specs.declared.check.Call.{Call}
-use Rattle.checking.specs.Check.{Held, held_words, step_gates_left, reduce_gates_left, called, called_all}
+use Rattle.checking.specs.Check.{call_of, calls_of, Held, held_words, step_gates_left, reduce_gates_left, called, called_all}
 use Rattle.checking.proofs.lemmas.step.Calls.{step_refused}
 use Rattle.checking.proofs.lemmas.step.Laws.{none_kept, step_laws}
 use Rattle.checking.proofs.lemmas.reduce.Laws.{step_shrinks, reduce_refused}
@@ -146,17 +146,50 @@ calls_leave (c ∷ cs) h room =
     let m = calls_leave cs (called c h) (omega (arith, l.few, l.long)) in
     record { few = omega (arith, l.few, m.few); long = m.long ∙ l.long; stands = m.stands ∙ ap (after_all cs) l.stands }
 
--- ---- the loop over the calls
+-- ---- the loops over the calls and over their words
+
+-- one call less to make
+call_made : (cs ds : List Call) (gates r : ℕ) (c : Call) (words last : List ℕ) → cs ≡ c ∷ ds
+    → Yields r last (called c (holding gates words)).gates (called c (holding gates words)).words
+    → called_all cs (holding gates words) ≡ called_all ds (holding r last)
+unfolding called_all
+call_made cs ds gates r c words last e y =
+    ap (λ (l : List Call). called_all l (holding gates words)) e
+    ∙ ap (called_all ds) (sym (ap₂ (λ (k : ℕ) (l : List ℕ). holding k l) y.answer y.buffer))
 
 -- a turn: what is left to do, after one call more
 pub calls_turn : (cs : List Call) (i gates r : ℕ) (c : Call) (words last : List ℕ) → drop i cs ≡ c ∷ drop (i + 1) cs
     → Yields r last (called c (holding gates words)).gates (called c (holding gates words)).words
     → called_all (drop i cs) (holding gates words) ≡ called_all (drop (i + 1) cs) (holding r last)
-unfolding called_all
-calls_turn cs i gates r c words last e y =
-    ap (λ (l : List Call). called_all l (holding gates words)) e
-    ∙ ap (called_all (drop (i + 1) cs)) (sym (ap₂ (λ (k : ℕ) (l : List ℕ). holding k l) y.answer y.buffer))
+calls_turn cs i = call_made (drop i cs) (drop (i + 1) cs)
 
 pub calls_end : (cs : List Call) (i : ℕ) (h : Held) → length cs ≤ i → called_all (drop i cs) h ≡ h
 unfolding called_all
 calls_end cs i h e = ap (λ (l : List Call). called_all l h) (drop_of_length-le cs e)
+
+pub calls_next : (ws : List ℕ) (i kind n : ℕ) → i < length ws / 2 → kind ≡ get_or ws (2 * i) 0 → n ≡ get_or ws (2 * i + 1) 0
+    → calls_of (drop (2 * i) ws) ≡ call_of kind n ∷ calls_of (drop (2 * (i + 1)) ws)
+unfolding calls_of
+calls_next ws i kind n h e f =
+    let up : 2 * i + 2 ≡ 2 * (i + 1) = omega arith in
+    ap calls_of (two 0 ws (2 * i) (omega arith))
+    ∙ ap₂ (λ (x y : ℕ). call_of x y ∷ calls_of (drop (2 * i + 2) ws)) (sym e) (sym f)
+    ∙ ap (λ (k : ℕ). call_of kind n ∷ calls_of (drop k ws)) up
+
+-- a turn over two words
+pub words_turn : (ws : List ℕ) (i kind n gates r : ℕ) (c : Call) (words last : List ℕ) → i < length ws / 2 → kind ≡ get_or ws (2 * i) 0 → n ≡ get_or ws (2 * i + 1) 0 → c ≡ call_of kind n
+    → Yields r last (called c (holding gates words)).gates (called c (holding gates words)).words
+    → called_all (calls_of (drop (2 * i) ws)) (holding gates words) ≡ called_all (calls_of (drop (2 * (i + 1)) ws)) (holding r last)
+words_turn ws i kind n gates r c words last h e f d =
+    call_made (calls_of (drop (2 * i) ws)) (calls_of (drop (2 * (i + 1)) ws)) gates r c words last
+    (calls_next ws i kind n h e f ∙ ap (λ (x : Call). x ∷ calls_of (drop (2 * (i + 1)) ws)) (sym d))
+
+-- a word that is left alone is no call
+pub words_end : (ws : List ℕ) (i : ℕ) (h : Held) → length ws / 2 ≤ i → called_all (calls_of (drop (2 * i) ws)) h ≡ h
+unfolding calls_of called_all
+words_end ws i h e = short (drop (2 * i) ws) h (omega (arith, length-drop (2 * i) ws))
+  where
+    short : (l : List ℕ) (h : Held) → length l < 2 → called_all (calls_of l) h ≡ h
+    short [] h e = refl
+    short (k ∷ []) h e = refl
+    short (k ∷ n ∷ l) h e = absurd (omega arith)
