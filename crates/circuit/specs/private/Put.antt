@@ -1,14 +1,22 @@
 -- For the contracts of the functions that write at the start of a buffer.
-use Rattle.std.specs.Prelude.{ℕ, Bool, cond, List}
+use Rattle.std.specs.Prelude.{ℕ, Bool, cond, List, ◌+◌, ◌∷◌}
 use Rattle.std.specs.List.{flat_map}
 use Rattle.bits.specs.Digits.{bit, lines_in}
 use Rattle.circuit.specs.declared.gate.Gate.{Gate}
 use Rattle.circuit.specs.Gate.{max_lines}
-use Rattle.circuit.specs.Text.{const_line, junk_line}
+use Rattle.circuit.specs.Text.{tab, control_text, const_line, junk_line}
 
 -- a gate with these masks
 abbrev pub mask_gate : ℕ → ℕ → Gate
 mask_gate positive negative = record { positive = positive; negative = negative; target = 0 }
+
+-- the controls on the lines of a mask, each after a tab, by rising line
+abbrev pub low_controls : ℕ → ℕ → List ℕ
+low_controls positive lines = flat_map (λ k. tab ∷ control_text (record { line = k; positive = bit positive k })) (lines_in lines max_lines)
+
+-- the same, where digit k of both masks is line 10 + k
+abbrev pub high_controls : ℕ → ℕ → List ℕ
+high_controls positive lines = flat_map (λ k. tab ∷ control_text (record { line = 10 + k; positive = bit positive k })) (lines_in lines max_lines)
 
 -- the line of a mark, of a constant or else of a junk line
 abbrev pub mark_line : Bool → ℕ → Bool → List ℕ

@@ -1,11 +1,11 @@
 // Writing at the start of a buffer: a number, a control, a line. Each function tells how many bytes it wrote.
 
-ghost use Rattle.std.specs.Prelude.{◌≡◌, true, ◌+◌, ◌*◌, ◌/◌, ◌^◌, ◌<◌, ◌≤◌, ◌∷◌, ◌++◌, length, if◌then◌else◌, count_ones};
+ghost use Rattle.std.specs.Prelude.{◌≡◌, true, ◌+◌, ◌*◌, ◌/◌, ◌%◌, ◌^◌, ◌<◌, ◌≤◌, ◌∷◌, ◌++◌, length, if◌then◌else◌, count_ones};
 ghost use Rattle.bits.specs.Lists.{Put};
 ghost use Rattle.circuit.specs.Gate.{max_lines, controls_of};
 ghost use Rattle.circuit.specs.Header.{marks_good};
 ghost use Rattle.circuit.specs.Text.{tab, digit, number_text, control_text, controls_text, count_line, const_line, junk_line, const_lines, junk_lines, header_lines, gate_text, gate_line, plus_sign, minus_sign};
-ghost use Rattle.circuit.specs.private.Put.{mask_gate, mark_line, mark_text};
+ghost use Rattle.circuit.specs.private.Put.{mask_gate, low_controls, high_controls, mark_line, mark_text};
 
 use crate::gate::Gate;
 use crate::header::Header;
@@ -48,14 +48,78 @@ fn put_number(out: &mut [u8], k: u64) -> usize
     1
 }
 
-// Writes a tab and a control.
-fn put_control(out: &mut [u8], k: u64, positive: bool) -> usize
-    requires { (k < 100) × (length (control_text (record { line = k; positive = positive })) < length out.old) }
+// A control's sign.
+fn sign(positive: bool) -> u8
+    ensures { result ≡ (if positive then plus_sign else minus_sign) }
+{
+    if positive { b'+' } else { b'-' }
+}
+
+// Writes a tab and a control on a line below 10.
+#[tactic(auto, using(crate::proofs::lemmas::file::Numbers::text_rules))]
+fn put_low_control(out: &mut [u8], k: u64, positive: bool) -> usize
+    requires { (k < 10) × (3 ≤ length out.old) }
     ensures { Put result out.new (tab ∷ control_text (record { line = k; positive = positive })) out.old }
 {
     out[0] = b'\t';
-    out[1] = if positive { b'+' } else { b'-' };
-    2 + put_number(&mut out[2..], k)
+    out[1] = sign(positive);
+    out[2] = digit(k as u8);
+    3
+}
+
+// The two digits of the number 10 + k as one word, the first one in its low byte.
+fn both_digits(k: u8) -> u32
+    requires { k < 90 }
+    ensures { result ≡ digit (1 + k / 10) + 256 * digit (k % 10) }
+{
+    // The quotient is added to the first digit, and 10 times taken off the last one, which counts 256.
+    12337 + 256 * (k as u32) - 2559 * ((k / 10) as u32)
+}
+
+// Writes a tab and a control on line 10 + k.
+#[tactic(auto, using(crate::proofs::lemmas::file::put::Cut::text_above))]
+fn put_high_control(out: &mut [u8], k: u64, positive: bool) -> usize
+    requires { (k < 90) × (4 ≤ length out.old) }
+    ensures { Put result out.new (tab ∷ control_text (record { line = 10 + k; positive = positive })) out.old }
+{
+    out[0] = b'\t';
+    out[1] = sign(positive);
+    // One word of both digits is fewer instructions than each by itself.
+    let word = both_digits(k as u8);
+    out[2] = (word % 256) as u8;
+    out[3] = (word / 256) as u8;
+    4
+}
+
+// Writes the controls on lines below 10, each after a tab, by rising line.
+fn put_low_controls(out: &mut [u8], positive: u64, lines: u64) -> usize
+    requires { (lines < 2 ^ 10) × (length (low_controls positive lines) ≤ length out.old) }
+    ensures { Put result out.new (low_controls positive lines) out.old }
+{
+    // A while, one turn for each set bit: the lowest one is taken and cleared, which no range does.
+    let mut left = lines;
+    let mut at = 0;
+    while left != 0 {
+        let k = crate::gate::lowest(left);
+        at += put_low_control(&mut out[at..], k, crate::gate::has(positive, k));
+        left &= left - 1;
+    }
+    at
+}
+
+// Writes those on lines from 10 on, where bit k of a mask is line 10 + k.
+fn put_high_controls(out: &mut [u8], positive: u64, lines: u64) -> usize
+    requires { length (high_controls positive lines) ≤ length out.old }
+    ensures { Put result out.new (high_controls positive lines) out.old }
+{
+    let mut left = lines;
+    let mut at = 0;
+    while left != 0 {
+        let k = crate::gate::lowest(left);
+        at += put_high_control(&mut out[at..], k, crate::gate::has(positive, k));
+        left &= left - 1;
+    }
+    at
 }
 
 // Writes the controls of two masks, each after a tab, by rising line.
@@ -63,15 +127,13 @@ fn put_controls(out: &mut [u8], positive: u64, negative: u64) -> usize
     requires { length (controls_text (controls_of (mask_gate positive negative))) ≤ length out.old }
     ensures { Put result out.new (controls_text (controls_of (mask_gate positive negative))) out.old }
 {
-    // A while, one turn for each set bit: the lowest one is taken and cleared, which no range does.
-    let mut left = positive | negative;
-    let mut at = 0;
-    while left != 0 {
-        let k = crate::gate::lowest(left);
-        at += put_control(&mut out[at..], k, crate::gate::has(positive, k));
-        left &= left - 1;
+    // A loop for the lines of one digit and one for those of two: a single loop would ask of each control which it has. A gate without controls goes through neither.
+    let lines = positive | negative;
+    if lines == 0 {
+        return 0;
     }
-    at
+    let at = put_low_controls(out, positive, lines & 1023);
+    at + put_high_controls(&mut out[at..], positive >> 10, lines >> 10)
 }
 
 // Writes a word and a number below 100.

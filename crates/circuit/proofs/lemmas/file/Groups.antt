@@ -67,7 +67,7 @@ texts_same f g x y (suc n) h s =
     ∙ sym (ap (λ (b : Bool). flat_map g (cond b (n ∷ []) [])) (sym (h n (omega arith)) ∙ e))))
     ∙ sym (flat_map-append g (lines_in y n) (cond (bit y n) (n ∷ []) []))
 
-lines_same : (x y n : ℕ) → ((j : ℕ) → j < n → bit x j ≡ bit y j) → lines_in x n ≡ lines_in y n
+pub lines_same : (x y n : ℕ) → ((j : ℕ) → j < n → bit x j ≡ bit y j) → lines_in x n ≡ lines_in y n
 unfolding lines_in
 lines_same x y zero h = refl
 lines_same x y (suc n) h = ap₂ (λ (l : List ℕ) (b : Bool). l ++ cond b (n ∷ []) []) (lines_same x y n (λ j l. h j (omega arith))) (h n (omega arith))
