@@ -18,7 +18,7 @@ pub enum Call {
 }
 
 impl Call {
-    // A step where the kind is 0, and else a full reduction.
+    // The call of two words.
     fn of(kind: u64, n: u64) -> Call
         ensures { result ≡ call_of kind n }
     {
@@ -60,7 +60,7 @@ fn make_calls(calls: &[Call], gates: usize, words: &mut [u64]) -> usize
     left
 }
 
-// Makes the calls, two words each, on the gates that stand at the buffer's start; how many gates then stand.
+// Makes the calls of a list of words on the gates that stand at the buffer's start; how many gates then stand.
 fn make_words(calls: &[u64], gates: usize, words: &mut [u64]) -> usize
     requires { 3 * gates ≤ length words.old }
     ensures { Yields result words.new (called_all (calls_of calls.now) (record { gates = gates; words = words.old })).gates (called_all (calls_of calls.now) (record { gates = gates; words = words.old })).words }

@@ -72,7 +72,7 @@ fn both_digits(k: u8) -> u32
     requires { k < 90 }
     ensures { result ≡ digit (1 + k / 10) + 256 * digit (k % 10) }
 {
-    // The quotient is added to the first digit, and 10 times taken off the last one, which counts 256.
+    // The quotient is added to the first digit, and 10 times the quotient is taken off the last one, which counts 256.
     12337 + 256 * (k as u32) - 2559 * ((k / 10) as u32)
 }
 
@@ -107,11 +107,12 @@ fn put_low_controls(out: &mut [u8], positive: u64, lines: u64) -> usize
     at
 }
 
-// Writes those on lines from 10 on, where bit k of a mask is line 10 + k.
+// Writes the controls on lines from 10 on, each after a tab, by rising line. Bit k of a mask is line 10 + k.
 fn put_high_controls(out: &mut [u8], positive: u64, lines: u64) -> usize
     requires { length (high_controls positive lines) ≤ length out.old }
     ensures { Put result out.new (high_controls positive lines) out.old }
 {
+    // A while, as for the lines below 10.
     let mut left = lines;
     let mut at = 0;
     while left != 0 {
