@@ -10,13 +10,20 @@ use Rattle.circuit.specs.Text.{tab, control_text, const_line, junk_line}
 abbrev pub mask_gate : ℕ → ℕ → Gate
 mask_gate positive negative = record { positive = positive; negative = negative; target = 0 }
 
--- the controls on the lines of a mask, each after a tab, by rising line
+-- a tab and the control on line k, and on line 10 + k, by digit k of a mask of the positive ones
+abbrev pub control_piece : ℕ → ℕ → List ℕ
+control_piece positive k = tab ∷ control_text (record { line = k; positive = bit positive k })
+
+abbrev pub high_piece : ℕ → ℕ → List ℕ
+high_piece positive k = tab ∷ control_text (record { line = 10 + k; positive = bit positive k })
+
+-- the controls on the lines of a mask, by rising line
 abbrev pub low_controls : ℕ → ℕ → List ℕ
-low_controls positive lines = flat_map (λ k. tab ∷ control_text (record { line = k; positive = bit positive k })) (lines_in lines max_lines)
+low_controls positive lines = flat_map (control_piece positive) (lines_in lines max_lines)
 
 -- the same, where digit k of both masks is line 10 + k
 abbrev pub high_controls : ℕ → ℕ → List ℕ
-high_controls positive lines = flat_map (λ k. tab ∷ control_text (record { line = 10 + k; positive = bit positive k })) (lines_in lines max_lines)
+high_controls positive lines = flat_map (high_piece positive) (lines_in lines max_lines)
 
 -- the line of a mark, of a constant or else of a junk line
 abbrev pub mark_line : Bool → ℕ → Bool → List ℕ

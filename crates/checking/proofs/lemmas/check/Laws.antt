@@ -177,17 +177,17 @@ calls_next ws i kind n h e f =
     ∙ ap (λ (k : ℕ). call_of kind n ∷ calls_of (drop k ws)) up
 
 -- a turn over two words
-pub words_turn : (ws : List ℕ) (i kind n gates r : ℕ) (c : Call) (words last : List ℕ) → i < length ws / 2 → kind ≡ get_or ws (2 * i) 0 → n ≡ get_or ws (2 * i + 1) 0 → c ≡ call_of kind n
+pub calls_of_turn : (ws : List ℕ) (i kind n gates r : ℕ) (c : Call) (words last : List ℕ) → i < length ws / 2 → kind ≡ get_or ws (2 * i) 0 → n ≡ get_or ws (2 * i + 1) 0 → c ≡ call_of kind n
     → Yields r last (called c (holding gates words)).gates (called c (holding gates words)).words
     → called_all (calls_of (drop (2 * i) ws)) (holding gates words) ≡ called_all (calls_of (drop (2 * (i + 1)) ws)) (holding r last)
-words_turn ws i kind n gates r c words last h e f d =
+calls_of_turn ws i kind n gates r c words last h e f d =
     call_made (calls_of (drop (2 * i) ws)) (calls_of (drop (2 * (i + 1)) ws)) gates r c words last
     (calls_next ws i kind n h e f ∙ ap (λ (x : Call). x ∷ calls_of (drop (2 * (i + 1)) ws)) (sym d))
 
 -- a word that is left alone is no call
-pub words_end : (ws : List ℕ) (i : ℕ) (h : Held) → length ws / 2 ≤ i → called_all (calls_of (drop (2 * i) ws)) h ≡ h
+pub calls_of_end : (ws : List ℕ) (i : ℕ) (h : Held) → length ws / 2 ≤ i → called_all (calls_of (drop (2 * i) ws)) h ≡ h
 unfolding calls_of called_all
-words_end ws i h e = short (drop (2 * i) ws) h (omega (arith, length-drop (2 * i) ws))
+calls_of_end ws i h e = short (drop (2 * i) ws) h (omega (arith, length-drop (2 * i) ws))
   where
     short : (l : List ℕ) (h : Held) → length l < 2 → called_all (calls_of l) h ≡ h
     short [] h e = refl

@@ -1,30 +1,22 @@
 -- `circuit::file::put::put_high_controls` meets its contract.
-use Rattle.std.proofs.Common.{◌+◌, ◌<◌, ◌≤◌, Bool, ◌∷◌, length, ap, ◌∙◌, ⊎_elim, mod-eq_of_lt, eq-zero-or-pos, arith}
+use Rattle.std.proofs.Common.{◌+◌, ◌<◌, ◌≤◌, Bool, ◌∷◌, length, ap, ◌∙◌, mod-eq_of_lt, arith}
 use Rattle.bits.specs.Digits.{bit}
 use Rattle.circuit.specs.Gate.{max_lines}
 use Rattle.circuit.specs.Text.{tab, control_text}
 use Rattle.circuit.proofs.lemmas.file.put.Cut.{text_above}
 use Rattle.circuit.proofs.lemmas.file.put.Laws.{putting_start, putting_room, putting_on, putting_done, line_below, rest_length}
 use Rattle.circuit.proofs.file.put.put_high_controls.Goals as goal
-use Rattle.circuit.proofs.file.put.put_high_controls.Goals.{After-lowest-k, In-loop-left}
-
--- a line is left
-some : (c : In-loop-left) → 0 < c.loop-left.left
-some c = ⊎_elim (λ z. absurd (c.loop-left-test.true z)) (λ p. p) (eq-zero-or-pos c.loop-left.left)
+use Rattle.circuit.proofs.file.put.put_high_controls.Goals.{After-lowest-k}
 
 pub loop-left-init : goal.loop-left-init
 loop-left-init c = putting_start _ _ _ c.ranges.lines.fits c.requires
 
 -- its digit is below 64, and its control has room
 below : (c : After-lowest-k) → c.lowest-k.result < max_lines
-below c =
-    let some : 0 < c.loop-left.left = ⊎_elim (λ z. absurd (c.loop-left-test.true z)) (λ p. p) (eq-zero-or-pos c.loop-left.left) in
-    line_below _ _ _ _ _ _ c.loop-left.invariant some c.lowest-k.result c.lowest-k.ensures
+below c = line_below _ _ _ _ _ _ c.loop-left.invariant c.loop-left-test.true c.lowest-k.result c.lowest-k.ensures
 
 room : (c : After-lowest-k) → c.loop-left.at + 4 ≤ length c.loop-left.out
-room c =
-    let some : 0 < c.loop-left.left = ⊎_elim (λ z. absurd (c.loop-left-test.true z)) (λ p. p) (eq-zero-or-pos c.loop-left.left) in
-    omega (arith, putting_room _ _ _ _ _ _ c.loop-left.invariant some c.lowest-k.result c.lowest-k.ensures, ap length (text_above c.lowest-k.result))
+room c = omega (arith, putting_room _ _ _ _ _ _ c.loop-left.invariant c.loop-left-test.true c.lowest-k.result c.lowest-k.ensures, ap length (text_above c.lowest-k.result))
 
 pub put_high_control-at-requires : goal.put_high_control-at-requires
 put_high_control-at-requires c =
@@ -33,7 +25,7 @@ put_high_control-at-requires c =
 
 pub loop-left-preserved : goal.loop-left-preserved
 loop-left-preserved c =
-    putting_on _ _ _ _ _ _ c.loop-left.invariant (some (goal.at.loop-left-preserved c).In-loop-left) c.lowest-k.result c.lowest-k.ensures _ _ _
+    putting_on _ _ _ _ _ _ c.loop-left.invariant c.loop-left-test.true c.lowest-k.result c.lowest-k.ensures _ _ _
     (ap (λ (b : Bool). tab ∷ control_text (record { line = 10 + c.lowest-k.result; positive = b })) (c.has.ensures ∙ ap (bit _) (mod-eq_of_lt (below (goal.at.loop-left-preserved c).After-lowest-k)))) c.put_high_control-at.ensures c.put_high_control-at.auto.out
 
 pub returns : goal.returns

@@ -1,5 +1,5 @@
 -- `circuit::file::put::put_high_controls` meets its contract. The loop's invariant: the controls on the lines that are not left stand at the buffer's start. Assumes nothing.
-use Rattle.circuit.proofs.lemmas.file.put.Cut.{high_piece}
+use Rattle.circuit.specs.private.Put.{high_piece}
 use Rattle.circuit.proofs.lemmas.file.put.Laws.{Putting}
 use Rattle.circuit.proofs.file.put.put_high_controls.Given as goal
 

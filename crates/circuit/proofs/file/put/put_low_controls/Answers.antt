@@ -1,31 +1,22 @@
 -- `circuit::file::put::put_low_controls` meets its contract.
-use Rattle.std.proofs.Common.{◌+◌, ◌-◌, ◌<◌, ◌≤◌, Bool, ◌∷◌, length, ap, ◌∙◌, ⊎_elim, mod-eq_of_lt, eq-zero-or-pos, arith}
+use Rattle.std.proofs.Common.{◌+◌, ◌-◌, ◌<◌, ◌≤◌, Bool, ◌∷◌, length, ap, ◌∙◌, mod-eq_of_lt, arith}
 use lib.Bits.{and_le_l}
 use Rattle.bits.specs.Digits.{bit}
-use Rattle.bits.proofs.Lowest.{lowest_below}
 use Rattle.circuit.specs.Text.{tab, control_text}
 use Rattle.circuit.proofs.lemmas.file.Numbers.{text_short}
-use Rattle.circuit.proofs.lemmas.file.put.Laws.{putting_start, putting_room, putting_on, putting_done, rest_length}
+use Rattle.circuit.proofs.lemmas.file.put.Laws.{putting_start, putting_room, putting_on, putting_done, line_below_n, rest_length}
 use Rattle.circuit.proofs.file.put.put_low_controls.Goals as goal
-use Rattle.circuit.proofs.file.put.put_low_controls.Goals.{After-lowest-k, In-loop-left}
-
--- a line is left
-some : (c : In-loop-left) → 0 < c.loop-left.left
-some c = ⊎_elim (λ z. absurd (c.loop-left-test.true z)) (λ p. p) (eq-zero-or-pos c.loop-left.left)
+use Rattle.circuit.proofs.file.put.put_low_controls.Goals.{After-lowest-k}
 
 pub loop-left-init : goal.loop-left-init
 loop-left-init c = (putting_start _ _ _ c.ranges.lines.fits c.requires.1, c.requires.0)
 
 -- it is below 10, and its control has room
 below : (c : After-lowest-k) → c.lowest-k.result < 10
-below c =
-    let some : 0 < c.loop-left.left = ⊎_elim (λ z. absurd (c.loop-left-test.true z)) (λ p. p) (eq-zero-or-pos c.loop-left.left) in
-    omega (arith, c.lowest-k.ensures, lowest_below 64 10 c.loop-left.left (omega arith) some c.loop-left.invariant.1)
+below c = line_below_n _ _ _ _ _ _ c.loop-left.invariant.0 c.loop-left-test.true c.lowest-k.result c.lowest-k.ensures 10 (omega arith) c.loop-left.invariant.1
 
 room : (c : After-lowest-k) → c.loop-left.at + 3 ≤ length c.loop-left.out
-room c =
-    let some : 0 < c.loop-left.left = ⊎_elim (λ z. absurd (c.loop-left-test.true z)) (λ p. p) (eq-zero-or-pos c.loop-left.left) in
-    omega (arith, putting_room _ _ _ _ _ _ c.loop-left.invariant.0 some c.lowest-k.result c.lowest-k.ensures, ap length (text_short c.lowest-k.result (below c)))
+room c = omega (arith, putting_room _ _ _ _ _ _ c.loop-left.invariant.0 c.loop-left-test.true c.lowest-k.result c.lowest-k.ensures, ap length (text_short c.lowest-k.result (below c)))
 
 pub put_low_control-at-requires : goal.put_low_control-at-requires
 put_low_control-at-requires c =
@@ -35,7 +26,7 @@ put_low_control-at-requires c =
 pub loop-left-preserved : goal.loop-left-preserved
 loop-left-preserved c =
     let k : c.lowest-k.result < 10 = below (goal.at.loop-left-preserved c).After-lowest-k in (
-      putting_on _ _ _ _ _ _ c.loop-left.invariant.0 (some (goal.at.loop-left-preserved c).In-loop-left) c.lowest-k.result c.lowest-k.ensures _ _ _
+      putting_on _ _ _ _ _ _ c.loop-left.invariant.0 c.loop-left-test.true c.lowest-k.result c.lowest-k.ensures _ _ _
           (ap (λ (b : Bool). tab ∷ control_text (record { line = c.lowest-k.result; positive = b })) (c.has.ensures ∙ ap (bit _) (mod-eq_of_lt (omega (arith, k))))) c.put_low_control-at.ensures c.put_low_control-at.auto.out,
       omega (arith, and_le_l c.loop-left.left (c.loop-left.left - 1), c.loop-left.invariant.1),
     )

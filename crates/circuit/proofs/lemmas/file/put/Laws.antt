@@ -1,8 +1,9 @@
 -- The laws of the writer: bytes put at the start of a buffer and after those, the lines of a mask, and the controls that it writes. Assumes nothing.
-use Rattle.std.proofs.Common.{◌≡◌, ℕ, zero, suc, ◌+◌, ◌-◌, ◌*◌, ◌/◌, ◌^◌, ◌<◌, ◌≤◌, Bool, true, false, cond, leb, List, [], ◌∷◌, ◌++◌, map, length, take, drop, set, sym, refl, ap, ◌∙◌, subst, ap₂, append-nil, div-lt_iff_lt-mul, arith, drop-drop, length-append, length-drop, length-take, take_all, pow_pos, le-leb}
+use Rattle.std.proofs.Common.{◌≡◌, ℕ, zero, suc, ◌+◌, ◌-◌, ◌*◌, ◌/◌, ◌^◌, ◌<◌, ◌≤◌, Bool, true, false, cond, leb, List, [], ◌∷◌, ◌++◌, map, length, take, drop, set, sym, refl, ap, ◌∙◌, subst, ap₂, append_assoc, append-nil, div-lt_iff_lt-mul, ⊎_elim, eq-zero-or-pos, arith, drop-drop, length-append, length-drop, length-take, take_all, pow_pos, le-leb}
 use Rattle.std.specs.List.{flat_map}
 use Rattle.std.proofs.Math.Nat.{mul-suc, mul-zero}
 use Rattle.std.proofs.lemmas.List.Concat.{flat_map-append}
+use mathlib.Core.List.{map-append}
 use lib.Bits.{bit_and, bit_or, or_lt, and_le_l}
 use lib.Count.{ones, count_trailing_zeros}
 use lib.Seq.{sets-eq, take-append_seam, drop-append-add}
@@ -17,7 +18,7 @@ use Rattle.circuit.specs.declared.gate.Gate.{Gate}
 use Rattle.circuit.specs.Gate.{max_lines, Control, control_at, controls_below, controls_of}
 use Rattle.circuit.proofs.lemmas.gate.Controls.{control_on, controls_lines}
 use Rattle.circuit.specs.Text.{tab, line_feed, number_text, control_text, controls_text, gate_text, gate_line, count_line}
-use Rattle.circuit.specs.private.Put.{mask_gate}
+use Rattle.circuit.specs.private.Put.{mask_gate, control_piece}
 use Rattle.circuit.specs.private.Scan.{width}
 use Rattle.circuit.proofs.lemmas.file.scan.Rest.{number_width}
 
@@ -82,10 +83,6 @@ rest_length out at h = omega (arith, length-take (length out - at) (drop at out)
 
 -- ---- the controls on the lines of a mask
 
--- the control on a line, by the mask of the positive ones
-abbrev pub control_piece : ℕ → ℕ → List ℕ
-control_piece positive k = tab ∷ control_text (control_on positive k)
-
 lines_text : (p : ℕ) (ls : List ℕ) → controls_text (map (control_on p) ls) ≡ flat_map (control_piece p) ls
 unfolding controls_text
 lines_text p [] = refl
@@ -138,21 +135,35 @@ wide_low x (suc m) h = omega (arith, wide_append (lines_in x m) (cond (bit x m) 
     none true = unfold wide in ap (λ (t : Bool). cond t 1 0 + 0) (lt-leb 10 m (omega arith))
     none false = unfold wide in refl
 
-wide_high : (x n : ℕ) → wide (lines_in x (10 + n)) ≡ length (lines_in (x / 2 ^ 10) n)
+-- the lines of a mask are those below 10, and 10 more than those of the mask shifted by 10
+pub lines_from_10 : (x n : ℕ) → lines_in x (10 + n) ≡ lines_in x 10 ++ map (λ (k : ℕ). 10 + k) (lines_in (x / 2 ^ 10) n)
 unfolding lines_in
-wide_high x zero = wide_low x 10 (omega arith)
-wide_high x (suc n) =
+lines_from_10 x zero = sym (append-nil (lines_in x 10))
+lines_from_10 x (suc n) =
     let e : 10 + suc n ≡ suc (10 + n) = omega arith in
-    let b : Bool = bit x (10 + n) in
+    let up : ℕ → ℕ = λ (k : ℕ). 10 + k in
     let c : Bool = bit (x / 2 ^ 10) n in
-    ap (λ (m : ℕ). wide (lines_in x m)) e
-    ∙ wide_append (lines_in x (10 + n)) (cond b ((10 + n) ∷ []) [])
-    ∙ ap₂ ◌+◌ (wide_high x n) (one b ∙ ap (λ (t : Bool). length (cond t (n ∷ []) [])) (sym (bit_shifted 10 x n)))
-    ∙ sym (length-append (lines_in (x / 2 ^ 10) n) (cond c (n ∷ []) []))
+    ap (lines_in x) e
+    ∙ ap₂ (λ (l m : List ℕ). l ++ m) (lines_from_10 x n) (one (bit x (10 + n)) ∙ ap (λ (t : Bool). map up (cond t (n ∷ []) [])) (sym (bit_shifted 10 x n)))
+    ∙ append_assoc (lines_in x 10) (map up (lines_in (x / 2 ^ 10) n)) (map up (cond c (n ∷ []) []))
+    ∙ ap (λ (l : List ℕ). lines_in x 10 ++ l) (sym (map-append up (lines_in (x / 2 ^ 10) n) (cond c (n ∷ []) [])))
   where
-    one : (b : Bool) → wide (cond b ((10 + n) ∷ []) []) ≡ length (cond b (n ∷ []) [])
-    one true = unfold wide in ap (λ (t : Bool). cond t 1 0 + 0) (le-leb 10 (10 + n) (omega arith))
-    one false = unfold wide in refl
+    one : (b : Bool) → cond b ((10 + n) ∷ []) [] ≡ map (λ (k : ℕ). 10 + k) (cond b (n ∷ []) [])
+    one true = refl
+    one false = refl
+
+wide_shifted : (ls : List ℕ) → wide (map (λ (k : ℕ). 10 + k) ls) ≡ length ls
+unfolding wide
+wide_shifted [] = refl
+wide_shifted (k ∷ ls) =
+    let one : ℕ = 1 in
+    let e : cond (leb 10 (10 + k)) one 0 ≡ one = ap (λ (t : Bool). cond t one 0) (le-leb 10 (10 + k) (omega arith)) in
+    omega (arith, e, wide_shifted ls)
+
+wide_high : (x n : ℕ) → wide (lines_in x (10 + n)) ≡ length (lines_in (x / 2 ^ 10) n)
+wide_high x n =
+    let high : List ℕ = map (λ (k : ℕ). 10 + k) (lines_in (x / 2 ^ 10) n) in
+    omega (arith, ap wide (lines_from_10 x n), wide_append (lines_in x 10) high, wide_low x 10 (omega arith), wide_shifted (lines_in (x / 2 ^ 10) n))
 
 -- the same by the mask
 pub mask_long : (each : ℕ) (f : ℕ → List ℕ) → ((k : ℕ) → length (f k) + 1 ≡ each + width k) → (x : ℕ) → x < 2 ^ 64
@@ -193,9 +204,16 @@ module _ (f : ℕ → List ℕ) (mask : ℕ) (first out : List ℕ) (at left : �
   putting_done e =
       put_as at out _ _ first (sym (ap (flat_map f) (lines_done max_lines max_lines mask left t.passed t.all e))) (written_put first out at _ t.written)
 
-  module _ (some : 0 < left) (k : ℕ) (is : k ≡ count_trailing_zeros max_lines left) where
+  module _ (left_some : left ≡ 0 → ⊥) (k : ℕ) (is : k ≡ count_trailing_zeros max_lines left) where
+    some : 0 < left
+    some = ⊎_elim (λ z. absurd (left_some z)) (λ p. p) (eq-zero-or-pos left)
+
+    -- where the lines that are left are below n, this one is
+    pub line_below_n : (n : ℕ) → n ≤ max_lines → left < 2 ^ n → k < n
+    line_below_n n l h = omega (arith, is, lowest_below max_lines n left l some h)
+
     pub line_below : k < max_lines
-    line_below = omega (arith, is, lowest_below max_lines max_lines left (omega arith) some t.below)
+    line_below = line_below_n max_lines (omega arith) t.below
 
     more : lines_in mask max_lines ≡ (t.passed ++ (k ∷ [])) ++ lines_in (bit_and left (left - 1)) max_lines
     more = lines_on max_lines max_lines mask left t.passed t.all (omega arith) some t.below k is
